@@ -32,11 +32,11 @@ use Rattle.log_cases.specs.Cases.{IsWorked}
 use Rattle.small_server.proofs.Told.{begins_at, begins_with, begun_so, settled_so, told}
 use Rattle.small_server.specs.Stories.{anybody, came, due_at, insert, link, nowhere, reads, session, setup, shared}
 use Rattle.log_cases.specs.Aside.{asker, asks, begin, beside_log, beside_plan, beside_story, copy_log, copy_plan, copy_story, given_up, goes_on, is_answered}
-use Rattle.log_cases.specs.Aside.{is_given_up, is_woken, job_session, own_plan, ended_log, ended_plan, ended_story}
+use Rattle.log_cases.specs.Aside.{is_given_up, is_woken, job_session, late_story, own_plan, ended_log, ended_plan, ended_story, farewell_log, farewell_story, sent_behind, sent_late}
 use Rattle.log_cases.specs.Executed.{done, due_with, execute_log, execute_plan, execute_story, first_run, first_story, prepared_story, preparer, runs_with}
 use Rattle.log_cases.specs.Executed.{second_run, text}
 use Rattle.mx_wire.specs.Log.{Log}
-use Rattle.private_model.specs.Story.{Story, put}
+use Rattle.private_model.specs.Story.{Broke, Story, put}
 use Rattle.log_story.specs.Plan.{Plan}
 use Rattle.log_story.specs.Honest.{IsHonestLog}
 use Rattle.log_story.specs.Owed.{due_bytes}
@@ -73,6 +73,9 @@ pub record AreComputed : Type 0 where
   pub copies : IsComputed copy_plan copy_log copy_story
   pub ended : IsComputed ended_plan ended_log ended_story
   pub executes : IsComputed execute_plan execute_log execute_story
+  pub farewell : IsComputed plan farewell_log farewell_story
+  pub sent_behind : story_of setup plan sent_behind ≡ Broke ∷ farewell_story
+  pub sent_late : story_of setup own_plan sent_late ≡ late_story
   -- what the router answers itself, moment by moment
   pub waits : story_of setup own_plan asks ≡ []
   pub waits_on : story_of setup own_plan is_answered ≡ []
@@ -96,6 +99,9 @@ computed = record {
   copies = record { told = refl; tested = refl };
   ended = record { told = refl; tested = refl };
   executes = record { told = refl; tested = refl };
+  farewell = record { told = refl; tested = refl };
+  sent_behind = refl;
+  sent_late = refl;
   waits = refl;
   waits_on = refl;
   becomes_due = refl;
@@ -158,7 +164,7 @@ ended_lawful = (
     (
       (
         ((((((tt, tt), refl), begun_so _ (link 3) (session 1) (due_at nowhere 1 true begin) refl refl refl refl refl refl refl begins_begin), tt), tt), tt),
-        record { usable = refl; quiet = refl; fits = record { carries = refl; left = left_is_other _ _ refl refl; needed = refl } },
+        record { usable = refl; quiet = refl; fits = record { carries = refl; left = left_is_other _ _ refl refl; needed = refl; resets = refl } },
       ),
       tt,
     ),
@@ -220,3 +226,8 @@ execute_lawful = (
   ),
   settled_so _ (link 3) (session 1) 0 refl refl refl refl refl,
 )
+
+-- What servers say behind a drop.
+
+pub farewell_lawful : IsLawful setup farewell_story
+farewell_lawful = (((tt, tt), refl), tt)

@@ -1,9 +1,9 @@
 -- Whether a log is honest, by a test that can be computed.
-use Rattle.std.specs.Prelude.{◌≡◌, ◌<◌, ℕ, zero, suc, Bool, true, false, not, ◌&&◌, ◌||◌, nat_eq, nat_lt, bytes_eq, ◌/◌, drop, length, take, List, []}
+use Rattle.std.specs.Prelude.{◌≡◌, ◌⊎◌, ◌<◌, ℕ, zero, suc, Bool, true, false, not, ◌&&◌, ◌||◌, nat_eq, nat_lt, bytes_eq, ◌/◌, drop, length, take, List, []}
 use Rattle.std.specs.Prelude.{◌∷◌, ◌++◌, Option, Some, None}
 use Rattle.std.specs.List.{list_all}
-use Rattle.std.proofs.Common.{refl, sym, ap, append-nil, arith, inr, lit<, subst, ◌∙◌}
-use Rattle.std.proofs.lemmas.Bool.{and_from, and_parts, ltb-true}
+use Rattle.std.proofs.Common.{refl, sym, ap, append-nil, arith, inl, inr, lit<, subst, ◌∙◌}
+use Rattle.std.proofs.lemmas.Bool.{and_from, and_parts, ltb-true, not-true, or_cases}
 use Rattle.mx_base.specs.Fields.{AreBytes}
 use Rattle.std.proofs.lemmas.List.{take-append-drop}
 use Rattle.std.proofs.lemmas.List.Sums.{AllPass-from_list_all}
@@ -35,7 +35,7 @@ use Rattle.log_story.specs.Plan.{Asks, Closes, Plan, Resets, StepText, com_execu
 use Rattle.log_story.specs.Tale.{Tale, Wire, is_reset_step, is_to_server, link_in}
 use Rattle.log_story.specs.Servers.{kind_by, may_begin, reply_id, with_run, written_in}
 use Rattle.log_story.specs.Telling.{tale_step, wire_with}
-use Rattle.log_story.specs.Honest.{IsExecute, IsFront, IsHonestFrom, IsStep, IsTrue, IsTrueExec, IsTrueGot, IsTrueLogin, IsTrueRead, IsTrueReply, IsTrueReset}
+use Rattle.log_story.specs.Honest.{IsExecute, IsFarewell, IsFront, IsHonestFrom, IsStep, IsTrue, IsTrueExec, IsTrueGot, IsTrueLogin, IsTrueRead, IsTrueReply, IsTrueReset}
 use Rattle.log_story.specs.Honest.{IsTrueRun, IsWritten, number_for, real_of, spelled}
 
 isnt : {A : Type 0} → false ≡ true → A
@@ -268,6 +268,29 @@ read_so setup server link wire tale so =
     both.1 in
     record { ran = λ question asked. run_so setup server tale link both.0; question = read.0; answered = read.1; reply = read.2 }
 
+abbrev is_quiet_stage : Stage → Bool
+is_quiet_stage Quiet = true
+is_quiet_stage _ = false
+
+abbrev farewell_tested : Setup → Step → Tale → LinkId → Bool
+farewell_tested setup server tale link = not ((real_of setup server tale).peers link).alive && is_quiet_stage (link_in setup tale link).stage
+
+farewell_so : (setup : Setup) (server : Step) (tale : Tale) (link : LinkId) → farewell_tested setup server tale link ≡ true → IsFarewell setup server tale link
+farewell_so setup server tale link so =
+    let both = and_parts _ _ so in record { dropped = not-true _ both.0; quiet = quiet_so (link_in setup tale link).stage both.1 }
+  where
+    quiet_so : (stage : Stage) → is_quiet_stage stage ≡ true → stage ≡ Quiet
+    quiet_so Quiet so = refl
+    quiet_so (Asked question) so = isnt so
+    quiet_so (Answered question) so = isnt so
+
+said_or_read : (setup : Setup) (server : Step) (tale : Tale) (link : LinkId) (test : Bool) (Other : Type 0) → (test ≡ true → Other)
+    → (farewell_tested setup server tale link || test) ≡ true → IsFarewell setup server tale link ⊎ Other
+said_or_read setup server tale link test Other read so = elim (or_cases _ _ so) [
+  | inl farewell ↦ inl (farewell_so setup server tale link farewell)
+  | inr other ↦ inr (read other)
+]
+
 abbrev login_tested : (written : List ℕ) → Opening → Bool
 login_tested written (LogsIn said rest) = bytes_eq written said && not (is_some_of rest)
 login_tested written _ = true
@@ -355,8 +378,8 @@ unless_so false test so p = isnt p
 abbrev got_tested : Setup → Plan → Step → Tale → LinkId → Wire → Bool
 got_tested setup plan server tale link wire =
     unless (not (tale.wires link).entered) (login_tested wire.written (opening (plan.logins link) wire.unread))
-    && (unless ((tale.wires link).entered && not (is_reset_step wire.step)) (read_tested setup server link wire tale)
-    && unless ((tale.wires link).entered && is_reset_step wire.step) (reset_tested wire))
+    && (unless ((tale.wires link).entered && not (is_reset_step wire.step)) (farewell_tested setup server tale link || read_tested setup server link wire tale)
+    && unless ((tale.wires link).entered && is_reset_step wire.step) (farewell_tested setup server tale link || reset_tested wire))
 
 got_so : (setup : Setup) (plan : Plan) (server : Step) (tale : Tale) (link : LinkId) (wire : Wire) → got_tested setup plan server tale link wire ≡ true
     → IsTrueGot setup plan server tale link wire
@@ -365,8 +388,9 @@ got_so setup plan server tale link wire so =
     let more = and_parts _ _ both.1 in
     record {
       login = λ is. login_so plan link wire (unless_so _ _ both.0 (ap not is));
-      read = λ is reads. inr (read_so setup server link wire tale (unless_so _ _ more.0 (and_from _ _ is (ap not reads))));
-      reset = λ is resets. inr (reset_so wire (unless_so _ _ more.1 (and_from _ _ is resets)));
+      read = λ is reads. said_or_read setup server tale link (read_tested setup server link wire tale) _ (read_so setup server link wire tale)
+          (unless_so _ _ more.0 (and_from _ _ is (ap not reads)));
+      reset = λ is resets. said_or_read setup server tale link (reset_tested wire) _ (reset_so wire) (unless_so _ _ more.1 (and_from _ _ is resets));
     }
 
 abbrev exec_tested : Setup → Step → Tale → LinkId → Bool

@@ -1,16 +1,16 @@
--- Four more worked logs: what the router answers itself, and that a client's messages wait; what stands on a link beside
--- questions; a copy of a statement; and a client that the router ends.
+-- More worked logs: what the router answers itself, and that a client's messages wait; what stands on a link beside questions; a
+-- copy of a statement; a client that the router ends; what a server says as it drops a link; and what is sent where it may not be.
 use Rattle.std.specs.Prelude.{ℕ, false, true, nat_eq, List, [], ◌∷◌, ◌++◌, codes, Some, None, if◌then◌else◌}
 use Rattle.mx_base.specs.declared.names.Port.TheVariants.{Traffic}
 use Rattle.mx_base.specs.declared.tag.Tag.TheVariants.{For, Mirror, End as EndTag, Own as OwnTag, Reply as ReplyTag}
 use Rattle.mx_wire.specs.Log.{Log}
-use Rattle.mx_wire.specs.declared.entry.Entry.TheVariants.{Accepted, Got, OpenFailed, Woke, Wrote}
+use Rattle.mx_wire.specs.declared.entry.Entry.TheVariants.{Accepted, Drop, Got, OpenFailed, Woke, Wrote}
 use Rattle.packet_frame.specs.Packets.{spelling, spellings}
 use Rattle.client_side.specs.Login.{greeting_said}
 use Rattle.client_session.specs.Errors.{connection_refused, own_ok}
 use Rattle.private_model.specs.Names.{ClientNo, Hostgroup, MessageName, SessionName}
 use Rattle.private_model.specs.Commands.{Command, Query, Quit, Reset}
-use Rattle.private_model.specs.Story.{BecameDue, End, Freed, Left, Mirrored, Ran, Sent, Statement, Story, Unprepared}
+use Rattle.private_model.specs.Story.{BecameDue, Broke, Dropped, End, Freed, Left, Mirrored, Ran, Sent, Statement, Story, Unprepared}
 use Rattle.small_server.specs.Stories.{came, client, due_at, group, heard, insert, link, login, message, nowhere, session}
 use Rattle.small_server.specs.Tally.{FirstId, NoId, ok}
 use Rattle.log_story.specs.Plan.{Closes, OwnAnswer, Plan, Resets, job_of, step_payload, text_payload}
@@ -124,3 +124,25 @@ abbrev pub ended_story : Story
 ended_story =
     Freed (link 3) ∷ heard 3 (ok false NoId false) ∷ Ran (link 3) ∷ Sent (link 3) (End (session 1)) ∷ Left (client 1) ∷ heard 3 (ok false NoId true)
     ∷ Ran (link 3) ∷ Sent (link 3) (Statement (session 1) (due_at nowhere 1 true begin)) ∷ login 3 ∷ came 1 1 begin ∷ []
+
+-- A server drops a link on which nothing stands, and says why: 4031. What is sent there then is a breach.
+
+abbrev pub idle_too_long : List ℕ
+idle_too_long = spelling 0 (0xFF ∷ 0xBF ∷ 0x0F ∷ codes "#HY000")
+
+abbrev pub farewell_log : Log
+farewell_log = first_comes ++ (router_enters ++ Drop (link 3) ∷ Got (link 3) idle_too_long ∷ [])
+
+abbrev pub farewell_story : Story
+farewell_story = Dropped (link 3) ∷ login 3 ∷ came 1 1 insert ∷ []
+
+abbrev pub sent_behind : Log
+sent_behind = farewell_log ++ Wrote (link 3) (For (client 1) 1) query ∷ []
+
+-- A statement that was given up is sent all the same.
+
+abbrev pub sent_late : Log
+sent_late = is_given_up ++ (router_enters ++ Wrote (link 3) (For (client 1) 2) query ∷ [])
+
+abbrev pub late_story : Story
+late_story = Broke ∷ login 3 ∷ came 1 2 insert ∷ []

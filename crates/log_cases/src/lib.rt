@@ -9,6 +9,9 @@ ghost use Rattle.private_model.specs.Commands.{runs};
 ghost use Rattle.private_model.specs.Worlds.{private_after};
 ghost use Rattle.small_server.specs.Tally.{prepared};
 ghost use Rattle.small_server.specs.Stories.{came, insert, setup, shared};
+ghost use Rattle.private_model.specs.Lawful.{IsLawful};
+ghost use Rattle.private_model.specs.Story.{Broke, Story};
+ghost use Rattle.log_cases.specs.Aside.{farewell_log, farewell_story, late_story, sent_behind, sent_late};
 ghost use Rattle.log_cases.specs.Aside.{asker, asks, given_up, goes_on, is_answered, is_given_up, is_woken, own_plan};
 ghost use Rattle.log_cases.specs.Aside.{beside_log, beside_plan, beside_story, copy_log, copy_plan, copy_story, ended_log, ended_plan, ended_story};
 ghost use Rattle.log_cases.specs.Cases.{IsWorked};
@@ -72,6 +75,17 @@ pub fn executes()
     ensures worked { IsWorked execute_plan execute_log execute_story }
     ensures owed { due_bytes (private_after setup (runs server) execute_story).answers execute_plan (length execute_log) preparer
         ≡ logged_in 1 ++ (spellings 1 (prepared 1) ++ (done ++ done)) }
+{
+    honest_bytes();
+}
+
+/// A server says why it drops a link, which is honest. What is sent there then is a breach, and so is a statement that was given
+/// up; no story with a breach is lawful.
+pub fn breaches()
+    ensures farewell { IsWorked plan farewell_log farewell_story }
+    ensures behind { story_of setup plan sent_behind ≡ Broke ∷ farewell_story }
+    ensures late { story_of setup own_plan sent_late ≡ late_story }
+    ensures unlawful { (story : Story) → IsLawful setup (Broke ∷ story) → ⊥ }
 {
     honest_bytes();
 }

@@ -4,7 +4,7 @@ use Rattle.std.specs.Option.{option_map_or}
 use Rattle.std.proofs.Common.{◌∙◌, refl, ap, arith}
 use Rattle.session_state.specs.declared.place.Place.{Place}
 use Rattle.private_model.proofs.Maps.{at_each, names, put-other, put-same}
-use Rattle.private_model.specs.Commands.{Account, Command, Reply}
+use Rattle.private_model.specs.Commands.{Account, Command, Reply, class_of}
 use Rattle.private_model.specs.Names.{ClientNo, Hostgroup, LinkId, MessageName, ServerId, SessionName}
 use Rattle.private_model.specs.Story.{BecameDue, Capture, Dropped, Due, End, Freed, Gone, Heard, Left, LoggedIn, Mirrored, Own, Prep, Question, Ran, Sent}
 use Rattle.private_model.specs.Story.{Statement, Sync, Unprepared}
@@ -194,7 +194,7 @@ module _ (setup : Setup) (view : View) where
   }
 
   -- a question that a home is made for
-  homes-rests : (link : LinkId) (x : Link) (n : SessionName) (dues : SessionName → Option Due) (carriers : MessageName → Option LinkId)
+  homes-rests : (link : LinkId) (x : Link) (n : SessionName) (dues : SessionName → Option Due) (carriers : MessageName → Option LinkId) (lasting : SessionName → Bool)
       → ((m : SessionName) → is_client n.client m.client ≡ false → dues m ≡ view.dues m) → Rests (only_link link) (is_whose (Some n)) view
       (record view {
         links = put is_link_id view.links link x;
@@ -202,8 +202,9 @@ module _ (setup : Setup) (view : View) where
             (record (view.held n) { home = Some link });
         dues = dues;
         carriers = carriers;
+        lasting = lasting;
       })
-  homes-rests link x n dues carriers due = record {
+  homes-rests link x n dues carriers lasting due = record {
     link = put_link view.links link x;
     pin = λ m other. home_pin view.held n (Some link) m;
     id = λ m other. home_id view.held n (Some link) m;
@@ -215,8 +216,9 @@ module _ (setup : Setup) (view : View) where
   pub sent-rests : (link : LinkId) (question : Question)
       → Rests (only_link link) (is_whose (asker question)) view (view_step setup view (Sent link question))
   sent-rests link (Statement n due) = homes-rests link (asked (Statement n due) (view.links link)) n (put is_name view.dues n None)
-      (put is_message view.carriers (message_of n due) (Some link)) (put_name view.dues n None)
-  sent-rests link (Prep n key text) = homes-rests link (asked (Prep n key text) (view.links link)) n view.dues view.carriers (λ m other. refl)
+      (put is_message view.carriers (message_of n due) (Some link)) (put is_name view.lasting n (view.lasting n || (class_of setup.reads due.command).outlasts_reset))
+      (put_name view.dues n None)
+  sent-rests link (Prep n key text) = homes-rests link (asked (Prep n key text) (view.links link)) n view.dues view.carriers view.lasting (λ m other. refl)
   sent-rests link (Sync n command) =
       whosever (only_link link) (is_whose (Some n)) view (view_step setup view (Sent link (Sync n command)))
       (link-rests link (asked (Sync n command) (view.links link)))

@@ -1,5 +1,5 @@
 -- The data as one list of numbers, and the server as a step of it. Each part of a list stands behind its length.
-use Rattle.std.specs.Prelude.{ℕ, zero, suc, true, not, nat_eq, List, [], ◌∷◌, ◌++◌, drop, length, slice_index_or, take}
+use Rattle.std.specs.Prelude.{ℕ, zero, suc, true, false, not, nat_eq, List, [], ◌∷◌, ◌++◌, drop, length, slice_index_or, take}
 use Rattle.server_rule.specs.Servers.{Step, Tests}
 use Rattle.mem_rule.specs.Commands.{ran}
 use Rattle.mem_rule.specs.Tables.{TableRows, Tables, after_all, no_rows, no_tables}
@@ -49,6 +49,7 @@ unfoldable pub step : Step
 step stored s c =
     let r = ran (tables_in stored) s c in record { stored = stored_after stored r.writes; session = r.session; reply = r.reply }
 
--- any data; and any session whose deep state isn't the characteristics of the next transaction, which the server doesn't know
+-- any data; and any session whose deep state isn't the characteristics of the next transaction, which the server doesn't know; a
+-- reset takes all back
 abbrev pub tests : Tests
-tests = record { is_data = λ stored. true; is_session = λ tx locks deep diag. not (nat_eq (slice_index_or deep 0 0) 1) }
+tests = record { is_data = λ stored. true; is_session = λ tx locks deep diag. not (nat_eq (slice_index_or deep 0 0) 1); lasts = λ deep. false }

@@ -25,7 +25,7 @@ pub fn account_law()
 
 /// Resets and the ends of connections.
 pub fn reset_law()
-    ensures { ResetLaw tests step }
+    ensures { ResetLaw router_reads tests step }
 {}
 
 /// Tracked settings.

@@ -1,6 +1,6 @@
 -- A tame server keeps the laws that the proof uses, of the router's commands.
 use Rattle.std.specs.Prelude.{◌≡◌, ◌⊎◌, ℕ, Bool, true, false, List, [], Some}
-use Rattle.std.proofs.Common.{refl, sym, ap, ◌∙◌, inl, inr}
+use Rattle.std.proofs.Common.{refl, sym, ap, ◌∙◌, subst, inl, inr}
 use Rattle.session_vars.specs.declared.change.Change.{Change}
 use Rattle.session_state.specs.Classes.{Effect, Tracked, Uses, Neither, effect_of, frees_locks, is_lone_savepoint, schema_by, sets_autocommit, sets_next, settings_by, takes_locks}
 use Rattle.session_state.specs.Endings as ending
@@ -12,7 +12,7 @@ use Rattle.server_rule.specs.Servers as server
 use Rattle.server_rule.specs.declared.command.Cmd.TheVariants as cmd
 use Rattle.server_rule.specs.declared.session.Session.{Session}
 use Rattle.server_rule.proofs.Ends.{Shows, nothing_shows, shown_end}
-use Rattle.private_model.specs.Commands.{Command, Query, InitDb, FieldList, SetId, ReadId, Prepare, Run, Reset, Quit, Outcome, class_of, cmd_of, end_of, hides_of, is_err, is_ok, outcome_of, runs}
+use Rattle.private_model.specs.Commands.{Command, Query, InitDb, FieldList, SetId, ReadId, Number, Prepare, Run, Reset, Quit, Outcome, class_of, cmd_of, end_of, hides_of, is_err, is_ok, outcome_of, runs}
 use Rattle.private_model.proofs.Tame.{ResetLaw, Tame, is_flagged, is_text, account_of, brings_id, flags, outcome_with_id}
 use Rattle.private_model.proofs.Sessions.{apart, bool_cases}
 
@@ -35,9 +35,27 @@ module _ (reads : Reads) (tests : Tests) (rule : server.Step) (tame : IsTame rea
       let found_rows = tame.account.found_rows stored s ok (cmd_of c) in
       λ i. record { user = user i; found_rows = found_rows i }
 
-  reset_law : ResetLaw tests step
+  set_kept : (stored : List ℕ) (s : Session) → Accepts tests stored s → (n : Number) (done : Bool) → is_ok (step stored s (SetId n)).reply ≡ done → tests.lasts s.deep ≡ false → tests.lasts (step stored s (SetId n)).session.deep ≡ false
+  set_kept stored s ok n true is lasts = subst (λ (x : Session). tests.lasts x.deep ≡ false) (sym (tame.insert_id.set_done stored s ok n.value n.fits is)) lasts
+  set_kept stored s ok n false is lasts = subst (λ (x : Session). tests.lasts x.deep ≡ false) (sym (tame.insert_id.set_refused stored s ok n.value n.fits is)) lasts
+
+  brings_law : (stored : List ℕ) (s : Session) → Accepts tests stored s → (c : Command) → (class_of reads c).outlasts_reset ≡ false → tests.lasts s.deep ≡ false → tests.lasts (step stored s c).session.deep ≡ false
+  brings_law stored s ok (Query text) plain lasts = tame.reset.brings stored s ok (cmd.Query text) plain lasts
+  brings_law stored s ok (Run text schema settings args) plain lasts = tame.reset.brings stored s ok (cmd_of (Run text schema settings args)) plain lasts
+  brings_law stored s ok (InitDb schema) plain lasts = tame.reset.brings stored s ok (cmd.InitDb schema) refl lasts
+  brings_law stored s ok (FieldList rest) plain lasts = tame.reset.brings stored s ok (cmd.FieldList rest) refl lasts
+  brings_law stored s ok (Prepare text) plain lasts = tame.reset.brings stored s ok (cmd.Prepare text) refl lasts
+  brings_law stored s ok (SetId n) plain lasts = set_kept stored s ok n (is_ok (step stored s (SetId n)).reply) refl lasts
+  brings_law stored s ok ReadId plain lasts = subst (λ (x : Session). tests.lasts x.deep ≡ false) (sym (tame.insert_id.read_session stored s ok)) lasts
+  brings_law stored s ok Reset plain lasts = tame.reset.brings stored s ok cmd.Reset refl lasts
+  brings_law stored s ok Quit plain lasts = tame.reset.brings stored s ok cmd.Close refl lasts
+
+  reset_law : ResetLaw reads tests step
   reset_law = record {
     session = tame.reset.session;
+    deep = tame.reset.deep;
+    nothing_lasts = tame.reset.nothing_lasts;
+    brings = brings_law;
     blind = tame.reset.blind;
     idle = tame.reset.idle;
     quit_stored = tame.reset.close_stored;
@@ -162,7 +180,7 @@ module _ (reads : Reads) (tests : Tests) (rule : server.Step) (tame : IsTame rea
 
   -- after the end of a connection no transaction is open
   closed_tx : (stored : List ℕ) (s : Session) → Accepts tests stored s → (step stored s Quit).session.tx ≡ []
-  closed_tx stored s ok = ap (λ (x : Session). x.tx) (tame.reset.close_session stored s ok ∙ tame.reset.session stored s ok)
+  closed_tx stored s ok = ap (λ (x : Session). x.tx) (tame.reset.close_session stored s ok)
 
   closed_shows : (stored : List ℕ) (s : Session) → Accepts tests stored s → flags (step stored s Quit).reply ≡ Some false
   closed_shows stored s ok = ap (λ x. ending.shows_transaction (reply_end false x)) (tame.reset.close_reply stored s ok) ∙ nothing_shows

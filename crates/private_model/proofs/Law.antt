@@ -4,6 +4,7 @@ use Rattle.std.proofs.Common.{refl, sym, ap, ◌∙◌, subst}
 use Rattle.private_model.specs.Names.{LinkId, ServerId, MessageName, SessionName}
 use Rattle.private_model.proofs.Answering.{are_heard, are_linked, are_ran, are_sent, are_still}
 use Rattle.private_model.proofs.Decoding.{are_decoded, tabled_ran}
+use Rattle.private_model.proofs.Lasting.{AreLasting, dropped_lasting, ends_reset, ran_lasting, relinked, sent_lasting}
 use Rattle.private_model.proofs.Maps.{put-back}
 use Rattle.private_model.proofs.Meeting.{mark_of}
 use Rattle.private_model.proofs.Preparing.{Tabled, tabled_closed, tabled_dropped, tabled_freed, tabled_gone, tabled_heard, tabled_login, tabled_sent}
@@ -16,6 +17,7 @@ use Rattle.private_model.specs.Headline.{MeetsPrivate}
 use Rattle.private_model.specs.Honest.{IsAccepted, IsAnswer, IsHonest, IsTrueOf, IsTrueRun}
 use Rattle.private_model.specs.Lawful.{IsLawful, MayCome, MaySend}
 use Rattle.private_model.specs.Story.{BecameDue, Broke, Capture, Dropped, End, Freed, Gone, Happening, Heard, Left, LoggedIn, Mirrored, Own, Prep, Question, Ran, Sent, Statement, Story, Sync, Unprepared, command_of, for_statement, is_link_id, is_message, message_of, put}
+use Rattle.private_model.specs.View.{heard as heard_there}
 use Rattle.private_model.specs.View.{Answered, Asked, Carried, Joined, Lent, Link, Nobody, Quiet, Setup, Stage, View, is_quit, asked, closed_number, freed, new_link, ran_by, view_heard, view_after, view_step}
 use Rattle.private_model.specs.Worlds.{Peer, Private, Real, alive_in, decoded, new_peer, private_after, private_drop, private_prep, private_run, private_step, real_after, real_drop, real_run, real_step, there_table}
 use Rattle.server_rule.specs.Servers.{Tests}
@@ -24,22 +26,22 @@ use Rattle.std.specs.Option.{option_and_then}
 
 -- The data and the sessions.
 
-stands_next : (setup : Setup) (tests : Tests) (step : Step) → Tame setup.reads tests step → (view : View) (real : Real) (private : Private) (e : Happening) → Stands setup tests view real private → Tabled setup view real private → MayCome setup view e → IsTrueOf step view real e
+stands_next : (setup : Setup) (tests : Tests) (step : Step) → Tame setup.reads tests step → (view : View) (real : Real) (private : Private) (e : Happening) → Stands setup tests view real private → Tabled setup view real private → AreLasting setup.reads tests view.links view.lasting private.sessions → MayCome setup view e → IsTrueOf step view real e
     → Stands setup tests (view_step setup view e) (real_step step view real e) (private_step step view (alive_in real) private e)
-stands_next setup tests step tame view real private (LoggedIn link server account) stands tabled may honest = logged_in_so setup tests step tame view real private stands link server account
-stands_next setup tests step tame view real private (BecameDue client hostgroup ordinal key command multiplex) stands tabled may honest =
+stands_next setup tests step tame view real private (LoggedIn link server account) stands tabled lasting may honest = logged_in_so setup tests step tame view real private stands link server account
+stands_next setup tests step tame view real private (BecameDue client hostgroup ordinal key command multiplex) stands tabled lasting may honest =
     record { accepted = stands.accepted; stored = stands.stored; owners = stands.owners; resting = stands.resting; links = stands.links }
-stands_next setup tests step tame view real private (Sent link question) stands tabled may honest = sent setup tests view real private stands link question may
-stands_next setup tests step tame view real private (Ran link) stands tabled may honest = ran_so setup tests step tame view real private stands link (are_decoded setup tests step tame view real private stands tabled link) honest
-stands_next setup tests step tame view real private (Heard link reply) stands tabled may honest = heard_so setup tests view real private stands link reply honest
-stands_next setup tests step tame view real private (Freed link) stands tabled may honest = freed_so setup tests view real private stands link may
-stands_next setup tests step tame view real private (Unprepared link number) stands tabled may honest = closed_so setup tests step tame view real private stands link number may
-stands_next setup tests step tame view real private (Dropped link) stands tabled may honest = dropped_so setup tests step tame view real private stands link
-stands_next setup tests step tame view real private (Gone link) stands tabled may honest = gone_so setup tests step tame view real private stands link
-stands_next setup tests step tame view real private (Left client) stands tabled may honest =
+stands_next setup tests step tame view real private (Sent link question) stands tabled lasting may honest = sent setup tests view real private stands link question may
+stands_next setup tests step tame view real private (Ran link) stands tabled lasting may honest = ran_so setup tests step tame view real private stands link (are_decoded setup tests step tame view real private stands tabled link) (ends_reset setup tests step tame view real private stands lasting link) honest
+stands_next setup tests step tame view real private (Heard link reply) stands tabled lasting may honest = heard_so setup tests view real private stands link reply honest
+stands_next setup tests step tame view real private (Freed link) stands tabled lasting may honest = freed_so setup tests view real private stands link may
+stands_next setup tests step tame view real private (Unprepared link number) stands tabled lasting may honest = closed_so setup tests step tame view real private stands link number may
+stands_next setup tests step tame view real private (Dropped link) stands tabled lasting may honest = dropped_so setup tests step tame view real private stands link
+stands_next setup tests step tame view real private (Gone link) stands tabled lasting may honest = gone_so setup tests step tame view real private stands link
+stands_next setup tests step tame view real private (Left client) stands tabled lasting may honest =
     record { accepted = stands.accepted; stored = stands.stored; owners = stands.owners; resting = stands.resting; links = stands.links }
-stands_next setup tests step tame view real private Broke stands tabled may honest = absurd may
-stands_next setup tests step tame view real private (Mirrored client job) stands tabled may honest =
+stands_next setup tests step tame view real private Broke stands tabled lasting may honest = absurd may
+stands_next setup tests step tame view real private (Mirrored client job) stands tabled lasting may honest =
     record { accepted = stands.accepted; stored = stands.stored; owners = stands.owners; resting = stands.resting; links = stands.links }
 
 -- What is prepared.
@@ -171,23 +173,45 @@ answers_next setup tests step tame view real private (Dropped link) stands table
 answers_next setup tests step tame view real private (Gone link) stands tabled answer may honest = are_linked view.links real.peers view.carriers view.replies private.answers answer link (record (view.links link) { usable = false }) (λ m e. e) (λ m e. e)
 answers_next setup tests step tame view real private _ stands tabled answer may honest = answer
 
+-- What no reset takes back.
+
+lasting_next : (setup : Setup) (tests : Tests) (step : Step) → Tame setup.reads tests step → (view : View) (real : Real) (private : Private) (e : Happening) → Stands setup tests view real private → Tabled setup view real private → AreLasting setup.reads tests view.links view.lasting private.sessions → MayCome setup view e → IsTrueOf step view real e
+    → AreLasting setup.reads tests (view_step setup view e).links (view_step setup view e).lasting (private_step step view (alive_in real) private e).sessions
+lasting_next setup tests step tame view real private (LoggedIn link server account) stands tabled lasting may honest = relinked setup.reads tests view.links view.lasting private.sessions lasting link (new_link server account) (λ q at. absurd (cc))
+lasting_next setup tests step tame view real private (Sent link question) stands tabled lasting may honest = sent_lasting setup tests step tame view real private stands lasting link question may
+lasting_next setup tests step tame view real private (Ran link) stands tabled lasting may honest = ran_lasting setup tests step tame view real private stands lasting link (are_decoded setup tests step tame view real private stands tabled link) honest
+lasting_next setup tests step tame view real private (Heard link reply) stands tabled lasting may honest = heard_by (view.links link).stage
+  where
+    heard_by : (stage : Stage) → AreLasting setup.reads tests (view_heard setup view link reply stage).links (view_heard setup view link reply stage).lasting private.sessions
+    heard_by (Answered question) = relinked setup.reads tests view.links view.lasting private.sessions lasting link (heard_there setup.reads question reply (view.links link)) (λ q at. absurd (cc))
+    heard_by Quiet = lasting
+    heard_by (Asked question) = lasting
+lasting_next setup tests step tame view real private (Freed link) stands tabled lasting may honest = relinked setup.reads tests view.links view.lasting private.sessions lasting link (freed (view.links link)) (λ q at. at)
+lasting_next setup tests step tame view real private (Unprepared link number) stands tabled lasting may honest = relinked setup.reads tests view.links view.lasting private.sessions lasting link (closed_number number (view.links link)) (λ q at. at)
+lasting_next setup tests step tame view real private (Dropped link) stands tabled lasting may honest = dropped_lasting setup tests step tame view real private stands lasting link (real.peers link).alive (view.links link).carries
+lasting_next setup tests step tame view real private (Gone link) stands tabled lasting may honest = relinked setup.reads tests view.links view.lasting private.sessions lasting link (record (view.links link) { usable = false }) (λ q at. at)
+lasting_next setup tests step tame view real private _ stands tabled lasting may honest = lasting
+
 -- Both, at every moment.
 
 record Always (setup : Setup) (tests : Tests) (step : Step) (story : Story) : Type 0 where
   stands : Stands setup tests (view_after setup story) (real_after setup step story) (private_after setup step story)
   tabled : Tabled setup (view_after setup story) (real_after setup step story) (private_after setup step story)
   answer : Answer (view_after setup story) (real_after setup step story) (private_after setup step story)
+  lasting : AreLasting setup.reads tests (view_after setup story).links (view_after setup story).lasting (private_after setup step story).sessions
 
 always : (setup : Setup) (tests : Tests) (step : Step) (story : Story) → Tame setup.reads tests step → IsAccepted setup tests → IsLawful setup story → IsHonest setup step story → Always setup tests step story
 always setup tests step [] tame accepted lawful honest = record {
   stands = stands_first setup tests step tame accepted;
   tabled = record { on = λ number. tt; resting = λ n e. record { usual = λ key place f. cc } };
+  lasting = record { sessions_of = λ n none. tame.reset.nothing_lasts; statements = λ l n due at none. absurd (cc); ends = λ l n at. absurd (cc) };
   answer = record { carried = λ number m e. cc; unread = λ number m e. cc; unsent = λ m e. refl; answered = λ number m e. cc; replied = λ m r e. cc };
 }
 always setup tests step (e ∷ past) tame accepted lawful honest =
     let before = always setup tests step past tame accepted lawful.0 honest.0 in
     record {
-      stands = stands_next setup tests step tame (view_after setup past) (real_after setup step past) (private_after setup step past) e before.stands before.tabled lawful.1 honest.1;
+      stands = stands_next setup tests step tame (view_after setup past) (real_after setup step past) (private_after setup step past) e before.stands before.tabled before.lasting lawful.1 honest.1;
+      lasting = lasting_next setup tests step tame (view_after setup past) (real_after setup step past) (private_after setup step past) e before.stands before.tabled before.lasting lawful.1 honest.1;
       tabled = tabled_next setup tests step tame (view_after setup past) (real_after setup step past) (private_after setup step past) e before.stands before.tabled lawful.1 honest.1;
       answer = answers_next setup tests step tame (view_after setup past) (real_after setup step past) (private_after setup step past) e before.stands before.tabled before.answer lawful.1 honest.1;
     }

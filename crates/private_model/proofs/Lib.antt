@@ -13,3 +13,4 @@ mod Stands
 mod Tabling
 mod Tame
 mod FromLaws
+mod Lasting

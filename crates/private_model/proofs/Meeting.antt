@@ -364,10 +364,12 @@ module _ (reads : Reads) (step : Step) (tests : Tests) (tame : Tame reads tests 
 
   -- The end of a session.
 
-  pub end_after : (user : Account) (marked : Bool) (told : Told) (link_id : Option ℕ) (pin : Pin) (id : Option ℕ) → IsTogether user marked told link_id pin s p
+  pub end_after : (user : Account) (marked : Bool) (told : Told) (link_id : Option ℕ) (pin : Pin) (id : Option ℕ) → tests.lasts p.deep ≡ false → IsTogether user marked told link_id pin s p
       → IsJoined true user marked (told_after reads Reset (step stored s Reset).reply told) (id_after reads Reset (step stored s Reset).reply link_id) no_pin (id_after reads Reset (step stored s Reset).reply id) (step stored s Reset).session (step stored p Reset).session
-  end_after user marked told link_id pin id together =
-      let same = reset_session reads step tests tame stored s p ok ok_p together.rest in
+  end_after user marked told link_id pin id lasts together =
+      let mine : (step stored p Reset).session.deep ≡ [] = tame.reset.deep stored p ok_p lasts in
+      let there : (step stored s Reset).session.deep ≡ [] = tame.reset.deep stored s ok (subst (λ d. tests.lasts d ≡ false) (ap (λ (x : Session). x.deep) together.rest) lasts) in
+      let same = reset_session reads step tests tame stored s p ok ok_p together.rest mine there in
       record {
         session = record {
           account = tame.account stored s ok Reset ∙ together.account;
@@ -376,7 +378,7 @@ module _ (reads : Reads) (step : Step) (tests : Tests) (tame : Tame reads tests 
           last_id = λ e. ap (λ (x : Session). x.last_id) same;
           follows = λ e. follows_reset reads step tests tame stored s ok;
           knows = record { is = λ n e. ap (λ (x : Session). x.last_id) (tame.reset.session stored s ok) ∙ zero_is n e };
-          suits = suits_reset reads step tests tame stored p ok_p;
+          suits = suits_reset reads step tests tame stored p ok_p mine;
         };
         knows = record { is = λ n e. ap (λ (x : Session). x.last_id) (tame.reset.session stored p ok_p) ∙ zero_is n e };
         unknown = λ e. cc;

@@ -1,5 +1,5 @@
 -- What one command does to a session and to its like in the private world.
-use Rattle.std.specs.Prelude.{◌≡◌, ℕ, Bool, true, false, List}
+use Rattle.std.specs.Prelude.{[], ◌≡◌, ℕ, Bool, true, false, List}
 use Rattle.std.proofs.Common.{refl, sym, ap, ◌∙◌, subst, inl, inr}
 use Rattle.private_model.proofs.Sessions.{apart, bool_cases, id_stays}
 use Rattle.private_model.proofs.Tame.{Tame, account_of, outcome_with_id}
@@ -87,5 +87,7 @@ module _ (reads : Reads) (step : Step) (tests : Tests) (tame : Tame reads tests 
   pub quit_stored : (step stored p Quit).stored ≡ (step stored s Quit).stored
   quit_stored = tame.reset.quit_stored stored p ok_p ∙ reset_stored ∙ sym (tame.reset.quit_stored stored s ok)
 
-  pub reset_session : (step stored p Reset).session ≡ (step stored s Reset).session
-  reset_session = tame.reset.session stored p ok_p ∙ ap (λ x. fresh_of (account_of x) x.schema) rest ∙ sym (tame.reset.session stored s ok)
+  pub reset_session : (step stored p Reset).session.deep ≡ [] → (step stored s Reset).session.deep ≡ [] → (step stored p Reset).session ≡ (step stored s Reset).session
+  reset_session mine there =
+      tame.reset.session stored p ok_p ∙ ap (λ d. record (fresh_of (account_of p) p.schema) { deep = d }) (mine ∙ sym there)
+      ∙ ap (λ x. record (fresh_of (account_of x) x.schema) { deep = (step stored s Reset).session.deep }) rest ∙ sym (tame.reset.session stored s ok)

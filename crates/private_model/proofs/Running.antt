@@ -312,15 +312,15 @@ module _ (setup : Setup) (tests : Tests) (step : Step) (tame : Tame setup.reads 
       (ran_session view m l' (not (is_quit c)) (step d s c) (step d p c) (real.peers number).table private.tables private.answers (tame.keeps d s ok_there c) (tame.keeps d p (ok_here m) c).1 (at (Joined m) carries).home carries both.0.alike.stored (tame.account d p (ok_here m) c ∙ stands.owners m)
       (record { home = (at (Joined m) carries).home; asked = refl; joined = both.1 }))
 
-  ran_end : (m : SessionName) → (real.peers number).alive ≡ true → (view.links number).stage ≡ Asked (End m) → RanTo true (Asked (End m))
-  ran_end m alive is =
+  ran_end : (m : SessionName) → tests.lasts (private.sessions m).deep ≡ false → (real.peers number).alive ≡ true → (view.links number).stage ≡ Asked (End m) → RanTo true (Asked (End m))
+  ran_end m lasts alive is =
       let l = view.links number in
       let carries : l.carries ≡ Joined m = end_name setup number l.carries l (real.peers number) view.held private.sessions (stands.links number) m is in
       let p = private.sessions m in
       let d = data_there in
       let l' : Link = record l { stage = Answered (End m) } in
       let was = before m (End m) carries alive is in
-      let joined = end_after setup.reads step tests tame d s p ok_there (ok_here m) l.account l.marked l.told l.id (view.held m).pin (view.held m).id was.session in
+      let joined = end_after setup.reads step tests tame d s p ok_there (ok_here m) l.account l.marked l.told l.id (view.held m).pin (view.held m).id lasts was.session in
       with_data (λ x. Stands setup tests (record view { links = put is_link_id view.links number l' }) (record { stored = put is_server real.stored l.server (step d s Reset).stored; peers = put is_link_id real.peers number (record { session = (step d s Reset).session; answer = (step d s Reset).reply; table = λ key. None; alive = true }) })
       (record private { stored = put is_server private.stored l.server (step x p Reset).stored; sessions = put is_name private.sessions m (step x p Reset).session; tables = put is_name private.tables m (λ key. None) }))
       (ran_session view m l' true (step d s Reset) (step d p Reset) (λ key. None) (put is_name private.tables m (λ key. None)) private.answers (tame.keeps d s ok_there Reset) (tame.keeps d p (ok_here m) Reset).1 (at (Joined m) carries).home carries
@@ -437,21 +437,24 @@ module _ (setup : Setup) (tests : Tests) (step : Step) (tame : Tame setup.reads 
   still : Stands setup tests (record view { links = put is_link_id view.links number (view.links number) }) real private
   still = linked view (view.links number) (stands.links number)
 
-  ran_by_stage : AreDecoded → (alive : Bool) (stage : Stage) → (real.peers number).alive ≡ alive → (view.links number).stage ≡ stage → IsTrueRun step real number (view.links number).live stage (view.links number).server → RanTo alive stage
-  ran_by_stage are true (Asked (Statement m due)) alive is honest = ran_statement are m due alive is
-  ran_by_stage are true (Asked (Sync m c)) alive is honest = ran_sync m c alive is
-  ran_by_stage are true (Asked (Own c)) alive is honest = ran_own c alive is (view.links number).carries refl
-  ran_by_stage are true (Asked (Prep m key text)) alive is honest = ran_prep m key text alive is
-  ran_by_stage are true (Asked (End m)) alive is honest = ran_end m alive is
-  ran_by_stage are true (Asked (Capture m)) alive is honest = ran_capture m alive is
-  ran_by_stage are false (Asked question) alive is honest = dead_runs alive honest.alive
-  ran_by_stage are true Quiet alive is honest = still
-  ran_by_stage are true (Answered question) alive is honest = still
-  ran_by_stage are false Quiet alive is honest = still
-  ran_by_stage are false (Answered question) alive is honest = still
+  abbrev pub EndsReset : Type 0
+  EndsReset = (m : SessionName) → (view.links number).stage ≡ Asked (End m) → tests.lasts (private.sessions m).deep ≡ false
 
-  pub ran_so : AreDecoded → IsTrueRun step real number (view.links number).live (view.links number).stage (view.links number).server → Stands setup tests (view_step setup view (Ran number)) (real_step step view real (Ran number)) (private_step step view (alive_in real) private (Ran number))
-  ran_so are honest = ran_by_stage are (real.peers number).alive (view.links number).stage refl refl honest
+  ran_by_stage : AreDecoded → EndsReset → (alive : Bool) (stage : Stage) → (real.peers number).alive ≡ alive → (view.links number).stage ≡ stage → IsTrueRun step real number (view.links number).live stage (view.links number).server → RanTo alive stage
+  ran_by_stage are resets true (Asked (Statement m due)) alive is honest = ran_statement are m due alive is
+  ran_by_stage are resets true (Asked (Sync m c)) alive is honest = ran_sync m c alive is
+  ran_by_stage are resets true (Asked (Own c)) alive is honest = ran_own c alive is (view.links number).carries refl
+  ran_by_stage are resets true (Asked (Prep m key text)) alive is honest = ran_prep m key text alive is
+  ran_by_stage are resets true (Asked (End m)) alive is honest = ran_end m (resets m is) alive is
+  ran_by_stage are resets true (Asked (Capture m)) alive is honest = ran_capture m alive is
+  ran_by_stage are resets false (Asked question) alive is honest = dead_runs alive honest.alive
+  ran_by_stage are resets true Quiet alive is honest = still
+  ran_by_stage are resets true (Answered question) alive is honest = still
+  ran_by_stage are resets false Quiet alive is honest = still
+  ran_by_stage are resets false (Answered question) alive is honest = still
+
+  pub ran_so : AreDecoded → EndsReset → IsTrueRun step real number (view.links number).live (view.links number).stage (view.links number).server → Stands setup tests (view_step setup view (Ran number)) (real_step step view real (Ran number)) (private_step step view (alive_in real) private (Ran number))
+  ran_so are resets honest = ran_by_stage are resets (real.peers number).alive (view.links number).stage refl refl honest
 
   -- A link is dropped.
 

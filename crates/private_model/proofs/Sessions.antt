@@ -221,14 +221,16 @@ module _ (reads : Reads) (step : Step) (tests : Tests) (tame : Tame reads tests 
 
   -- After a reset.
 
-  pub suits_reset : Suits no_pin (step stored s Reset).session
-  suits_reset = subst (λ x. Suits no_pin x) (sym (tame.reset.session stored s ok)) (record { tx = λ e. refl; locks = λ e f. refl; brief = λ e. refl; none = λ e f. refl; ended = λ e f g. refl })
+  pub suits_reset : (step stored s Reset).session.deep ≡ [] → Suits no_pin (step stored s Reset).session
+  suits_reset none =
+      let law = tame.reset.session stored s ok in
+      record { tx = λ e. ap (λ (x : Session). is_some_of x.tx) law; locks = λ e f. ap (λ (x : Session). x.locks) law; brief = λ e. ap is_brief none; none = λ e f. none; ended = λ e f g. none }
 
   pub follows_reset : Follows (record { schema = None; settings = defaults }) (step stored s Reset).session
   follows_reset = subst (λ x. Follows (record { schema = None; settings = defaults }) x) (sym (tame.reset.session stored s ok)) (record { schema = λ name e. cc; settings = refl })
 
   pub plain_quit : IsPlain (step stored s Quit).session
-  plain_quit = subst IsPlain (sym (tame.reset.quit_session stored s ok ∙ tame.reset.session stored s ok)) (record { tx = refl; locks = refl; deep = refl })
+  plain_quit = subst IsPlain (sym (tame.reset.quit_session stored s ok)) (record { tx = refl; locks = refl; deep = refl })
 
 -- A session with an empty Pin, and one that needs no reset.
 

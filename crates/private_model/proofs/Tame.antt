@@ -24,13 +24,16 @@ flags reply = ending.shows_transaction (end_of reply)
 abbrev pub brings_id : Reply → Bool
 brings_id reply = ending.brings_id (end_of reply)
 
--- A reset leaves a fresh session but for its schema, and a quit does the same to the data.
-pub record ResetLaw (tests : Tests) (step : Step) : Type 0 where
-  pub session : (stored : List ℕ) (s : Session) → Accepts tests stored s → (step stored s Reset).session ≡ fresh_of (account_of s) s.schema
+-- A reset leaves a fresh session but for its schema and what no reset takes back, and a quit does the same to the data.
+pub record ResetLaw (reads : Reads) (tests : Tests) (step : Step) : Type 0 where
+  pub session : (stored : List ℕ) (s : Session) → Accepts tests stored s → (step stored s Reset).session ≡ record (fresh_of (account_of s) s.schema) { deep = (step stored s Reset).session.deep }
+  pub deep : (stored : List ℕ) (s : Session) → Accepts tests stored s → tests.lasts s.deep ≡ false → (step stored s Reset).session.deep ≡ []
+  pub nothing_lasts : tests.lasts [] ≡ false
+  pub brings : (stored : List ℕ) (s : Session) → Accepts tests stored s → (c : Command) → (class_of reads c).outlasts_reset ≡ false → tests.lasts s.deep ≡ false → tests.lasts (step stored s c).session.deep ≡ false
   pub blind : (stored : List ℕ) (s : Session) → Accepts tests stored s → (n : ℕ) (diag : List ℕ) → Accepts tests stored (with_diag diag s) → (step stored (with_diag diag (with_id n s)) Reset).stored ≡ (step stored s Reset).stored
   pub idle : (stored : List ℕ) (s : Session) → Accepts tests stored s → s.tx ≡ [] → s.locks ≡ [] → s.deep ≡ [] → (step stored s Reset).stored ≡ stored
   pub quit_stored : (stored : List ℕ) (s : Session) → Accepts tests stored s → (step stored s Quit).stored ≡ (step stored s Reset).stored
-  pub quit_session : (stored : List ℕ) (s : Session) → Accepts tests stored s → (step stored s Quit).session ≡ (step stored s Reset).session
+  pub quit_session : (stored : List ℕ) (s : Session) → Accepts tests stored s → (step stored s Quit).session ≡ fresh_of (account_of s) s.schema
 
 -- A tracked SET leaves locks and the insert id, and data and transaction too where no transaction is open or autocommit isn't among its settings.
 pub record TrackedLaw (reads : Reads) (tests : Tests) (step : Step) : Type 0 where
@@ -91,7 +94,7 @@ pub record Tame (reads : Reads) (tests : Tests) (step : Step) : Type 0 where
   pub accepts_fresh : tests.is_session [] [] [] [] ≡ true
   pub keeps : (stored : List ℕ) (s : Session) → Accepts tests stored s → (c : Command) → Accepts tests (step stored s c).stored (step stored s c).session
   pub account : (stored : List ℕ) (s : Session) → Accepts tests stored s → (c : Command) → account_of (step stored s c).session ≡ account_of s
-  pub reset : ResetLaw tests step
+  pub reset : ResetLaw reads tests step
   pub tracked : TrackedLaw reads tests step
   pub uses : UseLaw reads tests step
   pub text : TextLaw reads tests step

@@ -122,6 +122,7 @@ pub record IsSet (class : Class) (tx : Bool) : Type 0 where
   pub no_locks : takes class ≡ false
   pub next_tx : class.next_tx ≡ false
   pub savepoint : class.savepoint ≡ false
+  pub resets : class.outlasts_reset ≡ false
   pub calm : sets_autocommit changes ≡ true → tx ≡ false
 
 -- A step in a client's session; the id is the session's. No INIT_DB leads to no schema, so a link that was told one is never placed
@@ -149,11 +150,12 @@ pub record IsOwn (setup : Setup) (command : Command) (link : Link) : Type 0 wher
   pub free : (link.carries ≡ Nobody) ⊎ ((who : SessionName) × (link.carries ≡ Lent who))
   pub fits : IsOwnStep setup.reads command
 
--- the session was left
+-- the session was left, and a reset takes back what it did; else its link is closed
 pub record IsEnd (view : View) (n : SessionName) (link : Link) : Type 0 where
   pub carries : link.carries ≡ Joined n
   pub left : n ≢ present view n.client n.hostgroup
   pub needed : needs_reset (view.held n).pin ≡ true
+  pub resets : view.lasting n ≡ false
 
 -- a capture is due
 pub record IsCapture (n : SessionName) (link : Link) (held : Held) : Type 0 where

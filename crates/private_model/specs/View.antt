@@ -52,6 +52,7 @@ pub record View : Type 0 where
   pub links : LinkId → Link
   pub held : SessionName → Held
   pub carriers : MessageName → Option LinkId  -- the link to which it was sent
+  pub lasting : SessionName → Bool  -- a statement of it was sent that no reset takes back
   pub replies : MessageName → Option Reply  -- what was read there in answer
 
 -- Logins, opening data and keys, which nothing changes.
@@ -72,7 +73,7 @@ abbrev pub first_held : Held
 first_held = record { pin = no_pin; id = Some 0; home = None }
 
 abbrev pub first_view : Setup → View
-first_view setup = record { lives = λ client hostgroup. 0; places = setup.places; dues = λ n. None; links = λ link. no_link; held = λ n. first_held; carriers = λ m. None; replies = λ m. None }
+first_view setup = record { lives = λ client hostgroup. 0; places = setup.places; dues = λ n. None; links = λ link. no_link; held = λ n. first_held; carriers = λ m. None; lasting = λ n. false; replies = λ m. None }
 
 -- A question goes out.
 
@@ -215,6 +216,7 @@ view_step setup view (Sent link question) = record view {
   held = held_for question link view.held;
   dues = for_statement question (λ n due. put is_name view.dues n None) view.dues;
   carriers = for_statement question (λ n due. put is_message view.carriers (message_of n due) (Some link)) view.carriers;
+  lasting = for_statement question (λ n due. put is_name view.lasting n (view.lasting n || (class_of setup.reads due.command).outlasts_reset)) view.lasting;
 }
 view_step setup view (Ran link) =
     record view { links = put is_link_id view.links link (ran_by setup.reads (view.links link).stage (view.links link)) }

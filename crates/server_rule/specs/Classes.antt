@@ -25,6 +25,12 @@ text_run (Query text) = Some text
 text_run (Run text schema settings types nulls values long) = Some text
 text_run _ = None
 
+-- whether it may do what no reset takes back
+abbrev pub outlasts_run : Reads → Cmd → Bool
+outlasts_run reads (Query text) = (reads.class text).outlasts_reset
+outlasts_run reads (Run text schema settings types nulls values long) = (reads.class text).outlasts_reset
+outlasts_run reads _ = false
+
 abbrev pub is_prepare : Cmd → Bool
 is_prepare (Prepare text) = true
 is_prepare _ = false

@@ -6,7 +6,7 @@ use Rattle.session_vars.specs.declared.change.SlotValue.{SlotValue}
 use Rattle.session_vars.specs.declared.long_part.LongPart.{LongPart}
 use Rattle.session_state.specs.Classes.{Tracked, Uses, Neither, effect_of, frees_locks, is_lone_savepoint, schema_by, sets_autocommit, sets_next, settings_by, takes_locks}
 use Rattle.session_state.specs.Endings.{brings_id, is_err, is_ok, shows_transaction}
-use Rattle.server_rule.specs.Classes.{Reads, core, effect_run, is_close, is_prepare, sees_diag, sees_id, text_run}
+use Rattle.server_rule.specs.Classes.{Reads, core, effect_run, is_close, is_prepare, outlasts_run, sees_diag, sees_id, text_run}
 use Rattle.server_rule.specs.Replies.{one_number, reply_end}
 use Rattle.server_rule.specs.Servers.{Accepts, Step, Tests, fresh, is_brief, is_some_of, outcome_with_id, with_diag, with_id}
 use Rattle.server_rule.specs.Texts.{read_id_text, set_id_text}
@@ -24,17 +24,21 @@ pub record AccountLaw (tests : Tests) (step : Step) : Type 0 where
   pub user : (stored : List ℕ) (s : Session) → Accepts tests stored s → (c : Cmd) → (step stored s c).session.user ≡ s.user
   pub found_rows : (stored : List ℕ) (s : Session) → Accepts tests stored s → (c : Cmd) → (step stored s c).session.found_rows ≡ s.found_rows
 
--- Resets: RESET_CONNECTION is answered by one OK and leaves the session of a new login, but for its schema. The end of a
--- connection does the same to the data, which depend neither on the insert id nor on the diagnostics; where no
--- transaction, no lock and no other state is open, they stay.
-pub record ResetLaw (tests : Tests) (step : Step) : Type 0 where
+-- Resets: RESET_CONNECTION is answered by one OK and leaves the session of a new login, but for its schema and for what no
+-- reset takes back. That stands in no fresh session, and only a text of its class brings it. The end of a connection does the
+-- same to the data, which depend neither on the insert id nor on the diagnostics, and leaves nothing else; where no
+-- transaction, no lock and no other state is open, the data stay.
+pub record ResetLaw (reads : Reads) (tests : Tests) (step : Step) : Type 0 where
   pub answered : (stored : List ℕ) (s : Session) → Accepts tests stored s → is_ok (reply_end false (step stored s Reset).reply) ≡ true
-  pub session : (stored : List ℕ) (s : Session) → Accepts tests stored s → (step stored s Reset).session ≡ fresh s.user s.found_rows s.schema
+  pub session : (stored : List ℕ) (s : Session) → Accepts tests stored s → (step stored s Reset).session ≡ record (fresh s.user s.found_rows s.schema) { deep = (step stored s Reset).session.deep }
+  pub deep : (stored : List ℕ) (s : Session) → Accepts tests stored s → tests.lasts s.deep ≡ false → (step stored s Reset).session.deep ≡ []
+  pub nothing_lasts : tests.lasts [] ≡ false
+  pub brings : (stored : List ℕ) (s : Session) → Accepts tests stored s → (c : Cmd) → outlasts_run reads c ≡ false → tests.lasts s.deep ≡ false → tests.lasts (step stored s c).session.deep ≡ false
   pub blind : (stored : List ℕ) (s : Session) → Accepts tests stored s → (n : ℕ) (diag : List ℕ) → Accepts tests stored (with_diag diag s) → (step stored (with_diag diag (with_id n s)) Reset).stored ≡ (step stored s Reset).stored
   pub idle : (stored : List ℕ) (s : Session) → Accepts tests stored s → s.tx ≡ [] → s.locks ≡ [] → s.deep ≡ [] → (step stored s Reset).stored ≡ stored
   pub close_reply : (stored : List ℕ) (s : Session) → Accepts tests stored s → (step stored s Close).reply ≡ []
   pub close_stored : (stored : List ℕ) (s : Session) → Accepts tests stored s → (step stored s Close).stored ≡ (step stored s Reset).stored
-  pub close_session : (stored : List ℕ) (s : Session) → Accepts tests stored s → (step stored s Close).session ≡ (step stored s Reset).session
+  pub close_session : (stored : List ℕ) (s : Session) → Accepts tests stored s → (step stored s Close).session ≡ fresh s.user s.found_rows s.schema
 
 -- Tracked settings: a SET of tracked settings makes its changes where it is answered OK, and none else. It leaves schema,
 -- locks and insert id, and it leaves data and transaction where none is open or autocommit isn't set.
@@ -120,7 +124,7 @@ pub record ReplyLaw (reads : Reads) (tests : Tests) (step : Step) : Type 0 where
 pub record IsTame (reads : Reads) (tests : Tests) (step : Step) : Type 0 where
   pub tests_kept : KeepsTests tests step
   pub account : AccountLaw tests step
-  pub reset : ResetLaw tests step
+  pub reset : ResetLaw reads tests step
   pub tracked : TrackedLaw reads tests step
   pub schemas : SchemaLaw reads tests step
   pub texts : TextLaw reads tests step

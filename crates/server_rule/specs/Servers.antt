@@ -12,10 +12,12 @@ pub record Outcome : Type 0 where
 abbrev pub Step : Type 0
 Step = (stored : List ℕ) → Session → Cmd → Outcome
 
--- what a server takes as its data, and as a session; of a session it looks at these four alone
+-- what a server takes as its data, and as a session, of which it looks at these four alone; and in which deep state of a session
+-- something stands that no reset takes back
 pub record Tests : Type 0 where
   pub is_data : List ℕ → Bool
   pub is_session : (tx locks deep diag : List ℕ) → Bool
+  pub lasts : (deep : List ℕ) → Bool
 
 abbrev pub Accepts : Tests → (stored : List ℕ) → Session → Type 0
 Accepts tests stored s = (tests.is_data stored ≡ true) × (tests.is_session s.tx s.locks s.deep s.diag ≡ true)

@@ -526,7 +526,7 @@ module _ (reads : Reads) where
   tally_tame = record {
     tests_kept = record { accepts_fresh = refl; keeps = keeps };
     account = record { user = user_law; found_rows = found_rows_law };
-    reset = record { answered = λ stored s ok. ok_is_ok false NoId false; session = λ stored s ok. refl; blind = λ stored s ok n diag there. refl; idle = λ stored s ok tx locks deep. refl; close_reply = λ stored s ok. refl; close_stored = λ stored s ok. refl; close_session = λ stored s ok. refl };
+    reset = record { answered = λ stored s ok. ok_is_ok false NoId false; session = λ stored s ok. refl; deep = λ stored s ok lasts. refl; nothing_lasts = refl; brings = λ stored s ok c plain lasts. refl; blind = λ stored s ok n diag there. refl; idle = λ stored s ok tx locks deep. refl; close_reply = λ stored s ok. refl; close_stored = λ stored s ok. refl; close_session = λ stored s ok. refl };
     tracked = record {
       settings = λ stored s ok c changes e. sets stored s c changes e (λ o. o.session.settings ≡ settings_by (Tracked changes) (is_ok (reply_end false o.reply)) s.settings) (λ k rows text is. is.settings);
       schema = λ stored s ok c changes e. sets stored s c changes e (λ o. o.session.schema ≡ s.schema) (λ k rows text is. is.schema);

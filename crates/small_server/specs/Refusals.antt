@@ -1,12 +1,12 @@
 -- A server that refuses every command but the two that end a session.
-use Rattle.std.specs.Prelude.{ℕ, true, List, [], ◌∷◌}
+use Rattle.std.specs.Prelude.{ℕ, true, false, List, [], ◌∷◌}
 use Rattle.server_rule.specs.Servers.{Outcome, Step, Tests, fresh}
 use Rattle.server_rule.specs.declared.command.Cmd.TheVariants.{Query, InitDb, FieldList, Prepare, Run, Reset, Close}
 use Rattle.server_rule.specs.declared.session.Session.{Session}
 
 -- it takes any data and any session
 abbrev pub anything : Tests
-anything = record { is_data = λ stored. true; is_session = λ tx locks deep diag. true }
+anything = record { is_data = λ stored. true; is_session = λ tx locks deep diag. true; lasts = λ deep. false }
 
 -- 0xFF, code 1064, '#', SQL state 42000
 abbrev pub syntax_error : List ℕ

@@ -129,7 +129,7 @@ pub refuses_tame : (reads : Reads) → IsTame reads anything refuses
 refuses_tame reads = record {
   tests_kept = record { accepts_fresh = refl; keeps = λ stored s ok c. (refl, refl) };
   account = record { user = λ stored s ok c. (account c stored s).0; found_rows = λ stored s ok c. (account c stored s).1 };
-  reset = record { answered = λ stored s ok. ok_is_ok; session = λ stored s ok. refl; blind = λ stored s ok n diag there. refl; idle = λ stored s ok tx locks deep. refl; close_reply = λ stored s ok. refl; close_stored = λ stored s ok. refl; close_session = λ stored s ok. refl };
+  reset = record { answered = λ stored s ok. ok_is_ok; session = λ stored s ok. refl; deep = λ stored s ok lasts. refl; nothing_lasts = refl; brings = λ stored s ok c plain lasts. refl; blind = λ stored s ok n diag there. refl; idle = λ stored s ok tx locks deep. refl; close_reply = λ stored s ok. refl; close_stored = λ stored s ok. refl; close_session = λ stored s ok. refl };
   tracked = record {
     settings = λ stored s ok c changes e. going c (tracked_goes reads c changes e) (λ o. o.session.settings ≡ settings_by (Tracked changes) (is_ok (reply_end false o.reply)) s.settings) stored s (ap (λ b. settings_by (Tracked changes) b s.settings) (sym error_not_ok));
     schema = λ stored s ok c changes e. going c (tracked_goes reads c changes e) (λ o. o.session.schema ≡ s.schema) stored s refl;
