@@ -18,18 +18,22 @@ use std::alloc::Global;
 
 // The class of what is no text. What ends a session is deep, and reads what was left.
 fn plain_class(shape: Shape, marks_id: bool, ends: bool) -> Class
-    ensures { result ≡ record model.plain_class { deep = ends; marks_id = marks_id; reads_diag = ends; shape = shape } }
+    ensures { result ≡ record model.plain_class { deep = ends; marks_id = marks_id; reads_diag = ends; reads_found = ends; shape = shape } }
 {
     Class {
         deep: ends,
         locks: Locking::None,
         next_tx: false,
         savepoint: false,
+        ends_tx: false,
         outlasts_reset: false,
         marks_id,
         sets_id: false,
         reads_id: false,
         reads_diag: ends,
+        reads_found: ends,
+        keeps_diag: true,
+        keeps_found: true,
         calc_rows: false,
         refusal: None,
         shape,

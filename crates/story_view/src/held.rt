@@ -43,6 +43,7 @@ pub(crate) fn first_held() -> Held
         next_tx: false,
         tx: false,
         after_err: false,
+        uncommitted: false,
         diag: false,
         rule: false,
     };
