@@ -2,7 +2,6 @@
 use Rattle.std.specs.Prelude.{ℕ, Bool, false, not, ◌||◌, ◌&&◌, is_none, List, [], ◌∷◌, slice_get, codes, Option, Some, None, if◌then◌else◌}
 use Rattle.sql_tokens.specs.Words.{word_of, is_word, says, is_symbol}
 use Rattle.sql_tokens.specs.declared.token.Token.{Token}
-use Rattle.std.specs.List.{list_any}
 use Rattle.pin_classifier.specs.WordLists.{is_any}
 use Rattle.pin_classifier.specs.declared.word_list.WordList.TheVariants as lists
 use Rattle.pin_classifier.specs.Functions.{has_call_of, names_session_function}

@@ -9,8 +9,8 @@ use crate::marks::{Mark, has_blank_byte, stands};
 use crate::seen::Seen;
 use crate::shape::{is_end, shape_of};
 use crate::starts::{
-    analyzes_other, begins_unknown, changes_schema, ends_transaction, explains, gives_rows, goes_back,
-    is_savepoint, locks_other, locks_tables, makes_id, returns_rows, shows_connection,
+    analyzes_other, begins_unknown, changes_schema, ends_transaction, explains, gives_rows,
+    goes_back, is_savepoint, locks_other, locks_tables, makes_id, returns_rows, shows_connection,
     shows_diagnostics, starts_other, unlocks_tables, writes_tables,
 };
 use crate::words::{first_word, next_word};
@@ -241,7 +241,13 @@ fn ends_transaction_of(text: &[u8], seen: &Seen, verb: Option<&[u8]>, unread: bo
 
 // Whether no reset takes back what a statement may do.
 #[tactic(auto, using(crate::proofs::Sets::shape_of_set), unfolding(crate::specs::Classes::outlasts_reset))]
-fn outlasts_reset(text: &[u8], seen: &Seen, shape: &Shape, verb: Option<&[u8]>, unread: bool) -> bool
+fn outlasts_reset(
+    text: &[u8],
+    seen: &Seen,
+    shape: &Shape,
+    verb: Option<&[u8]>,
+    unread: bool,
+) -> bool
     requires verb { option_copied verb ≡ first text.now }
     requires seen { seen.now ≡ seen_of text.now (statement text.now) }
     requires shape { shape.now ≡ shape_of text.now }

@@ -6,7 +6,9 @@ ghost use Rattle.pin_classifier.specs.Statement.{statement};
 use crate::calls::Calls;
 use crate::opening::Opening;
 use crate::variables::Variables;
-use crate::words::{callee, is_from, is_hidden, is_quoted_call, is_release, is_unread, variable_of};
+use crate::words::{
+    callee, is_from, is_hidden, is_quoted_call, is_release, is_unread, variable_of,
+};
 use sql_tokens::{Token, TokenKind, Tokens, is_word, word_of};
 
 // The first tokens of a statement, and what stands anywhere in it.

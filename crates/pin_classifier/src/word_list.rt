@@ -26,7 +26,11 @@ pub(crate) enum WordList {
 static THREAD_FUNCTIONS: [&[u8]; 2] = [b"PS_CURRENT_THREAD_ID", b"PS_THREAD_ID"];
 
 // MariaDB, "LASTVAL", "WSREP_LAST_WRITTEN_GTID", "WSREP_LAST_SEEN_GTID".
-static LAST_FUNCTIONS: [&[u8]; 3] = [b"LASTVAL", b"WSREP_LAST_WRITTEN_GTID", b"WSREP_LAST_SEEN_GTID"];
+static LAST_FUNCTIONS: [&[u8]; 3] = [
+    b"LASTVAL",
+    b"WSREP_LAST_WRITTEN_GTID",
+    b"WSREP_LAST_SEEN_GTID",
+];
 
 // MySQL Reference Manual, "String Functions and Operators", "Date and Time Functions", "Window Function Descriptions".
 static FROM_FUNCTIONS: [&[u8]; 6] = [
