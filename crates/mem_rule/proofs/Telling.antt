@@ -103,7 +103,7 @@ pub warns : (text : List ℕ) → HasForm text forms.Warnings → reads_diagnost
 unfolding reads_diagnostics shows_diagnostics
 warns text has =
     let word = by_second text (statement text) (codes "SHOW") (codes "WARNINGS") [] refl (stated text forms.Warnings has) (codes "WARNINGS") in
-    or_left _ _ (or_left _ _ (or_left _ _ (or_right _ _ (or_left _ _ (and_from _ _ (first_is text forms.Warnings has (codes "SHOW")) (or_left _ _ (or_left _ _ word)))))))
+    or_left _ _ (or_left _ _ (or_left _ _ (or_left _ _ (or_right _ _ (or_left _ _ (and_from _ _ (first_is text forms.Warnings has (codes "SHOW")) (or_left _ _ (or_left _ _ word))))))))
 
 pub inserts : (text : List ℕ) → HasForm text forms.Insert → marks_id text ≡ true
 unfolding marks_id makes_id
@@ -136,7 +136,7 @@ reads_it text has =
 
 is_function : (named : Option (List ℕ)) → is_word named (codes "GET_LOCK") ≡ true → names_session_function named ≡ true
 is_function None is = absurd (cc)
-is_function (Some name) is = or_left _ _ (or_left _ _ (or_left _ _ is))
+is_function (Some name) is = or_left _ _ (or_left _ _ is)
 
 -- Deep ones.
 
@@ -148,7 +148,7 @@ pub locks_by_name : (text : List ℕ) → HasForm text forms.Lock → is_deep te
 unfolding is_deep_inside
 locks_by_name text has =
     let call = calls_second text (statement text) (codes "SELECT") (codes "GET_LOCK") (codes "<x>" ∷ codes "," ∷ codes "0" ∷ codes ")" ∷ []) refl (stated text forms.Lock has) names_session_function is_function in
-    deep_inside text (or_left _ _ (or_left _ _ (or_left _ _ (or_left _ _ (or_right _ _ call)))))
+    deep_inside text (or_left _ _ (or_left _ _ (or_left _ _ (or_right _ _ call))))
 
 names_by : (kind : TokenKind) (text : List ℕ) (token : Token) → is_taken (captured_by kind text (codes "<a>") token) ≡ true → is_hidden_kind kind ≡ true
 names_by kinds.UserVar text token is = refl
@@ -157,19 +157,17 @@ names_by kinds.Symbol text token is = asks (bytes_eq (bytes_of text token) (code
     asks : (asks : Bool) → is_taken (if asks && false then Value None else fixed_if false) ≡ true → false ≡ true
     asks true is = is
     asks false is = is
-names_by kinds.Executed text token is = refl
-names_by kinds.Unclosed text token is = refl
 names_by _ text token is = is
 
 hides_second : (text : List ℕ) (tokens : List Token) (a : List ℕ) (pieces : List (List ℕ)) → Takes text tokens (a ∷ codes "<a>" ∷ pieces) → has_hidden text tokens ≡ true
 hides_second text [] a pieces takes = absurd takes
 hides_second text (one ∷ []) a pieces takes = absurd takes.1
-hides_second text (one ∷ two ∷ tokens) a pieces takes = or_right _ _ (or_left _ _ (or_left _ _ (or_left _ _ (names_by two.kind text two takes.1.0))))
+hides_second text (one ∷ two ∷ tokens) a pieces takes = or_right _ _ (or_left _ _ (or_left _ _ (names_by two.kind text two takes.1.0)))
 
 pub sets_variable : (text : List ℕ) → HasForm text forms.SetVariable → is_deep text ≡ true
 unfolding is_deep_inside
 sets_variable text has =
-    deep_inside text (or_left _ _ (or_left _ _ (or_left _ _ (or_left _ _ (or_left _ _ (hides_second text (statement text) (codes "SET") (codes "=" ∷ codes "<n>" ∷ []) (stated text forms.SetVariable has)))))))
+    deep_inside text (or_left _ _ (or_left _ _ (or_left _ _ (or_left _ _ (or_right _ _ (hides_second text (statement text) (codes "SET") (codes "=" ∷ codes "<n>" ∷ []) (stated text forms.SetVariable has)))))))
 
 has_second : (text : List ℕ) (tokens : List Token) (a b : List ℕ) (pieces : List (List ℕ)) → is_word_piece b ≡ true → Takes text tokens (a ∷ b ∷ pieces) → has_word text tokens b ≡ true
 has_second text [] a b pieces is takes = absurd takes

@@ -3,9 +3,10 @@ use Rattle.std.proofs.Common.{◌≡◌, ℕ, Bool, false, ◌||◌, List, [], O
 use Rattle.sql_tokens.specs.declared.token.Token.{Token}
 use Rattle.sql_tokens.specs.Words.{is_word, says, word_of}
 use Rattle.pin_classifier.specs.Passing.{callee, is_quoted_call, is_release, seen_of, seen_behind, with_next}
-use Rattle.pin_classifier.specs.Diagnostics.{is_executed}
-use Rattle.pin_classifier.specs.Functions.{calls_any, has_call_of, names_session_function, names_thread_function}
-use Rattle.pin_classifier.specs.Statement.{calls, calls_quoted, has_call, has_variable, has_word, is_hidden, is_part, releases, variable_of}
+use Rattle.pin_classifier.specs.WordLists.{is_any}
+use Rattle.pin_classifier.specs.declared.word_list.WordList.TheVariants as lists
+use Rattle.pin_classifier.specs.Functions.{calls_any, has_call_of, names_session_function}
+use Rattle.pin_classifier.specs.Statement.{calls, calls_quoted, has_call, has_variable, has_word, is_from, is_hidden, is_part, is_unread, is_wide_name, releases, variable_of}
 use Rattle.pin_classifier.specs.declared.seen.Seen.{Seen}
 use Rattle.pin_classifier.proofs.Anywhere.{seen_token, seen_pair, callee_is, callee_passes}
 use Rattle.pin_classifier.proofs.Firsts.{opening_seen}
@@ -35,9 +36,12 @@ seen_is text tokens =
     λ i. record {
       opening = opening_seen text nothing None tokens refl i;
       hidden = seen_token text (λ seen. seen.hidden) (is_hidden text) nothing (λ _ _ _. refl) refl tokens i;
+      unread = seen_token text (λ seen. seen.unread) (is_unread text) nothing (λ _ _ _. refl) refl tokens i;
       calls = record {
         session_function = call_of (λ seen. seen.calls.session_function) names_session_function refl (λ _ _ _. refl) refl i;
-        thread_function = call_of (λ seen. seen.calls.thread_function) names_thread_function refl (λ _ _ _. refl) refl i;
+        thread_function = call_of (λ seen. seen.calls.thread_function) (is_any lists.ThreadFunctions) refl (λ _ _ _. refl) refl i;
+        last_function = call_of (λ seen. seen.calls.last_function) (is_any lists.LastFunctions) refl (λ _ _ _. refl) refl i;
+        from_function = call_of (λ seen. seen.calls.from_function) (is_any lists.FromFunctions) refl (λ _ _ _. refl) refl i;
         connection_id = call (λ seen. seen.calls.connection_id) (codes "CONNECTION_ID") (λ _ _ _. refl) refl i;
         last_insert_id = call (λ seen. seen.calls.last_insert_id) (codes "LAST_INSERT_ID") (λ _ _ _. refl) refl i;
         row_count = call (λ seen. seen.calls.row_count) (codes "ROW_COUNT") (λ _ _ _. refl) refl i;
@@ -49,12 +53,16 @@ seen_is text tokens =
         warning_count = variable (λ seen. seen.variables.warning_count) (codes "warning_count") (λ _ _ _. refl) refl i;
         error_count = variable (λ seen. seen.variables.error_count) (codes "error_count") (λ _ _ _. refl) refl i;
         pseudo_thread_id = variable (λ seen. seen.variables.pseudo_thread_id) (codes "pseudo_thread_id") (λ _ _ _. refl) refl i;
+        last_gtid = variable (λ seen. seen.variables.last_gtid) (codes "last_gtid") (λ _ _ _. refl) refl i;
+        wide = seen_token text (λ seen. seen.variables.wide) (λ token. is_wide_name (variable_of text token)) nothing (λ _ _ _. refl) refl tokens i;
       };
       temporary = word_seen text (λ seen. seen.temporary) (codes "TEMPORARY") (λ _ _ _. refl) refl tokens i;
       release = seen_pair text (λ seen. seen.release) (λ before token. is_release text before (word_of text token)) (releases text) nothing (λ _ _ _. refl) refl (λ _. refl) (λ _ _. refl) tokens i;
       calc_rows = word_seen text (λ seen. seen.calc_rows) (codes "SQL_CALC_FOUND_ROWS") (λ _ _ _. refl) refl tokens i;
       returning = word_seen text (λ seen. seen.returning) (codes "RETURNING") (λ _ _ _. refl) refl tokens i;
       value = word_seen text (λ seen. seen.value) (codes "VALUE") (λ _ _ _. refl) refl tokens i;
-      executed = seen_token text (λ seen. seen.executed) is_executed nothing (λ _ _ _. refl) refl tokens i;
+      from = seen_token text (λ seen. seen.from) (is_from text) nothing (λ _ _ _. refl) refl tokens i;
+      dual = word_seen text (λ seen. seen.dual) (codes "DUAL") (λ _ _ _. refl) refl tokens i;
+      into = word_seen text (λ seen. seen.into) (codes "INTO") (λ _ _ _. refl) refl tokens i;
       quoted_call = seen_pair text (λ seen. seen.quoted_call) (is_quoted_call text) (calls_quoted text) nothing (λ _ _ _. refl) refl (λ _. refl) (λ _ _. refl) tokens i;
     }

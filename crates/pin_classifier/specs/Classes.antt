@@ -5,18 +5,19 @@ use Rattle.session_vars.specs.Shapes.{set_shape}
 use Rattle.sql_tokens.specs.Words.{is_word}
 use Rattle.session_vars.specs.declared.shape.SetShape.{SetShape}
 use Rattle.session_vars.specs.declared.shape.SetShape.TheVariants.{Global, NextTransaction, Other}
-use Rattle.pin_classifier.specs.Diagnostics.{is_executed}
-use Rattle.pin_classifier.specs.Functions.{has_call_of, names_session_function, names_thread_function}
+use Rattle.pin_classifier.specs.WordLists.{is_any}
+use Rattle.pin_classifier.specs.declared.word_list.WordList.TheVariants as lists
+use Rattle.pin_classifier.specs.Functions.{has_call_of, names_session_function}
 use Rattle.pin_classifier.specs.Marks.{stands}
 use Rattle.pin_classifier.specs.Shapes.{is_end, shape_of}
-use Rattle.pin_classifier.specs.Starts.{begins_unknown, analyzes_other, changes_schema, explains, gives_rows, outlasts_reset, returns_rows, starts_other, locks_tables, unlocks_tables, locks_other, ends_transaction, is_savepoint, makes_id, shows_diagnostics}
-use Rattle.pin_classifier.specs.Statement.{statement, first_word, next_word, has_word, has_call, has_release, has_variable, has_hidden, has_quoted_call}
+use Rattle.pin_classifier.specs.Starts.{begins_unknown, analyzes_other, changes_schema, explains, gives_rows, goes_back, returns_rows, shows_connection, starts_other, writes_tables, locks_tables, unlocks_tables, locks_other, ends_transaction, is_savepoint, makes_id, shows_diagnostics}
+use Rattle.pin_classifier.specs.Statement.{statement, first_word, next_word, has_from, has_word, has_call, has_release, has_variable, has_wide_variable, has_hidden, has_unread, has_quoted_call}
 use Rattle.pin_classifier.specs.declared.class.Class.{Class}
 use Rattle.pin_classifier.specs.declared.class.Locking.{Locking}
 use Rattle.pin_classifier.specs.declared.class.Locking.TheVariants.{None as Neither, Takes, Frees}
 use Rattle.pin_classifier.specs.declared.class.Refusal.{Refusal}
-use Rattle.pin_classifier.specs.declared.class.Refusal.TheVariants.{SetsServer, NamesConnection}
-use Rattle.pin_classifier.specs.declared.marks.Mark.TheVariants.{GivenId, SequenceValue, ForConnection, BlankInWord, Diagnostic}
+use Rattle.pin_classifier.specs.declared.class.Refusal.TheVariants.{SetsServer, NamesConnection, ReadsLast}
+use Rattle.pin_classifier.specs.declared.marks.Mark.TheVariants.{GivenId, PreviousValue, ForConnection, BlankInWord, Diagnostic, LastValue, Lasting}
 use Rattle.pin_classifier.specs.declared.class.Shape.{Shape}
 use Rattle.pin_classifier.specs.declared.class.Shape.TheVariants.{ConnectionId, Use}
 
@@ -69,15 +70,20 @@ uses_other text = is_word (first text) (codes "USE") && not (is_use (shape_of te
 unfoldable pub gives_id : (text : List ℕ) → Bool
 gives_id text = has_call text (statement text) (codes "LAST_INSERT_ID") && stands text GivenId
 
+-- a server may read it as another statement: it has an executed comment, what isn't closed, a NUL byte, or a word with a
+-- byte A0
+unfoldable pub is_unread_text : (text : List ℕ) → Bool
+is_unread_text text = has_unread text (statement text) || (list_any (λ b. nat_eq b 160) text && stands text BlankInWord)
+
 -- something in it lives in a session, or can't be read as a server does
 unfoldable pub is_deep_inside : (text : List ℕ) → Bool
 is_deep_inside text =
-    has_hidden text (statement text)
+    is_unread_text text
+    || has_hidden text (statement text)
     || has_call_of text (statement text) names_session_function
     || has_quoted_call text (statement text)
-    || (has_word text (statement text) (codes "VALUE") && stands text SequenceValue)
-    || (list_any (λ b. nat_eq b 160) text && stands text BlankInWord)
-    || (gives_id text && not (gives_rows (first text)))
+    || has_wide_variable text (statement text)
+    || (not (gives_rows (first text)) && gives_id text)
 
 -- BEGIN but for BEGIN, BEGIN WORK and a `;`
 unfoldable pub begins_other : (text : List ℕ) → Bool
@@ -114,10 +120,14 @@ marks_id text = reads_id text || is_deep text || makes_id (first text)
 -- it sets the insert id where its reply doesn't show it: LAST_INSERT_ID with an argument in INSERT, REPLACE or UPDATE, or
 -- RETURNING in INSERT or REPLACE
 unfoldable pub sets_id : (text : List ℕ) → Bool
-sets_id text = (gives_id text && gives_rows (first text)) || (returns_rows (first text) && has_word text (statement text) (codes "RETURNING"))
+sets_id text = (gives_rows (first text) && gives_id text) || (returns_rows (first text) && has_word text (statement text) (codes "RETURNING"))
 
--- it reads what the statement before it left: a call of ROW_COUNT or FOUND_ROWS, SHOW WARNINGS and its like, or a variable
--- warning_count or error_count; beside an executed comment each word of these
+-- it has words of diagnostics, and may be read as another statement
+unfoldable pub hides_diagnostics : (text : List ℕ) → Bool
+hides_diagnostics text = is_unread_text text && stands text Diagnostic
+
+-- it reads what the statement before it left: a call of ROW_COUNT or FOUND_ROWS, SHOW WARNINGS and its like, a variable
+-- warning_count or error_count, or one whose name may be read so; where it may be read otherwise, each word of these
 unfoldable pub reads_diagnostics : (text : List ℕ) → Bool
 reads_diagnostics text =
     has_call text (statement text) (codes "ROW_COUNT")
@@ -125,21 +135,68 @@ reads_diagnostics text =
     || shows_diagnostics (first text) (second text)
     || has_variable text (statement text) (codes "warning_count")
     || has_variable text (statement text) (codes "error_count")
-    || (list_any is_executed (statement text) && stands text Diagnostic)
+    || has_wide_variable text (statement text)
+    || hides_diagnostics text
+
+-- it may read how many rows an earlier statement found
+unfoldable pub reads_found : (text : List ℕ) → Bool
+reads_found text = has_call text (statement text) (codes "FOUND_ROWS") || hides_diagnostics text
+
+-- It surely uses a table: it writes to one, or is a SELECT with FROM outside of the functions that take one, and not from
+-- DUAL.
+unfoldable pub uses_table : (text : List ℕ) → Bool
+uses_table text =
+    writes_tables (first text) (second text)
+    || (is_word (first text) (codes "SELECT") && has_from text (statement text) && not (has_word text (statement text) (codes "DUAL")) && not (has_call_of text (statement text) (is_any lists.FromFunctions)))
+
+-- Behind it older warnings and counts of changed rows may stand: servers clear them with a statement that uses a table.
+unfoldable pub keeps_diagnostics : (text : List ℕ) → Bool
+keeps_diagnostics text = is_unread_text text || not (uses_table text)
+
+-- Behind it an older FOUND_ROWS() may stand: it is counted by a SELECT whose rows are sent to the client.
+unfoldable pub keeps_found : (text : List ℕ) → Bool
+keeps_found text = is_unread_text text || not (is_word (first text) (codes "SELECT")) || has_word text (statement text) (codes "INTO")
+
+-- COMMIT, or ROLLBACK but for ROLLBACK TO a savepoint
+unfoldable pub ends_transaction_of : (text : List ℕ) → Bool
+ends_transaction_of text = ends_transaction (first text) && not (is_unread_text text) && not (goes_back (second text) (third text))
+
+-- No reset takes back what it may do: it can't be read, isn't known, or sets what lasts or how statements are read.
+unfoldable pub outlasts_reset : (text : List ℕ) → Bool
+outlasts_reset text =
+    is_unread_text text
+    || begins_unknown text (slice_get (statement text) 0)
+    || begins_other text
+    || (is_other (set_shape text) && stands text Lasting)
 
 -- it names a connection: KILL, a call of CONNECTION_ID but for SELECT CONNECTION_ID(), a call of a function that names the
--- session's thread, a variable pseudo_thread_id, or EXPLAIN FOR CONNECTION
+-- session's thread, a variable pseudo_thread_id, EXPLAIN FOR CONNECTION, SHOW EXPLAIN or SHOW ANALYZE
 unfoldable pub names_connection : (text : List ℕ) → Bool
 names_connection text =
     is_word (first text) (codes "KILL")
     || (has_call text (statement text) (codes "CONNECTION_ID") && not (is_connection_id (shape_of text)))
-    || has_call_of text (statement text) names_thread_function
+    || has_call_of text (statement text) (is_any lists.ThreadFunctions)
     || has_variable text (statement text) (codes "pseudo_thread_id")
+    || shows_connection (first text) (second text)
     || (explains (first text) && stands text ForConnection)
 
--- why it is refused: where it sets something of the whole server, else where it names a connection
+-- it reads the last value of a sequence, or the transaction that was written or seen last; where it may be read otherwise,
+-- it has a word of these
+unfoldable pub reads_last : (text : List ℕ) → Bool
+reads_last text =
+    has_call_of text (statement text) (is_any lists.LastFunctions)
+    || has_variable text (statement text) (codes "last_gtid")
+    || (has_word text (statement text) (codes "VALUE") && stands text PreviousValue)
+    || (is_unread_text text && stands text LastValue)
+
+-- why it is refused: where it sets something of the whole server, else where it names a connection, else where it reads a
+-- last value
 unfoldable pub refusal_of : (text : List ℕ) → Option Refusal
-refusal_of text = if is_global (set_shape text) then Some SetsServer else if names_connection text then Some NamesConnection else None
+refusal_of text =
+    if is_global (set_shape text) then Some SetsServer
+    else if names_connection text then Some NamesConnection
+    else if reads_last text then Some ReadsLast
+    else None
 
 -- the class of a statement
 unfoldable pub class_of : (text : List ℕ) → Class
@@ -148,11 +205,15 @@ class_of text = record {
   locks = locking_of (first text) (second text);
   next_tx = is_next_transaction (set_shape text);
   savepoint = is_savepoint (first text);
-  outlasts_reset = outlasts_reset (first text) (second text) (third text);
+  ends_tx = ends_transaction_of text;
+  outlasts_reset = outlasts_reset text;
   marks_id = marks_id text;
   sets_id = sets_id text;
   reads_id = reads_id text;
   reads_diag = reads_diagnostics text;
+  reads_found = reads_found text;
+  keeps_diag = keeps_diagnostics text;
+  keeps_found = keeps_found text;
   calc_rows = has_word text (statement text) (codes "SQL_CALC_FOUND_ROWS");
   refusal = refusal_of text;
   shape = shape_of text;

@@ -4,7 +4,7 @@ use Rattle.pin_classifier.specs.declared.class.Class.{Class}
 use Rattle.pin_classifier.specs.declared.class.ClassName.{ClassName}
 use Rattle.pin_classifier.specs.declared.class.ClassName.TheVariants.{Refused, Deep, Locks, NextTx, Diag, Plain}
 use Rattle.pin_classifier.specs.declared.class.Refusal.{Refusal}
-use Rattle.pin_classifier.specs.declared.class.Refusal.TheVariants.{SetsServer, NamesConnection}
+use Rattle.pin_classifier.specs.declared.class.Refusal.TheVariants.{SetsServer, NamesConnection, ReadsLast}
 use Rattle.pin_classifier.specs.declared.class.Locking.{Locking}
 use Rattle.pin_classifier.specs.declared.class.Locking.TheVariants.{Takes}
 
@@ -12,6 +12,7 @@ use Rattle.pin_classifier.specs.declared.class.Locking.TheVariants.{Takes}
 abbrev pub code_of : Refusal → ℕ
 code_of SetsServer = 9108
 code_of NamesConnection = 9107
+code_of ReadsLast = 9106
 
 abbrev pub takes_locks : Locking → Bool
 takes_locks Takes = true

@@ -8,3 +8,4 @@ pub mod Shapes
 pub mod Sides
 pub mod Starts
 pub mod Statement
+pub mod WordLists

@@ -67,10 +67,19 @@ gives_rows first = is_word first (codes "INSERT") || is_word first (codes "REPLA
 unfoldable pub returns_rows : (first : Option (List ℕ)) → Bool
 returns_rows first = is_word first (codes "INSERT") || is_word first (codes "REPLACE")
 
--- SET ROLE and SET RESOURCE GROUP, which no reset takes back
-unfoldable pub outlasts_reset : (first second third : Option (List ℕ)) → Bool
-outlasts_reset first second third =
-    is_word first (codes "SET") && (is_word second (codes "ROLE") || (is_word second (codes "RESOURCE") && is_word third (codes "GROUP")))
+-- statements that use a table by how they begin
+unfoldable pub writes_tables : (first second : Option (List ℕ)) → Bool
+writes_tables first second =
+    is_word first (codes "INSERT") || is_word first (codes "UPDATE") || is_word first (codes "DELETE") || is_word first (codes "REPLACE") || is_word first (codes "TRUNCATE")
+    || ((is_word first (codes "CREATE") || is_word first (codes "ALTER") || is_word first (codes "DROP")) && is_word second (codes "TABLE"))
+
+-- SHOW EXPLAIN and SHOW ANALYZE, which show what another connection does
+unfoldable pub shows_connection : (first second : Option (List ℕ)) → Bool
+shows_connection first second = is_word first (codes "SHOW") && (is_word second (codes "EXPLAIN") || is_word second (codes "ANALYZE"))
+
+-- ROLLBACK TO, and ROLLBACK WORK TO
+unfoldable pub goes_back : (second third : Option (List ℕ)) → Bool
+goes_back second third = is_word second (codes "TO") || is_word third (codes "TO")
 
 -- START but for START TRANSACTION
 unfoldable pub starts_other : (first second : Option (List ℕ)) → Bool

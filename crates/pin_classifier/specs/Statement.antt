@@ -1,11 +1,11 @@
 -- What stands in a statement: its tokens without comments, and among these words, calls of functions and system variables.
-use Rattle.std.specs.Prelude.{ℕ, ◌-◌, Bool, true, false, not, ◌||◌, ◌&&◌, nat_eq, List, [], ◌∷◌, length, drop, slice_index_or, codes, Option, Some, None, option_and_then, if◌then◌else◌}
-use Rattle.std.specs.List.{list_any, slice_split}
+use Rattle.std.specs.Prelude.{ℕ, ◌-◌, Bool, true, false, not, ◌||◌, ◌&&◌, nat_eq, nat_lt, List, [], ◌∷◌, length, drop, slice_index_or, codes, Option, Some, None, option_and_then, if◌then◌else◌}
+use Rattle.std.specs.List.{list_all, list_any, slice_split}
 use Rattle.sql_tokens.specs.Tokens.{tokens_of}
 use Rattle.sql_tokens.specs.Words.{bytes_of, word_of, same_text, says, is_symbol}
 use Rattle.sql_tokens.specs.declared.token.Token.{Token}
 use Rattle.sql_tokens.specs.declared.token.TokenKind.{TokenKind}
-use Rattle.sql_tokens.specs.declared.token.TokenKind.TheVariants.{Quoted, UserVar, SysVar, Executed, Unclosed}
+use Rattle.sql_tokens.specs.declared.token.TokenKind.TheVariants.{Quoted, Word, UserVar, SysVar, Executed, Unclosed}
 use Rattle.session_vars.specs.Statement.{without_comments}
 
 -- the tokens of a text that count: all but its comments
@@ -73,16 +73,47 @@ abbrev pub is_part : (name : Option (List ℕ)) → (part : List ℕ) → Bool
 is_part None part = false
 is_part (Some name) part = has_part name part
 
+-- bytes of other alphabets in a name, where a server may take a letter with an accent for the one without
+abbrev pub is_wide : List ℕ → Bool
+is_wide bytes = not (list_all (λ b. nat_lt b 128) bytes)
+
+abbrev pub is_wide_name : Option (List ℕ) → Bool
+is_wide_name None = false
+is_wide_name (Some name) = is_wide name
+
+abbrev pub has_wide_variable : (text : List ℕ) → List Token → Bool
+has_wide_variable text tokens = list_any (λ token. is_wide_name (variable_of text token)) tokens
+
 -- a system variable with this part stands somewhere
 abbrev pub has_variable : (text : List ℕ) → List Token → (part : List ℕ) → Bool
 has_variable text tokens part = list_any (λ token. is_part (variable_of text token) part) tokens
 
--- what lives in a session, or can't be read as a server does: a user variable, an executed comment, what isn't closed, a
--- NUL byte, and half of a system variable
+-- what isn't read as a server does: an executed comment, what isn't closed, and a NUL byte
+abbrev pub is_unread_kind : TokenKind → Bool
+is_unread_kind Executed = true
+is_unread_kind Unclosed = true
+is_unread_kind _ = false
+
+abbrev pub is_unread : (text : List ℕ) → Token → Bool
+is_unread text token = is_unread_kind token.kind || is_symbol text token 0
+
+abbrev pub has_unread : (text : List ℕ) → List Token → Bool
+has_unread text tokens = list_any (is_unread text) tokens
+
+-- FROM, and not in backticks
+abbrev pub is_plain_word : TokenKind → Bool
+is_plain_word Word = true
+is_plain_word _ = false
+
+abbrev pub is_from : (text : List ℕ) → Token → Bool
+is_from text token = says text token (codes "FROM") && is_plain_word token.kind
+
+abbrev pub has_from : (text : List ℕ) → List Token → Bool
+has_from text tokens = list_any (is_from text) tokens
+
+-- what lives in a session, or may be read in another way: a user variable, and half of a system variable
 abbrev pub is_hidden_kind : TokenKind → Bool
 is_hidden_kind UserVar = true
-is_hidden_kind Executed = true
-is_hidden_kind Unclosed = true
 is_hidden_kind _ = false
 
 -- scopes that are no names of variables
@@ -95,7 +126,7 @@ is_half SysVar bytes = list_any (same_text (drop 2 bytes)) variable_scopes || na
 is_half _ bytes = false
 
 abbrev pub is_hidden : (text : List ℕ) → Token → Bool
-is_hidden text token = is_hidden_kind token.kind || is_symbol text token 0 || is_half token.kind (bytes_of text token)
+is_hidden text token = is_hidden_kind token.kind || is_half token.kind (bytes_of text token)
 
 abbrev pub has_hidden : (text : List ℕ) → List Token → Bool
 has_hidden text tokens = list_any (is_hidden text) tokens

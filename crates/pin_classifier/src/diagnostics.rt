@@ -1,36 +1,32 @@
-// Words by which a statement may read what the statement before it left.
+// Words of a list, in a statement and in its executed comments.
 ghost use Rattle.std.specs.Prelude.{◌≡◌, option_copied};
-ghost use Rattle.pin_classifier.specs.Diagnostics.{any_diagnostics, diagnoses, inside_comment, is_diagnostic, is_executed, names_diagnostics};
+ghost use Rattle.pin_classifier.specs.Diagnostics.{has_any_part, inside_comment, is_any_part, names_any, tells, text_names_any};
 
-use crate::words::{is_part, variable_of};
-use sql_tokens::{Token, TokenKind, Tokens, behind, bytes_of, front, is_one_of, word_of};
+use crate::word_list::{WordList, is_any, lists};
+use crate::words::variable_of;
+use sql_tokens::{Token, TokenKind, Tokens, behind, bytes_of, front, word_of};
 
-// MySQL Reference Manual, "Information Functions", "SHOW WARNINGS Statement", "GET DIAGNOSTICS Statement".
-static DIAGNOSTIC_WORDS: [&[u8]; 7] = [
-    b"ROW_COUNT",
-    b"FOUND_ROWS",
-    b"WARNINGS",
-    b"ERRORS",
-    b"DIAGNOSTICS",
-    b"WARNING_COUNT",
-    b"ERROR_COUNT",
-];
-
-fn is_diagnostic(word: Option<&[u8]>) -> bool
-    ensures { result ≡ is_diagnostic (option_copied word.entry) }
+// Whether one of the parts of a name, between its dots, is in a list.
+fn has_any_part(words: WordList, name: &[u8]) -> bool
+    ensures { result ≡ has_any_part words name.now }
 {
-    match word {
-        Some(word) => is_one_of(word, &DIAGNOSTIC_WORDS),
+    name.split(|byte| *byte == b'.')
+        .any(|part| lists(words, part))
+}
+
+pub(crate) fn is_any_part(words: WordList, name: Option<&[u8]>) -> bool
+    ensures { result ≡ is_any_part words (option_copied name.entry) }
+{
+    match name {
+        Some(name) => has_any_part(words, name),
         None => false,
     }
 }
 
-fn names_diagnostics(text: &[u8], token: &Token) -> bool
-    ensures { result ≡ names_diagnostics text.now token.now }
+fn names_any(words: WordList, text: &[u8], token: &Token) -> bool
+    ensures { result ≡ names_any words text.now token.now }
 {
-    is_diagnostic(word_of(text, token))
-        || is_part(variable_of(text, token), b"warning_count")
-        || is_part(variable_of(text, token), b"error_count")
+    is_any(words, word_of(text, token)) || is_any_part(words, variable_of(text, token))
 }
 
 // What stands inside an executed comment.
@@ -41,29 +37,23 @@ fn inside_comment(bytes: &[u8]) -> &[u8]
     front(rest, rest.len().saturating_sub(2))
 }
 
-fn any_diagnostics(text: &[u8]) -> bool
-    ensures { result ≡ any_diagnostics text.now }
+fn text_names_any(words: WordList, text: &[u8]) -> bool
+    ensures { result ≡ text_names_any words text.now }
 {
     for token in Tokens::of(text) {
-        if names_diagnostics(text, &token) {
+        if names_any(words, text, &token) {
             return true;
         }
     }
     false
 }
 
-// Whether a token is such a word, or an executed comment with one.
-pub(crate) fn diagnoses(text: &[u8], token: &Token) -> bool
-    ensures { result ≡ diagnoses text.now token.now }
+// Whether a token is a word of a list, or an executed comment with one.
+pub(crate) fn tells(words: WordList, text: &[u8], token: &Token) -> bool
+    ensures { result ≡ tells words text.now token.now }
 {
     match token.kind {
-        TokenKind::Executed => any_diagnostics(inside_comment(bytes_of(text, token))),
-        _ => names_diagnostics(text, token),
+        TokenKind::Executed => text_names_any(words, inside_comment(bytes_of(text, token))),
+        _ => names_any(words, text, token),
     }
-}
-
-pub(crate) fn is_executed(token: &Token) -> bool
-    ensures { result ≡ is_executed token.now }
-{
-    token.kind == TokenKind::Executed
 }

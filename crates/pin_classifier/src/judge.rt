@@ -1,6 +1,6 @@
 // The class of a statement, whose first word is called its verb.
 ghost use Rattle.std.specs.Prelude.{◌≡◌, IfOk, option_copied};
-ghost use Rattle.pin_classifier.specs.Classes.{begins_other, class_of, first, gives_id, is_connection_id, is_deep, is_deep_inside, is_deep_start, is_global, is_next_transaction, is_other, is_use, locking_of, names_connection, reads_diagnostics, reads_id, refusal_of, sets_id};
+ghost use Rattle.pin_classifier.specs.Classes.{begins_other, class_of, ends_transaction_of, first, gives_id, hides_diagnostics, is_connection_id, is_deep, is_deep_inside, is_deep_start, is_global, is_next_transaction, is_other, is_unread_text, is_use, keeps_diagnostics, keeps_found, locking_of, names_connection, outlasts_reset, reads_diagnostics, reads_found, reads_id, reads_last, refusal_of, second, sets_id, third, uses_table};
 ghost use Rattle.pin_classifier.specs.Passing.{seen_of};
 ghost use Rattle.pin_classifier.specs.Shapes.{set_in, shape_of};
 ghost use Rattle.pin_classifier.specs.Statement.{statement};
@@ -10,8 +10,8 @@ use crate::seen::Seen;
 use crate::shape::{is_end, shape_of};
 use crate::starts::{
     analyzes_other, begins_unknown, changes_schema, ends_transaction, explains, gives_rows,
-    is_savepoint, locks_other, locks_tables, makes_id, outlasts_reset, returns_rows,
-    shows_diagnostics, starts_other, unlocks_tables,
+    goes_back, is_savepoint, locks_other, locks_tables, makes_id, returns_rows, shows_connection,
+    shows_diagnostics, starts_other, unlocks_tables, writes_tables,
 };
 use crate::words::{first_word, next_word};
 use crate::{Class, Locking, Refusal, Shape};
@@ -73,20 +73,29 @@ fn gives_id(text: &[u8], seen: &Seen) -> bool
     seen.calls.last_insert_id && stands(text, Mark::GivenId)
 }
 
+// Whether a server may read a statement as another one.
+#[tactic(auto, unfolding(crate::specs::Classes::is_unread_text))]
+fn is_unread_text(text: &[u8], seen: &Seen) -> bool
+    requires { seen.now ≡ seen_of text.now (statement text.now) }
+    ensures { result ≡ is_unread_text text.now }
+{
+    seen.unread || (has_blank_byte(text) && stands(text, Mark::BlankInWord))
+}
+
 // Whether something in it lives in a session, or can't be read as a server does.
 #[tactic(auto, unfolding(crate::specs::Classes::is_deep_inside))]
-fn is_deep_inside(text: &[u8], seen: &Seen, verb: Option<&[u8]>, gives: bool) -> bool
+fn is_deep_inside(text: &[u8], seen: &Seen, verb: Option<&[u8]>, unread: bool) -> bool
     requires verb { option_copied verb ≡ first text.now }
     requires seen { seen.now ≡ seen_of text.now (statement text.now) }
-    requires gives { gives ≡ gives_id text.now }
+    requires unread { unread ≡ is_unread_text text.now }
     ensures { result ≡ is_deep_inside text.now }
 {
-    seen.hidden
+    unread
+        || seen.hidden
         || seen.calls.session_function
         || seen.quoted_call
-        || (seen.value && stands(text, Mark::SequenceValue))
-        || (has_blank_byte(text) && stands(text, Mark::BlankInWord))
-        || (gives && !gives_rows(verb))
+        || seen.variables.wide
+        || (!gives_rows(verb) && gives_id(text, seen))
 }
 
 // BEGIN but for BEGIN, BEGIN WORK and a `;`.
@@ -123,14 +132,14 @@ fn is_deep_start(text: &[u8], seen: &Seen, verb: Option<&[u8]>) -> bool
 
 // Whether a statement may change its session in a way that isn't tracked.
 #[tactic(auto, using(crate::proofs::Sets::shape_of_set), unfolding(crate::specs::Classes::is_deep, crate::specs::Classes::uses_other))]
-fn is_deep(text: &[u8], seen: &Seen, shape: &Shape, verb: Option<&[u8]>, gives: bool) -> bool
+fn is_deep(text: &[u8], seen: &Seen, shape: &Shape, verb: Option<&[u8]>, unread: bool) -> bool
     requires verb { option_copied verb ≡ first text.now }
     requires seen { seen.now ≡ seen_of text.now (statement text.now) }
-    requires gives { gives ≡ gives_id text.now }
+    requires unread { unread ≡ is_unread_text text.now }
     requires shape { shape.now ≡ shape_of text.now }
     ensures { result ≡ is_deep text.now }
 {
-    is_deep_inside(text, seen, verb, gives)
+    is_deep_inside(text, seen, verb, unread)
         || is_deep_start(text, seen, verb)
         || is_other(shape)
         || (is_word(verb, b"USE") && !is_use(shape))
@@ -147,20 +156,29 @@ fn reads_id(text: &[u8], seen: &Seen) -> bool
 
 // Whether a statement sets the insert id where its reply doesn't show it.
 #[tactic(auto, unfolding(crate::specs::Classes::sets_id))]
-fn sets_id(text: &[u8], seen: &Seen, verb: Option<&[u8]>, gives: bool) -> bool
+fn sets_id(text: &[u8], seen: &Seen, verb: Option<&[u8]>) -> bool
     requires verb { option_copied verb ≡ first text.now }
     requires seen { seen.now ≡ seen_of text.now (statement text.now) }
-    requires gives { gives ≡ gives_id text.now }
     ensures { result ≡ sets_id text.now }
 {
-    (gives && gives_rows(verb)) || (returns_rows(verb) && seen.returning)
+    (gives_rows(verb) && gives_id(text, seen)) || (returns_rows(verb) && seen.returning)
+}
+
+// Whether a statement has words of diagnostics, and may be read as another one.
+#[tactic(auto, unfolding(crate::specs::Classes::hides_diagnostics))]
+fn hides_diagnostics(text: &[u8], unread: bool) -> bool
+    requires { unread ≡ is_unread_text text.now }
+    ensures { result ≡ hides_diagnostics text.now }
+{
+    unread && stands(text, Mark::Diagnostic)
 }
 
 // Whether a statement reads what the statement before it left.
 #[tactic(auto, unfolding(crate::specs::Classes::reads_diagnostics))]
-fn reads_diagnostics(text: &[u8], seen: &Seen, verb: Option<&[u8]>) -> bool
+fn reads_diagnostics(text: &[u8], seen: &Seen, verb: Option<&[u8]>, unread: bool) -> bool
     requires verb { option_copied verb ≡ first text.now }
     requires seen { seen.now ≡ seen_of text.now (statement text.now) }
+    requires unread { unread ≡ is_unread_text text.now }
     ensures { result ≡ reads_diagnostics text.now }
 {
     let second = next_word(text, seen.opening.second);
@@ -169,7 +187,90 @@ fn reads_diagnostics(text: &[u8], seen: &Seen, verb: Option<&[u8]>) -> bool
         || shows_diagnostics(verb, second)
         || seen.variables.warning_count
         || seen.variables.error_count
-        || (seen.executed && stands(text, Mark::Diagnostic))
+        || seen.variables.wide
+        || hides_diagnostics(text, unread)
+}
+
+// Whether a statement may read how many rows an earlier one found.
+#[tactic(auto, unfolding(crate::specs::Classes::reads_found))]
+fn reads_found(text: &[u8], seen: &Seen, unread: bool) -> bool
+    requires seen { seen.now ≡ seen_of text.now (statement text.now) }
+    requires unread { unread ≡ is_unread_text text.now }
+    ensures { result ≡ reads_found text.now }
+{
+    seen.calls.found_rows || hides_diagnostics(text, unread)
+}
+
+// Whether a statement surely uses a table.
+#[tactic(auto, unfolding(crate::specs::Classes::uses_table))]
+fn uses_table(text: &[u8], seen: &Seen, verb: Option<&[u8]>) -> bool
+    requires verb { option_copied verb ≡ first text.now }
+    requires seen { seen.now ≡ seen_of text.now (statement text.now) }
+    ensures { result ≡ uses_table text.now }
+{
+    writes_tables(verb, next_word(text, seen.opening.second))
+        || (is_word(verb, b"SELECT") && seen.from && !seen.dual && !seen.calls.from_function)
+}
+
+// Whether an older count of found rows may stand behind a statement.
+#[tactic(auto, unfolding(crate::specs::Classes::keeps_found))]
+fn keeps_found(text: &[u8], seen: &Seen, verb: Option<&[u8]>, unread: bool) -> bool
+    requires verb { option_copied verb ≡ first text.now }
+    requires seen { seen.now ≡ seen_of text.now (statement text.now) }
+    requires unread { unread ≡ is_unread_text text.now }
+    ensures { result ≡ keeps_found text.now }
+{
+    unread || !is_word(verb, b"SELECT") || seen.into
+}
+
+// Whether a statement ends a transaction, whatever is open.
+#[tactic(auto, unfolding(crate::specs::Classes::ends_transaction_of))]
+fn ends_transaction_of(text: &[u8], seen: &Seen, verb: Option<&[u8]>, unread: bool) -> bool
+    requires verb { option_copied verb ≡ first text.now }
+    requires seen { seen.now ≡ seen_of text.now (statement text.now) }
+    requires unread { unread ≡ is_unread_text text.now }
+    ensures { result ≡ ends_transaction_of text.now }
+{
+    ends_transaction(verb)
+        && !unread
+        && !goes_back(
+            next_word(text, seen.opening.second),
+            next_word(text, seen.opening.third),
+        )
+}
+
+// Whether no reset takes back what a statement may do.
+#[tactic(auto, using(crate::proofs::Sets::shape_of_set), unfolding(crate::specs::Classes::outlasts_reset))]
+fn outlasts_reset(
+    text: &[u8],
+    seen: &Seen,
+    shape: &Shape,
+    verb: Option<&[u8]>,
+    unread: bool,
+) -> bool
+    requires verb { option_copied verb ≡ first text.now }
+    requires seen { seen.now ≡ seen_of text.now (statement text.now) }
+    requires shape { shape.now ≡ shape_of text.now }
+    requires unread { unread ≡ is_unread_text text.now }
+    ensures { result ≡ outlasts_reset text.now }
+{
+    unread
+        || begins_unknown(text, seen.opening.first)
+        || begins_other(text, seen, verb)
+        || (is_other(shape) && stands(text, Mark::Lasting))
+}
+
+// Whether a statement reads a last value.
+#[tactic(auto, unfolding(crate::specs::Classes::reads_last))]
+fn reads_last(text: &[u8], seen: &Seen, unread: bool) -> bool
+    requires seen { seen.now ≡ seen_of text.now (statement text.now) }
+    requires unread { unread ≡ is_unread_text text.now }
+    ensures { result ≡ reads_last text.now }
+{
+    seen.calls.last_function
+        || seen.variables.last_gtid
+        || (seen.value && stands(text, Mark::PreviousValue))
+        || (unread && stands(text, Mark::LastValue))
 }
 
 // Whether a statement names a connection.
@@ -184,14 +285,22 @@ fn names_connection(text: &[u8], seen: &Seen, shape: &Shape, verb: Option<&[u8]>
         || (seen.calls.connection_id && !is_connection_id(shape))
         || seen.calls.thread_function
         || seen.variables.pseudo_thread_id
+        || shows_connection(verb, next_word(text, seen.opening.second))
         || (explains(verb) && stands(text, Mark::ForConnection))
 }
 
 // Why a statement is refused.
 #[tactic(auto, using(crate::proofs::Sets::shape_of_set), unfolding(crate::specs::Classes::refusal_of))]
-fn refusal_of(text: &[u8], seen: &Seen, shape: &Shape, verb: Option<&[u8]>) -> Option<Refusal>
+fn refusal_of(
+    text: &[u8],
+    seen: &Seen,
+    shape: &Shape,
+    verb: Option<&[u8]>,
+    unread: bool,
+) -> Option<Refusal>
     requires verb { option_copied verb ≡ first text.now }
     requires seen { seen.now ≡ seen_of text.now (statement text.now) }
+    requires unread { unread ≡ is_unread_text text.now }
     requires shape { shape.now ≡ shape_of text.now }
     ensures { result ≡ refusal_of text.now }
 {
@@ -199,13 +308,15 @@ fn refusal_of(text: &[u8], seen: &Seen, shape: &Shape, verb: Option<&[u8]>) -> O
         Some(Refusal::SetsServer)
     } else if names_connection(text, seen, shape, verb) {
         Some(Refusal::NamesConnection)
+    } else if reads_last(text, seen, unread) {
+        Some(Refusal::ReadsLast)
     } else {
         None
     }
 }
 
 // The class of a statement, by what was seen of it.
-#[tactic(auto, using(crate::proofs::Sets::shape_of_set), unfolding(crate::specs::Classes::class_of, crate::specs::Classes::marks_id))]
+#[tactic(auto, using(crate::proofs::Sets::shape_of_set), unfolding(crate::specs::Classes::class_of, crate::specs::Classes::keeps_diagnostics, crate::specs::Classes::marks_id))]
 fn class_by(text: &[u8], seen: &Seen, shape: Shape) -> Class
     requires seen { seen.now ≡ seen_of text.now (statement text.now) }
     requires shape { shape ≡ shape_of text.now }
@@ -213,22 +324,25 @@ fn class_by(text: &[u8], seen: &Seen, shape: Shape) -> Class
 {
     let verb = first_word(text, seen.opening.first);
     let second = next_word(text, seen.opening.second);
-    let third = next_word(text, seen.opening.third);
-    let gives = gives_id(text, seen);
-    let deep = is_deep(text, seen, &shape, verb, gives);
+    let unread = is_unread_text(text, seen);
+    let deep = is_deep(text, seen, &shape, verb, unread);
     let reads_id = reads_id(text, seen);
     Class {
         deep,
         locks: locking_of(verb, second),
         next_tx: is_next_transaction(&shape),
         savepoint: is_savepoint(verb),
-        outlasts_reset: outlasts_reset(verb, second, third),
+        ends_tx: ends_transaction_of(text, seen, verb, unread),
+        outlasts_reset: outlasts_reset(text, seen, &shape, verb, unread),
         marks_id: reads_id | deep | makes_id(verb),
-        sets_id: sets_id(text, seen, verb, gives),
+        sets_id: sets_id(text, seen, verb),
         reads_id,
-        reads_diag: reads_diagnostics(text, seen, verb),
+        reads_diag: reads_diagnostics(text, seen, verb, unread),
+        reads_found: reads_found(text, seen, unread),
+        keeps_diag: unread || !uses_table(text, seen, verb),
+        keeps_found: keeps_found(text, seen, verb, unread),
         calc_rows: seen.calc_rows,
-        refusal: refusal_of(text, seen, &shape, verb),
+        refusal: refusal_of(text, seen, &shape, verb, unread),
         shape,
     }
 }

@@ -13,6 +13,7 @@ mod seen;
 mod shape;
 mod starts;
 mod variables;
+mod word_list;
 mod words;
 
 pub use class::{Class, ClassName, Locking, Refusal, Shape};

@@ -1,25 +1,41 @@
 // What is looked for in statements that may have it.
 ghost use Rattle.std.specs.Prelude.{◌≡◌, nat_eq};
 ghost use Rattle.std.specs.List.{list_any};
-ghost use Rattle.pin_classifier.specs.Marks.{has_blank, passes, stands};
+ghost use Rattle.pin_classifier.specs.Marks.{has_blank, lasts, passes, stands};
 
-use crate::diagnostics::diagnoses;
+use crate::diagnostics::{is_any_part, tells};
 use crate::recent::Recent;
-use crate::words::{is_byte, is_there};
-use sql_tokens::{Token, TokenKind, Tokens, bytes_of, is_symbol, says};
+use crate::word_list::{WordList, is_any};
+use crate::words::{is_byte, is_there, is_wide_name, variable_of};
+use sql_tokens::{Token, TokenKind, Tokens, bytes_of, is_symbol, says, word_of};
 
 #[derive(Clone, Copy)]
 pub(crate) enum Mark {
     // A call of LAST_INSERT_ID with an argument, which becomes the insert id (MySQL Reference Manual, "Information
     // Functions").
     GivenId,
-    // NEXT VALUE FOR and PREVIOUS VALUE FOR (MariaDB, "Sequence Functions").
-    SequenceValue,
+    // PREVIOUS VALUE FOR (MariaDB, "Sequence Functions").
+    PreviousValue,
     ForConnection,
     // A byte A0 in a word, which servers may read as a blank.
     BlankInWord,
-    // What reads diagnostics, also in executed comments.
+    // What reads diagnostics or last values, also in executed comments.
     Diagnostic,
+    LastValue,
+    // What a SET statement may set that no reset takes back, or that changes how statements are read.
+    Lasting,
+}
+
+// Whether a token is a word of what lasts, or a name that may be read as one.
+fn lasts(text: &[u8], token: &Token) -> bool
+    ensures { result ≡ lasts text.now token.now }
+{
+    let word = word_of(text, token);
+    let variable = variable_of(text, token);
+    is_any(WordList::Lasting, word)
+        || is_wide_name(word)
+        || is_any_part(WordList::Lasting, variable)
+        || is_wide_name(variable)
 }
 
 #[tactic(auto, using(crate::proofs::Blanks::no_blank))]
@@ -48,17 +64,18 @@ fn passes(text: &[u8], mark: Mark, recent: Recent, token: &Token) -> bool
                 && is_there(text, recent.earlier, b"LAST_INSERT_ID")
                 && !is_symbol(text, token, b')')
         }
-        Mark::SequenceValue => {
+        Mark::PreviousValue => {
             says(text, token, b"FOR")
                 && is_there(text, recent.last, b"VALUE")
-                && (is_there(text, recent.earlier, b"NEXT")
-                    || is_there(text, recent.earlier, b"PREVIOUS"))
+                && is_there(text, recent.earlier, b"PREVIOUS")
         }
         Mark::ForConnection => {
             says(text, token, b"CONNECTION") && is_there(text, recent.last, b"FOR")
         }
         Mark::BlankInWord => has_blank(token.kind, bytes_of(text, token)),
-        Mark::Diagnostic => diagnoses(text, token),
+        Mark::Diagnostic => tells(WordList::Diagnostics, text, token),
+        Mark::LastValue => tells(WordList::LastValues, text, token),
+        Mark::Lasting => lasts(text, token),
     }
 }
 

@@ -4,28 +4,33 @@ ghost use Rattle.pin_classifier.specs.Passing.{seen_of, with_next};
 ghost use Rattle.pin_classifier.specs.Statement.{statement};
 
 use crate::calls::Calls;
-use crate::diagnostics::is_executed;
 use crate::opening::Opening;
 use crate::variables::Variables;
-use crate::words::{callee, is_hidden, is_quoted_call, is_release, variable_of};
+use crate::words::{
+    callee, is_from, is_hidden, is_quoted_call, is_release, is_unread, variable_of,
+};
 use sql_tokens::{Token, TokenKind, Tokens, is_word, word_of};
 
 // The first tokens of a statement, and what stands anywhere in it.
 #[derive(Clone, Copy)]
 pub(crate) struct Seen {
     pub opening: Opening,
-    // A user variable, an executed comment, what isn't closed, a NUL byte, or half of a system variable.
+    // A user variable, or half of a system variable.
     pub hidden: bool,
+    // An executed comment, what isn't closed, or a NUL byte.
+    pub unread: bool,
     pub calls: Calls,
     pub variables: Variables,
     // The words TEMPORARY, RELEASE but for NO RELEASE, and SQL_CALC_FOUND_ROWS.
     pub temporary: bool,
     pub release: bool,
     pub calc_rows: bool,
-    // The words RETURNING and VALUE, an executed comment, and `(` behind a quoted text in `"`.
+    // The words RETURNING, VALUE, FROM but in backticks, DUAL and INTO, and `(` behind a quoted text in `"`.
     pub returning: bool,
     pub value: bool,
-    pub executed: bool,
+    pub from: bool,
+    pub dual: bool,
+    pub into: bool,
     pub quoted_call: bool,
 }
 
@@ -36,6 +41,7 @@ impl Seen {
         Seen {
             opening: Opening::new(),
             hidden: false,
+            unread: false,
             calls: Calls::new(),
             variables: Variables::new(),
             temporary: false,
@@ -43,7 +49,9 @@ impl Seen {
             calc_rows: false,
             returning: false,
             value: false,
-            executed: false,
+            from: false,
+            dual: false,
+            into: false,
             quoted_call: false,
         }
     }
@@ -55,6 +63,7 @@ impl Seen {
         let word = word_of(text, &token);
         self.opening.take(token);
         self.hidden |= is_hidden(text, &token);
+        self.unread |= is_unread(text, &token);
         self.calls.take(callee(text, before, &token));
         self.variables.take(variable_of(text, &token));
         self.temporary |= is_word(word, b"TEMPORARY");
@@ -62,7 +71,9 @@ impl Seen {
         self.calc_rows |= is_word(word, b"SQL_CALC_FOUND_ROWS");
         self.returning |= is_word(word, b"RETURNING");
         self.value |= is_word(word, b"VALUE");
-        self.executed |= is_executed(&token);
+        self.from |= is_from(&token, word);
+        self.dual |= is_word(word, b"DUAL");
+        self.into |= is_word(word, b"INTO");
         self.quoted_call |= is_quoted_call(text, before, &token);
     }
 

@@ -1,6 +1,5 @@
 // The shape of a statement.
-ghost use Rattle.std.specs.Prelude.{◌≡◌, nat_lt, IfOk};
-ghost use Rattle.std.specs.List.{list_all};
+ghost use Rattle.std.specs.Prelude.{◌≡◌, IfOk};
 ghost use Rattle.pin_classifier.specs.Passing.{opening_of};
 ghost use Rattle.pin_classifier.specs.Shapes.{asks_connection_id, is_end, undoubled, denoted, used_schema, use_or_other, shape_of};
 ghost use Rattle.pin_classifier.specs.Statement.{statement};
@@ -8,7 +7,7 @@ ghost use Rattle.sql_tokens.specs.Words.{inside};
 
 use crate::Shape;
 use crate::opening::Opening;
-use crate::words::{is_byte, is_there};
+use crate::words::{is_ascii, is_byte, is_there};
 use mx_base::{Bytes, OutOfMemory};
 use session_vars::read_set;
 use sql_tokens::{Token, TokenKind, bytes_of, is_symbol, word_of};
@@ -81,12 +80,6 @@ fn used_schema(alloc: Global, text: &[u8], opening: &Opening) -> Result<Option<B
         Some(name) => denoted(alloc, text, &name),
         None => Ok(None),
     }
-}
-
-fn is_ascii(bytes: &[u8]) -> bool
-    ensures { result ≡ list_all (λ b. nat_lt b 128) bytes.now }
-{
-    bytes.iter().all(|byte| *byte < 0x80)
 }
 
 // What a server makes of a name with other bytes than ASCII depends on the connection.

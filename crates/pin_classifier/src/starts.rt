@@ -1,6 +1,6 @@
 // How statements begin.
 ghost use Rattle.std.specs.Prelude.{◌≡◌, option_copied};
-ghost use Rattle.pin_classifier.specs.Starts.{is_known, begins_unknown, analyzes_other, changes_schema, explains, gives_rows, names_schema, outlasts_reset, returns_rows, starts_other, names_tables, locks_tables, unlocks_tables, locks_other, ends_transaction, is_savepoint, makes_id, shows_diagnostics};
+ghost use Rattle.pin_classifier.specs.Starts.{is_known, begins_unknown, analyzes_other, changes_schema, explains, gives_rows, goes_back, names_schema, returns_rows, shows_connection, starts_other, writes_tables, names_tables, locks_tables, unlocks_tables, locks_other, ends_transaction, is_savepoint, makes_id, shows_diagnostics};
 
 use crate::words::opening_word;
 use sql_tokens::{Token, is_one_of, is_word};
@@ -132,17 +132,34 @@ pub(crate) fn returns_rows(first: Option<&[u8]>) -> bool
     is_word(first, b"INSERT") || is_word(first, b"REPLACE")
 }
 
-// SET ROLE and SET RESOURCE GROUP, which no reset takes back.
-#[tactic(auto, unfolding(crate::specs::Starts::outlasts_reset))]
-pub(crate) fn outlasts_reset(
-    first: Option<&[u8]>,
-    second: Option<&[u8]>,
-    third: Option<&[u8]>,
-) -> bool
-    ensures { result ≡ outlasts_reset (option_copied first.entry) (option_copied second.entry) (option_copied third.entry) }
+// Statements that use a table by how they begin.
+#[tactic(auto, unfolding(crate::specs::Starts::writes_tables))]
+pub(crate) fn writes_tables(first: Option<&[u8]>, second: Option<&[u8]>) -> bool
+    ensures { result ≡ writes_tables (option_copied first.entry) (option_copied second.entry) }
 {
-    is_word(first, b"SET")
-        && (is_word(second, b"ROLE") || (is_word(second, b"RESOURCE") && is_word(third, b"GROUP")))
+    is_word(first, b"INSERT")
+        || is_word(first, b"UPDATE")
+        || is_word(first, b"DELETE")
+        || is_word(first, b"REPLACE")
+        || is_word(first, b"TRUNCATE")
+        || ((is_word(first, b"CREATE") || is_word(first, b"ALTER") || is_word(first, b"DROP"))
+            && is_word(second, b"TABLE"))
+}
+
+// SHOW EXPLAIN and SHOW ANALYZE.
+#[tactic(auto, unfolding(crate::specs::Starts::shows_connection))]
+pub(crate) fn shows_connection(first: Option<&[u8]>, second: Option<&[u8]>) -> bool
+    ensures { result ≡ shows_connection (option_copied first.entry) (option_copied second.entry) }
+{
+    is_word(first, b"SHOW") && (is_word(second, b"EXPLAIN") || is_word(second, b"ANALYZE"))
+}
+
+// ROLLBACK TO, and ROLLBACK WORK TO.
+#[tactic(auto, unfolding(crate::specs::Starts::goes_back))]
+pub(crate) fn goes_back(second: Option<&[u8]>, third: Option<&[u8]>) -> bool
+    ensures { result ≡ goes_back (option_copied second.entry) (option_copied third.entry) }
+{
+    is_word(second, b"TO") || is_word(third, b"TO")
 }
 
 // START but for START TRANSACTION.

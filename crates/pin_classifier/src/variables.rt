@@ -2,7 +2,7 @@
 ghost use Rattle.std.specs.Prelude.{◌≡◌, [], option_copied};
 ghost use Rattle.pin_classifier.specs.Passing.{with_variable, variables_of};
 
-use crate::words::is_part;
+use crate::words::{is_part, is_wide_name};
 
 // Which of these variables are named (MySQL Reference Manual, "Server System Variables").
 #[derive(Clone, Copy)]
@@ -12,6 +12,9 @@ pub(crate) struct Variables {
     pub warning_count: bool,
     pub error_count: bool,
     pub pseudo_thread_id: bool,
+    pub last_gtid: bool,
+    // A name with bytes of other alphabets.
+    pub wide: bool,
 }
 
 impl Variables {
@@ -24,6 +27,8 @@ impl Variables {
             warning_count: false,
             error_count: false,
             pseudo_thread_id: false,
+            last_gtid: false,
+            wide: false,
         }
     }
 
@@ -36,5 +41,7 @@ impl Variables {
         self.warning_count |= is_part(name, b"warning_count");
         self.error_count |= is_part(name, b"error_count");
         self.pseudo_thread_id |= is_part(name, b"pseudo_thread_id");
+        self.last_gtid |= is_part(name, b"last_gtid");
+        self.wide |= is_wide_name(name);
     }
 }

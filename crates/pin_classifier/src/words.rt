@@ -1,10 +1,10 @@
 // What the tokens of a statement say.
-ghost use Rattle.std.specs.Prelude.{◌≡◌, ◌-◌, nat_eq, length, slice_index_or, option_copied};
-ghost use Rattle.std.specs.List.{list_any, slice_split};
+ghost use Rattle.std.specs.Prelude.{◌≡◌, ◌-◌, ◌&&◌, nat_eq, nat_lt, codes, length, slice_index_or, option_copied};
+ghost use Rattle.std.specs.List.{list_all, list_any, slice_split};
 ghost use Rattle.sql_tokens.specs.Words.{is_word, same_text};
 ghost use Rattle.pin_classifier.specs.Passing.{callee, is_quoted_call, is_release};
 ghost use Rattle.pin_classifier.specs.Shapes.{is_there, is_byte};
-ghost use Rattle.pin_classifier.specs.Statement.{first_word, next_word, opening_word, has_part, is_part, is_double_quoted, is_half, is_hidden, is_hidden_kind, releases, variable_of};
+ghost use Rattle.pin_classifier.specs.Statement.{first_word, next_word, opening_word, has_part, is_part, is_double_quoted, is_half, is_hidden, is_hidden_kind, is_plain_word, is_unread, is_unread_kind, is_wide, is_wide_name, releases, variable_of};
 
 use sql_tokens::{
     Token, TokenKind, behind, bytes_of, is_one_of, is_symbol, is_word, same_text, says, word_of,
@@ -55,6 +55,13 @@ pub(crate) fn next_word<'a>(text: &'a [u8], second: Option<Token>) -> Option<&'a
     word_of(text, &second)
 }
 
+// Whether a token is FROM, and not in backticks.
+pub(crate) fn is_from(token: &Token, word: Option<&[u8]>) -> bool
+    ensures { result ≡ is_word (option_copied word.entry) (codes "FROM") && is_plain_word token.now.kind }
+{
+    is_word(word, b"FROM") && token.kind == TokenKind::Word
+}
+
 // The function that is called where this token is a `(` behind a word.
 pub(crate) fn callee<'a>(text: &'a [u8], before: Option<Token>, token: &Token) -> Option<&'a [u8]>
     ensures { option_copied result ≡ callee text.now before token.now }
@@ -98,14 +105,27 @@ pub(crate) fn is_release(text: &[u8], before: Option<Token>, word: Option<&[u8]>
     }
 }
 
-// A user variable, an executed comment, or what isn't closed.
+// An executed comment, or what isn't closed.
+fn is_unread_kind(kind: TokenKind) -> bool
+    ensures { result ≡ is_unread_kind kind }
+{
+    match kind {
+        TokenKind::Executed | TokenKind::Unclosed => true,
+        _ => false,
+    }
+}
+
+// Whether a token isn't read as a server does.
+pub(crate) fn is_unread(text: &[u8], token: &Token) -> bool
+    ensures { result ≡ is_unread text.now token.now }
+{
+    is_unread_kind(token.kind) || is_symbol(text, token, b'\0')
+}
+
 fn is_hidden_kind(kind: TokenKind) -> bool
     ensures { result ≡ is_hidden_kind kind }
 {
-    match kind {
-        TokenKind::UserVar | TokenKind::Executed | TokenKind::Unclosed => true,
-        _ => false,
-    }
+    kind == TokenKind::UserVar
 }
 
 // Scopes that are no names of variables.
@@ -127,13 +147,11 @@ fn ends_in_dot(bytes: &[u8]) -> bool
     !bytes.is_empty() && bytes[bytes.len() - 1] == b'.'
 }
 
-// Whether this token lives in a session, or can't be read as a server does.
+// Whether this token lives in a session, or may be read in another way.
 pub(crate) fn is_hidden(text: &[u8], token: &Token) -> bool
     ensures { result ≡ is_hidden text.now token.now }
 {
-    is_hidden_kind(token.kind)
-        || is_symbol(text, token, b'\0')
-        || is_half(token.kind, bytes_of(text, token))
+    is_hidden_kind(token.kind) || is_half(token.kind, bytes_of(text, token))
 }
 
 // The name of a system variable, behind its `@@`.
@@ -159,6 +177,28 @@ pub(crate) fn is_part(name: Option<&[u8]>, part: &[u8]) -> bool
 {
     match name {
         Some(name) => has_part(name, part),
+        None => false,
+    }
+}
+
+pub(crate) fn is_ascii(bytes: &[u8]) -> bool
+    ensures { result ≡ list_all (λ b. nat_lt b 128) bytes.now }
+{
+    bytes.iter().all(|byte| *byte < 0x80)
+}
+
+// Whether a name has bytes of other alphabets, where a server may take a letter with an accent for the one without.
+fn is_wide(bytes: &[u8]) -> bool
+    ensures { result ≡ is_wide bytes.now }
+{
+    !is_ascii(bytes)
+}
+
+pub(crate) fn is_wide_name(name: Option<&[u8]>) -> bool
+    ensures { result ≡ is_wide_name (option_copied name.entry) }
+{
+    match name {
+        Some(name) => is_wide(name),
         None => false,
     }
 }

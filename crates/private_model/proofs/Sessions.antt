@@ -246,10 +246,10 @@ plain_suits pin s out plain = record {
 pub suits_plain : (pin : Pin) (s : Session) → needs_reset pin ≡ false → Suits pin s → IsPlain s
 suits_plain pin s harmless suits =
     let tx : pin.tx ≡ false = or_left pin.tx _ harmless in
-    let e1 : (pin.after_err || (pin.locks || (pin.next_tx || pin.deep))) ≡ false = or_right pin.tx _ harmless in
-    let e2 : (pin.locks || (pin.next_tx || pin.deep)) ≡ false = or_right pin.after_err _ e1 in
-    let e3 : (pin.next_tx || pin.deep) ≡ false = or_right pin.locks _ e2 in
-    let deep : pin.deep ≡ false = or_right pin.next_tx _ e3 in
+    let e1 : (pin.after_err || (pin.locks || (pin.next_tx || (pin.deep || pin.uncommitted)))) ≡ false = or_right pin.tx _ harmless in
+    let e2 : (pin.locks || (pin.next_tx || (pin.deep || pin.uncommitted))) ≡ false = or_right pin.after_err _ e1 in
+    let e3 : (pin.next_tx || (pin.deep || pin.uncommitted)) ≡ false = or_right pin.locks _ e2 in
+    let deep : pin.deep ≡ false = or_left pin.deep _ (or_right pin.next_tx _ e3) in
     record {
       tx = is_empty s.tx (suits.tx (or_left pin.after_err _ e1) ∙ tx);
       locks = suits.locks deep (or_left pin.locks _ e2);
@@ -260,4 +260,4 @@ pub unpinned_harmless : (pin : Pin) → is_pinned pin ≡ false → needs_reset 
 unpinned_harmless pin e = or_left (needs_reset pin) _ e
 
 pub harmless_shallow : (pin : Pin) → needs_reset pin ≡ false → pin.deep ≡ false
-harmless_shallow pin e = or_right pin.next_tx _ (or_right pin.locks _ (or_right pin.after_err _ (or_right pin.tx _ e)))
+harmless_shallow pin e = or_left pin.deep _ (or_right pin.next_tx _ (or_right pin.locks _ (or_right pin.after_err _ (or_right pin.tx _ e))))

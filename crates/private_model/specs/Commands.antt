@@ -108,7 +108,7 @@ number_in reply = (end_of reply).server_number
 -- The class of a command.
 
 abbrev pub plain_class : Class
-plain_class = record { deep = false; locks = locking.None; next_tx = false; savepoint = false; marks_id = false; reads_id = false; reads_diag = false; calc_rows = false; refusal = None; outlasts_reset = false; sets_id = false; shape = shape.Other }
+plain_class = record { deep = false; locks = locking.None; next_tx = false; savepoint = false; marks_id = false; reads_id = false; reads_diag = false; reads_found = false; keeps_diag = true; keeps_found = true; calc_rows = false; refusal = None; ends_tx = false; outlasts_reset = false; sets_id = false; shape = shape.Other }
 
 -- to prepare a text does nothing of what it says; of a reset and an end nothing is known by their class
 abbrev pub class_of : Reads → Command → Class
@@ -119,7 +119,7 @@ class_of reads (FieldList rest) = plain_class
 class_of reads (Prepare text) = plain_class
 class_of reads (SetId n) = record plain_class { marks_id = true }
 class_of reads ReadId = record plain_class { marks_id = true }
-class_of reads _ = record plain_class { deep = true; marks_id = true; reads_diag = true }
+class_of reads _ = record plain_class { deep = true; marks_id = true; reads_diag = true; reads_found = true }
 
 abbrev pub hides_of : Reads → Command → Bool
 hides_of reads (Query text) = reads.hides_id text

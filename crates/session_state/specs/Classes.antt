@@ -61,6 +61,14 @@ effect_in _ = Neither
 abbrev pub effect_of : Class → Effect
 effect_of class = effect_in class.shape
 
+abbrev pub is_effect : Effect → Bool
+is_effect Neither = false
+is_effect _ = true
+
+-- it sets tracked settings, or chooses a schema
+abbrev pub changes_place : Class → Bool
+changes_place class = is_effect (effect_of class)
+
 abbrev pub is_autocommit : Slot → Bool
 is_autocommit Autocommit = true
 is_autocommit _ = false

@@ -1,5 +1,5 @@
 -- How a reply ended.
-use Rattle.std.specs.Prelude.{ℕ, ◌%◌, Bool, true, false, ◌&&◌, ◌||◌, nat_eq, nat_lt, Option, Some, None}
+use Rattle.std.specs.Prelude.{ℕ, ◌/◌, ◌%◌, Bool, true, false, ◌&&◌, ◌||◌, nat_eq, nat_lt, Option, Some, None}
 use Rattle.session_state.specs.declared.reply_end.EndKind.{EndKind}
 use Rattle.session_state.specs.declared.reply_end.EndKind.TheVariants.{Ok, Err, Prepared}
 use Rattle.session_state.specs.declared.reply_end.ReplyEnd.{ReplyEnd}
@@ -33,6 +33,15 @@ in_transaction (Some flags) = Some (nat_eq (flags % 2) 1)
 -- whether a transaction is open, where the reply says it
 abbrev pub shows_transaction : ReplyEnd → Option Bool
 shows_transaction end = in_transaction end.flags
+
+-- SERVER_STATUS_AUTOCOMMIT, the next one
+abbrev pub autocommit_in : Option ℕ → Option Bool
+autocommit_in None = None
+autocommit_in (Some flags) = Some (nat_eq (flags / 2 % 2) 1)
+
+-- whether autocommit is on, where the reply says it
+abbrev pub shows_autocommit : ReplyEnd → Option Bool
+shows_autocommit end = autocommit_in end.flags
 
 -- it leaves diagnostics
 abbrev pub warns : ReplyEnd → Bool

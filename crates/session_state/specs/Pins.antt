@@ -1,17 +1,17 @@
 -- Why a session keeps its link.
 use Rattle.std.specs.Prelude.{Bool, true, false, not, ◌&&◌, ◌||◌, if◌then◌else◌, Option, Some, None}
 use Rattle.pin_classifier.specs.declared.class.Class.{Class}
-use Rattle.session_state.specs.Classes.{frees_locks, is_lone_savepoint, sets_next, takes_locks}
-use Rattle.session_state.specs.Endings.{is_err, is_prepared, shows_transaction, warns}
+use Rattle.session_state.specs.Classes.{changes_place, frees_locks, is_lone_savepoint, sets_next, takes_locks}
+use Rattle.session_state.specs.Endings.{is_err, is_ok, is_prepared, shows_autocommit, shows_transaction, warns}
 use Rattle.session_state.specs.declared.pin.Pin.{Pin}
 use Rattle.session_state.specs.declared.reply_end.ReplyEnd.{ReplyEnd}
 
 abbrev pub no_pin : Pin
-no_pin = record { deep = false; locks = false; next_tx = false; tx = false; after_err = false; diag = false; rule = false }
+no_pin = record { deep = false; locks = false; next_tx = false; tx = false; after_err = false; uncommitted = false; diag = false; rule = false }
 
 -- only a reset takes it back
 abbrev pub needs_reset : Pin → Bool
-needs_reset pin = pin.tx || (pin.after_err || (pin.locks || (pin.next_tx || pin.deep)))
+needs_reset pin = pin.tx || (pin.after_err || (pin.locks || (pin.next_tx || (pin.deep || pin.uncommitted))))
 
 abbrev pub is_pinned : Pin → Bool
 is_pinned pin = needs_reset pin || (pin.diag || pin.rule)
@@ -40,6 +40,17 @@ next_after class end pin =
 abbrev pub deep_after : Class → Pin → Bool
 deep_after class pin = pin.deep || (class.deep || is_lone_savepoint class (pin.tx && not pin.after_err))
 
+-- Without autocommit a statement may keep metadata locks, also where no transaction shows, until COMMIT or ROLLBACK is answered
+-- OK or autocommit is on. A tracked SET and USE take none; what a statement that was refused took, the next reply tells.
+abbrev pub uncommitted_by : (autocommit : Option Bool) → Class → ReplyEnd → Pin → Bool
+uncommitted_by None class end pin = pin.uncommitted
+uncommitted_by (Some on) class end pin =
+    if (on || (class.ends_tx && is_ok end)) then false
+    else not (changes_place class) || (pin.uncommitted || pin.after_err)
+
+abbrev pub uncommitted_after : Class → ReplyEnd → Pin → Bool
+uncommitted_after class end pin = uncommitted_by (shows_autocommit end) class end pin
+
 abbrev pub diag_after : Class → ReplyEnd → Pin → Bool
 diag_after class end pin = if (warns end || class.calc_rows) then true else if class.reads_diag then pin.diag else false
 
@@ -55,6 +66,7 @@ pin_answered class multiplex end pin = record {
   next_tx = next_after class end pin;
   tx = tx_after (shows_transaction end) pin.tx;
   after_err = is_err end;
+  uncommitted = uncommitted_after class end pin;
   diag = diag_after class end pin;
   rule = rule_after multiplex pin.rule;
 }

@@ -1,11 +1,12 @@
 // What a session has that no other client may meet.
 ghost use Rattle.std.specs.Prelude.{◌≡◌};
-ghost use Rattle.session_state.specs.Classes.{frees_locks, takes_locks};
-ghost use Rattle.session_state.specs.Pins.{deep_after, diag_after, is_pinned, locks_after, needs_reset, next_after, pin_after, rule_after, shows_none};
+ghost use Rattle.session_state.specs.Classes.{changes_place, frees_locks, takes_locks};
+ghost use Rattle.session_state.specs.Pins.{deep_after, diag_after, is_pinned, locks_after, needs_reset, next_after, pin_after, rule_after, shows_none, uncommitted_after};
 ghost use Rattle.session_state.specs.Endings.{shows_transaction};
 
 use crate::{EndKind, ReplyEnd};
-use pin_classifier::{Class, Locking};
+use pin_classifier::{Class, Locking, Shape};
+use session_vars::SetShape;
 
 /// The reasons for which a session keeps its link. None stands at first.
 #[derive(Clone, Copy)]
@@ -20,6 +21,8 @@ pub struct Pin {
     pub tx: bool,
     /// The last reply that counts was an ERR, so that nobody knows whether a transaction is open.
     pub after_err: bool,
+    /// Autocommit is off, and a statement ran that may have taken metadata locks.
+    pub uncommitted: bool,
     /// There are diagnostics to read.
     pub diag: bool,
     /// A rule forbids that the link is shared.
@@ -69,6 +72,28 @@ fn deep_after(pin: Pin, class: &Class) -> bool
     pin.deep || class.deep || (class.savepoint && (!pin.tx || pin.after_err))
 }
 
+fn changes_place(class: &Class) -> bool
+    ensures { result ≡ changes_place class.now }
+{
+    match &class.shape {
+        Shape::Use(_) => true,
+        Shape::Set(SetShape::Tracked(_)) => true,
+        _ => false,
+    }
+}
+
+fn uncommitted_after(pin: Pin, class: &Class, end: &ReplyEnd) -> bool
+    ensures { result ≡ uncommitted_after class.now end.now pin }
+{
+    let Some(on) = end.shows_autocommit() else {
+        return pin.uncommitted;
+    };
+    if on || (class.ends_tx && end.is_ok()) {
+        return false;
+    }
+    !changes_place(class) || pin.uncommitted || pin.after_err
+}
+
 fn diag_after(pin: Pin, class: &Class, end: &ReplyEnd) -> bool
     ensures { result ≡ diag_after class.now end.now pin }
 {
@@ -100,6 +125,7 @@ pub fn pin_after(pin: Pin, class: &Class, multiplex: Option<bool>, end: &ReplyEn
         next_tx: next_after(pin, class, end),
         tx: end.shows_transaction().unwrap_or(pin.tx),
         after_err: end.is_err(),
+        uncommitted: uncommitted_after(pin, class, end),
         diag,
         rule: rule_after(pin.rule, multiplex),
     }
@@ -109,7 +135,7 @@ pub fn pin_after(pin: Pin, class: &Class, multiplex: Option<bool>, end: &ReplyEn
 pub fn needs_reset(pin: Pin) -> bool
     ensures { result ≡ needs_reset pin }
 {
-    pin.tx || pin.after_err || pin.locks || pin.next_tx || pin.deep
+    pin.tx || pin.after_err || pin.locks || pin.next_tx || pin.deep || pin.uncommitted
 }
 
 /// Whether a reason stands. Takes no memory.

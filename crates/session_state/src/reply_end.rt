@@ -1,6 +1,6 @@
 // How a reply ended.
 ghost use Rattle.std.specs.Prelude.{◌≡◌};
-ghost use Rattle.session_state.specs.Endings.{brings_id, is_err, is_ok, shows_transaction, warns};
+ghost use Rattle.session_state.specs.Endings.{brings_id, is_err, is_ok, shows_autocommit, shows_transaction, warns};
 
 /// What ends a reply.
 #[derive(Clone, Copy, PartialEq, Eq)]
@@ -53,6 +53,16 @@ impl ReplyEnd {
         match self.flags {
             None => None,
             Some(flags) => Some(flags % 2 == 1),
+        }
+    }
+
+    /// Whether autocommit is on, where the reply says it (SERVER_STATUS_AUTOCOMMIT).
+    pub fn shows_autocommit(&self) -> Option<bool>
+        ensures { result ≡ shows_autocommit self.now }
+    {
+        match self.flags {
+            None => None,
+            Some(flags) => Some(flags / 2 % 2 == 1),
         }
     }
 

@@ -67,9 +67,10 @@ may_be_modes Word bytes = is_default bytes
 may_be_modes Quoted bytes = not (has_reading_mode (inside bytes))
 may_be_modes _ bytes = false
 
--- sql_select_limit takes no number of 0 or below: one that begins with `0` or `.` isn't looked at further
+-- sql_select_limit takes no number of 0 or below: one that begins with `0` or `.` isn't looked at further. FALSE is 0.
 abbrev pub may_be_limit : TokenKind → List ℕ → Bool
 may_be_limit Number bytes = nat_le 49 (slice_index_or bytes 0 0)
+may_be_limit Word bytes = not (same_text bytes (codes "FALSE"))
 may_be_limit _ bytes = true
 
 -- sql_auto_is_null takes what turns it off, or DEFAULT

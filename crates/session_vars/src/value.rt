@@ -155,12 +155,13 @@ fn may_be_modes(kind: TokenKind, bytes: &[u8]) -> bool
     }
 }
 
-// Whether sql_select_limit may get it: no number of 0 or below, and none that begins with `0` or `.`.
+// Whether sql_select_limit may get it: no number of 0 or below, none that begins with `0` or `.`, and not FALSE, which is 0.
 fn may_be_limit(kind: TokenKind, bytes: &[u8]) -> bool
     ensures { result ≡ may_be_limit kind bytes.now }
 {
     match kind {
         TokenKind::Number => !bytes.is_empty() && bytes[0] >= b'1',
+        TokenKind::Word => !same_text(bytes, b"FALSE"),
         _ => true,
     }
 }

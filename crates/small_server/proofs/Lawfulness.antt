@@ -17,7 +17,7 @@ use Rattle.server_rule.specs.Texts.{read_id_text, set_id_text}
 use Rattle.server_rule.specs.declared.command.Cmd.{Cmd}
 use Rattle.server_rule.specs.declared.command.Cmd.TheVariants.{Query, InitDb, FieldList, Prepare, Run, Reset, Close}
 use Rattle.server_rule.specs.declared.session.Session.{Session}
-use Rattle.small_server.specs.Tally.{Kind, SetsId, ReadsId, Tracks, Chooses, Begins, Commits, Adds, Shows, Refuses, Shown, NoId, FirstId, LaterId, by_kind, digit, id_set, is_special, kind_by, kind_of, next_id, number_of, ok, on_text, prepared, reads_the_id, refusal, row, rows_by, set_prefix, tally, tests, with_effect, without_effect}
+use Rattle.small_server.specs.Tally.{Kind, SetsId, ReadsId, Tracks, Chooses, Begins, Commits, Adds, Shows, Refuses, Shown, NoId, FirstId, LaterId, by_kind, id_set, is_special, kind_by, kind_of, next_id, number_of, ok, on_text, prepared, reads_the_id, refusal, row, rows_by, set_prefix, status, tally, tests, with_effect, without_effect}
 
 apart : {A : Type 0} {b : Bool} → b ≡ true → b ≡ false → A
 apart is isnt = absurd (cc)
@@ -86,7 +86,7 @@ fields_show : (tx : Bool) → shows_transaction (reply_end false ((254 ∷ 0 ∷
 unfolding reply_end
 fields_show tx = refl
 
-fields_shows : (tx : Bool) → shows_transaction (reply_end false ((254 ∷ 0 ∷ 0 ∷ digit tx ∷ 0 ∷ []) ∷ [])) ≡ Some tx
+fields_shows : (tx : Bool) → shows_transaction (reply_end false ((254 ∷ 0 ∷ 0 ∷ status tx ∷ 0 ∷ []) ∷ [])) ≡ Some tx
 unfolding reply_end
 fields_shows true = refl
 fields_shows false = refl

@@ -12,9 +12,9 @@ anything = record { is_data = λ stored. true; is_session = λ tx locks deep dia
 abbrev pub syntax_error : List ℕ
 syntax_error = 255 ∷ 40 ∷ 4 ∷ 35 ∷ 52 ∷ 50 ∷ 48 ∷ 48 ∷ 48 ∷ []
 
--- 0x00, no rows, no insert id, no status flags, no warnings
+-- 0x00, no rows, no insert id, SERVER_STATUS_AUTOCOMMIT, no warnings
 abbrev pub plain_ok : List ℕ
-plain_ok = 0 ∷ 0 ∷ 0 ∷ 0 ∷ 0 ∷ 0 ∷ 0 ∷ []
+plain_ok = 0 ∷ 0 ∷ 0 ∷ 2 ∷ 0 ∷ 0 ∷ 0 ∷ []
 
 abbrev pub refused : (stored : List ℕ) → Session → Outcome
 refused stored s = record { stored = stored; session = record s { diag = [] }; reply = syntax_error ∷ [] }

@@ -33,15 +33,20 @@ abbrev pub digit : Bool → ℕ
 digit true = 1
 digit false = 0
 
+-- status flags: SERVER_STATUS_AUTOCOMMIT, and SERVER_STATUS_IN_TRANS in a transaction
+abbrev pub status : (in_trans : Bool) → ℕ
+status true = 3
+status false = 2
+
 abbrev pub ok : (rows : Bool) → Shown → (in_trans : Bool) → List (List ℕ)
-ok rows id in_trans = (0 ∷ digit rows ∷ id_of id ∷ digit in_trans ∷ 0 ∷ 0 ∷ 0 ∷ []) ∷ []
+ok rows id in_trans = (0 ∷ digit rows ∷ id_of id ∷ status in_trans ∷ 0 ∷ 0 ∷ 0 ∷ []) ∷ []
 
 abbrev pub refusal : List (List ℕ)
 refusal = (255 ∷ 40 ∷ 4 ∷ 35 ∷ []) ∷ []
 
 -- a column count, a column, an EOF, one row of one digit, an EOF
 abbrev pub row : (in_trans : Bool) → (spelled : ℕ) → List (List ℕ)
-row in_trans spelled = (1 ∷ []) ∷ (3 ∷ []) ∷ (254 ∷ 0 ∷ 0 ∷ 0 ∷ 0 ∷ []) ∷ (1 ∷ spelled ∷ []) ∷ (254 ∷ 0 ∷ 0 ∷ digit in_trans ∷ 0 ∷ []) ∷ []
+row in_trans spelled = (1 ∷ []) ∷ (3 ∷ []) ∷ (254 ∷ 0 ∷ 0 ∷ 0 ∷ 0 ∷ []) ∷ (1 ∷ spelled ∷ []) ∷ (254 ∷ 0 ∷ 0 ∷ status in_trans ∷ 0 ∷ []) ∷ []
 
 -- an insert id above 2 isn't told
 abbrev pub id_row : (in_trans : Bool) → (last_id : ℕ) → List (List ℕ)
@@ -143,7 +148,7 @@ abbrev pub tally : Reads → Step
 tally reads stored s (Query text) = on_text (reads.class text) text stored s
 tally reads stored s (Run text schema settings types nulls values long) = on_text (reads.class text) text stored s
 tally reads stored s (InitDb schema) = record { stored = stored; session = record s { schema = schema; diag = [] }; reply = answered s false NoId }
-tally reads stored s (FieldList rest) = record { stored = stored; session = record s { diag = [] }; reply = (254 ∷ 0 ∷ 0 ∷ digit (is_some_of s.tx) ∷ 0 ∷ []) ∷ [] }
+tally reads stored s (FieldList rest) = record { stored = stored; session = record s { diag = [] }; reply = (254 ∷ 0 ∷ 0 ∷ status (is_some_of s.tx) ∷ 0 ∷ []) ∷ [] }
 tally reads stored s (Prepare text) = record { stored = stored; session = record s { diag = [] }; reply = prepared (number_of text) }
 tally reads stored s Reset = record { stored = stored; session = fresh s.user s.found_rows s.schema; reply = ok false NoId false }
 tally reads stored s Close = record { stored = stored; session = fresh s.user s.found_rows s.schema; reply = [] }

@@ -28,7 +28,8 @@ fn flags_of(kind: EndKind) -> Option<u16> {
     }
 }
 
-/// `ok`, `rows`, `err` or `prepared`, and behind it `+tx` for a transaction, `+warning`, `+id` for an insert id.
+/// `ok`, `rows`, `err` or `prepared`, and behind it `+tx` for a transaction, `+manual` for autocommit that is off,
+/// `+manualtx` for both, `+warning`, `+id` for an insert id.
 pub(crate) fn reply_end(answer: &mut Answer, text: &str) -> ReplyEnd {
     let (name, marks) = text.split_once('+').unwrap_or((text, ""));
     let kind = kind_named(answer, name);
@@ -51,6 +52,8 @@ fn set_mark(answer: &mut Answer, end: &mut ReplyEnd, mark: &str) {
     match mark {
         "" => {}
         "tx" => end.flags = Some(IDLE + 1),
+        "manual" => end.flags = Some(0),
+        "manualtx" => end.flags = Some(1),
         "warning" => end.warnings = 1,
         "id" => end.insert_id = 1,
         _ => answer.bad(),

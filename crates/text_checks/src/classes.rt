@@ -47,6 +47,29 @@ fn push_flags(answer: &mut Answer, class: &Class) {
     push_those(answer, 0, &flags);
 }
 
+/// `behind <statement>`: what may stand behind it and of what stood before it, and what else it does to what is open.
+pub(crate) fn behind(fields: &mut Fields<'_>) {
+    let statement = fields.rest_bytes();
+    match classify(fields.answer.alloc(), &statement) {
+        Ok(class) => push_behind(&mut fields.answer, &class),
+        Err(OutOfMemory) => fields.answer.refused(),
+    }
+}
+
+fn push_behind(answer: &mut Answer, class: &Class) {
+    let start = answer.len();
+    let flags = [
+        (class.reads_diag, "reads diagnostics"),
+        (class.reads_found, "reads found rows"),
+        (class.keeps_diag, "keeps diagnostics"),
+        (!class.keeps_diag, "leaves diagnostics"),
+        (class.keeps_found, "keeps found rows"),
+        (!class.keeps_found, "leaves found rows"),
+        (class.ends_tx, "ends a transaction"),
+    ];
+    push_those(answer, start, &flags);
+}
+
 fn push_shape(answer: &mut Answer, shape: &Shape) {
     match shape {
         Shape::ConnectionId => answer.text(", connection id"),

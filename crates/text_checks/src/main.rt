@@ -31,6 +31,7 @@ fn read(fields: &mut Fields<'_>) {
         "texts" => settings::texts(fields),
         "bring" => settings::bring(fields),
         "class" => classes::class(fields),
+        "behind" => classes::behind(fields),
         "opening" => classes::opening(fields),
         "pins" => pins::pins(fields),
         "route" => rules::route(fields),
