@@ -1,13 +1,15 @@
 //! From a log to a story: what the bytes between the router, its clients and its servers tell, and what is promised of them.
 #![tactic(auto)]
 
-ghost use Rattle.std.specs.Prelude.{◌≡◌, ◌≤◌, true, Option, None};
+ghost use Rattle.std.specs.Prelude.{◌≡◌, ◌≤◌, ℕ, true, List, Option, Some, None};
 ghost use Rattle.mx_base.specs.declared.names.LinkId.{LinkId};
 ghost use Rattle.mx_wire.specs.Log.{Log};
 ghost use Rattle.packet_frame.specs.Packets.{Framed};
 ghost use Rattle.private_model.specs.Commands.{runs};
 ghost use Rattle.private_model.specs.Honest.{IsAccepted, IsHonest};
 ghost use Rattle.private_model.specs.Lawful.{IsLawful, MayFree};
+ghost use Rattle.private_model.specs.Names.{SessionName};
+ghost use Rattle.private_model.specs.Story.{Due, message_of};
 ghost use Rattle.private_model.specs.View.{Setup};
 ghost use Rattle.server_rule.specs.Laws.{IsTame};
 ghost use Rattle.server_rule.specs.Servers.{Step, Tests};
@@ -18,8 +20,8 @@ ghost use Rattle.log_story.specs.Headline.{HasPrivateBytes, WritesDue, WritesPri
 ghost use Rattle.log_story.specs.Honest.{IsHonestLog};
 ghost use Rattle.log_story.specs.Said.{IsSaidLog};
 ghost use Rattle.log_story.specs.Owed.{unwritten};
-ghost use Rattle.log_story.specs.Plan.{Plan};
-ghost use Rattle.log_story.specs.Servers.{is_done};
+ghost use Rattle.log_story.specs.Plan.{Plan, own_at};
+ghost use Rattle.log_story.specs.Servers.{due_in, is_done};
 ghost use Rattle.log_story.specs.Tale.{Client, Tale, link_in, view_of};
 ghost use Rattle.log_story.specs.Telling.{story_of};
 
@@ -76,6 +78,12 @@ pub fn messages_wait()
 pub fn captures_come_first()
     ensures { (setup : Setup) (plan : Plan) (client : Client) (message : Option Framed) (tale : Tale)
         → waits_for_capture (view_of setup tale) plan client ≡ true → next_taken setup plan client message tale ≡ None }
+{}
+
+/// A statement that the router gave up isn't due any more: a byte of it is a breach.
+pub fn given_up_is_not_due()
+    ensures { (plan : Plan) (moment ordinal : ℕ) (n : SessionName) (due : Due) (answer : List (List ℕ)) → own_at plan moment (message_of n due) ≡ Some answer
+        → due_in plan moment ordinal n (Some due) ≡ None }
 {}
 
 /// A link that is told to be given back is one that the rules of sending let go.
