@@ -1,0 +1,3 @@
+pub mod Saying
+pub mod Refusals
+pub mod Lapses

@@ -1,0 +1,5 @@
+use Rattle.router_promises.proofs.Refusals.{could-come, placed}
+use Rattle.router_promises.proofs.lasting.lends_in_another_schema.Goals as goal
+
+pub returns : goal.returns
+returns c = λ terms past link n due tells other. other (placed _ _ n due _ (could-come terms past _ tells).fits).schema

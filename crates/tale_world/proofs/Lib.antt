@@ -1,0 +1,15 @@
+pub mod Agreeing
+pub mod Looking
+pub mod Telling
+pub mod Following
+pub mod Planned
+pub mod Testing
+pub mod Lawfully
+pub mod Tested
+pub mod Links
+pub mod Policies
+pub mod Owing
+pub mod Passing
+pub mod Rested
+pub mod First
+pub mod Unborn

@@ -1,0 +1,12 @@
+pub mod Decided
+pub mod Deciding
+pub mod World
+pub mod ByPlan
+pub mod Tests
+pub mod Tested
+pub mod Stands
+pub mod Policy
+pub mod Wishes
+pub mod Served
+pub mod Waits
+pub mod Unborn
