@@ -83,7 +83,7 @@ is_deep_inside text =
     || has_call_of text (statement text) names_session_function
     || has_quoted_call text (statement text)
     || has_wide_variable text (statement text)
-    || (not (gives_rows (first text)) && gives_id text)
+    || (gives_id text && not (gives_rows (first text)))
 
 -- BEGIN but for BEGIN, BEGIN WORK and a `;`
 unfoldable pub begins_other : (text : List ℕ) → Bool
@@ -120,7 +120,7 @@ marks_id text = reads_id text || is_deep text || makes_id (first text)
 -- it sets the insert id where its reply doesn't show it: LAST_INSERT_ID with an argument in INSERT, REPLACE or UPDATE, or
 -- RETURNING in INSERT or REPLACE
 unfoldable pub sets_id : (text : List ℕ) → Bool
-sets_id text = (gives_rows (first text) && gives_id text) || (returns_rows (first text) && has_word text (statement text) (codes "RETURNING"))
+sets_id text = (gives_id text && gives_rows (first text)) || (returns_rows (first text) && has_word text (statement text) (codes "RETURNING"))
 
 -- it has words of diagnostics, and may be read as another statement
 unfoldable pub hides_diagnostics : (text : List ℕ) → Bool
@@ -146,8 +146,8 @@ reads_found text = has_call text (statement text) (codes "FOUND_ROWS") || hides_
 -- DUAL.
 unfoldable pub uses_table : (text : List ℕ) → Bool
 uses_table text =
-    writes_tables (first text) (second text)
-    || (is_word (first text) (codes "SELECT") && has_from text (statement text) && not (has_word text (statement text) (codes "DUAL")) && not (has_call_of text (statement text) (is_any lists.FromFunctions)))
+    (is_word (first text) (codes "SELECT") && has_from text (statement text) && not (has_word text (statement text) (codes "DUAL")) && not (has_call_of text (statement text) (is_any lists.FromFunctions)))
+    || writes_tables (first text) (second text)
 
 -- Behind it older warnings and counts of changed rows may stand: servers clear them with a statement that uses a table.
 unfoldable pub keeps_diagnostics : (text : List ℕ) → Bool
@@ -161,9 +161,9 @@ keeps_found text = is_unread_text text || not (is_word (first text) (codes "SELE
 unfoldable pub ends_transaction_of : (text : List ℕ) → Bool
 ends_transaction_of text = ends_transaction (first text) && not (is_unread_text text) && not (goes_back (second text) (third text))
 
--- No reset takes back what it may do: it can't be read, isn't known, or sets what lasts or how statements are read.
-unfoldable pub outlasts_reset : (text : List ℕ) → Bool
-outlasts_reset text =
+-- No reset takes back what a deep one may do that can't be read, isn't known, or sets what lasts or how statements are read.
+unfoldable pub may_last : (text : List ℕ) → Bool
+may_last text =
     is_unread_text text
     || begins_unknown text (slice_get (statement text) 0)
     || begins_other text
@@ -206,7 +206,7 @@ class_of text = record {
   next_tx = is_next_transaction (set_shape text);
   savepoint = is_savepoint (first text);
   ends_tx = ends_transaction_of text;
-  outlasts_reset = outlasts_reset text;
+  outlasts_reset = is_deep text && may_last text;
   marks_id = marks_id text;
   sets_id = sets_id text;
   reads_id = reads_id text;

@@ -1,6 +1,6 @@
 // The class of a statement, whose first word is called its verb.
 ghost use Rattle.std.specs.Prelude.{◌≡◌, IfOk, option_copied};
-ghost use Rattle.pin_classifier.specs.Classes.{begins_other, class_of, ends_transaction_of, first, gives_id, hides_diagnostics, is_connection_id, is_deep, is_deep_inside, is_deep_start, is_global, is_next_transaction, is_other, is_unread_text, is_use, keeps_diagnostics, keeps_found, locking_of, names_connection, outlasts_reset, reads_diagnostics, reads_found, reads_id, reads_last, refusal_of, second, sets_id, third, uses_table};
+ghost use Rattle.pin_classifier.specs.Classes.{begins_other, class_of, ends_transaction_of, first, gives_id, hides_diagnostics, is_connection_id, is_deep, is_deep_inside, is_deep_start, is_global, is_next_transaction, is_other, is_unread_text, is_use, keeps_diagnostics, keeps_found, locking_of, may_last, names_connection, reads_diagnostics, reads_found, reads_id, reads_last, refusal_of, second, sets_id, third, uses_table};
 ghost use Rattle.pin_classifier.specs.Passing.{seen_of};
 ghost use Rattle.pin_classifier.specs.Shapes.{set_in, shape_of};
 ghost use Rattle.pin_classifier.specs.Statement.{statement};
@@ -84,10 +84,11 @@ fn is_unread_text(text: &[u8], seen: &Seen) -> bool
 
 // Whether something in it lives in a session, or can't be read as a server does.
 #[tactic(auto, unfolding(crate::specs::Classes::is_deep_inside))]
-fn is_deep_inside(text: &[u8], seen: &Seen, verb: Option<&[u8]>, unread: bool) -> bool
+fn is_deep_inside(text: &[u8], seen: &Seen, verb: Option<&[u8]>, unread: bool, gives: bool) -> bool
     requires verb { option_copied verb ≡ first text.now }
     requires seen { seen.now ≡ seen_of text.now (statement text.now) }
     requires unread { unread ≡ is_unread_text text.now }
+    requires gives { gives ≡ gives_id text.now }
     ensures { result ≡ is_deep_inside text.now }
 {
     unread
@@ -95,7 +96,7 @@ fn is_deep_inside(text: &[u8], seen: &Seen, verb: Option<&[u8]>, unread: bool) -
         || seen.calls.session_function
         || seen.quoted_call
         || seen.variables.wide
-        || (!gives_rows(verb) && gives_id(text, seen))
+        || (gives && !gives_rows(verb))
 }
 
 // BEGIN but for BEGIN, BEGIN WORK and a `;`.
@@ -132,14 +133,22 @@ fn is_deep_start(text: &[u8], seen: &Seen, verb: Option<&[u8]>) -> bool
 
 // Whether a statement may change its session in a way that isn't tracked.
 #[tactic(auto, using(crate::proofs::Sets::shape_of_set), unfolding(crate::specs::Classes::is_deep, crate::specs::Classes::uses_other))]
-fn is_deep(text: &[u8], seen: &Seen, shape: &Shape, verb: Option<&[u8]>, unread: bool) -> bool
+fn is_deep(
+    text: &[u8],
+    seen: &Seen,
+    shape: &Shape,
+    verb: Option<&[u8]>,
+    unread: bool,
+    gives: bool,
+) -> bool
     requires verb { option_copied verb ≡ first text.now }
     requires seen { seen.now ≡ seen_of text.now (statement text.now) }
     requires unread { unread ≡ is_unread_text text.now }
+    requires gives { gives ≡ gives_id text.now }
     requires shape { shape.now ≡ shape_of text.now }
     ensures { result ≡ is_deep text.now }
 {
-    is_deep_inside(text, seen, verb, unread)
+    is_deep_inside(text, seen, verb, unread, gives)
         || is_deep_start(text, seen, verb)
         || is_other(shape)
         || (is_word(verb, b"USE") && !is_use(shape))
@@ -156,12 +165,13 @@ fn reads_id(text: &[u8], seen: &Seen) -> bool
 
 // Whether a statement sets the insert id where its reply doesn't show it.
 #[tactic(auto, unfolding(crate::specs::Classes::sets_id))]
-fn sets_id(text: &[u8], seen: &Seen, verb: Option<&[u8]>) -> bool
+fn sets_id(text: &[u8], seen: &Seen, verb: Option<&[u8]>, gives: bool) -> bool
     requires verb { option_copied verb ≡ first text.now }
     requires seen { seen.now ≡ seen_of text.now (statement text.now) }
+    requires gives { gives ≡ gives_id text.now }
     ensures { result ≡ sets_id text.now }
 {
-    (gives_rows(verb) && gives_id(text, seen)) || (returns_rows(verb) && seen.returning)
+    (gives && gives_rows(verb)) || (returns_rows(verb) && seen.returning)
 }
 
 // Whether a statement has words of diagnostics, and may be read as another one.
@@ -208,8 +218,8 @@ fn uses_table(text: &[u8], seen: &Seen, verb: Option<&[u8]>) -> bool
     requires seen { seen.now ≡ seen_of text.now (statement text.now) }
     ensures { result ≡ uses_table text.now }
 {
-    writes_tables(verb, next_word(text, seen.opening.second))
-        || (is_word(verb, b"SELECT") && seen.from && !seen.dual && !seen.calls.from_function)
+    (is_word(verb, b"SELECT") && seen.from && !seen.dual && !seen.calls.from_function)
+        || writes_tables(verb, next_word(text, seen.opening.second))
 }
 
 // Whether an older count of found rows may stand behind a statement.
@@ -239,20 +249,14 @@ fn ends_transaction_of(text: &[u8], seen: &Seen, verb: Option<&[u8]>, unread: bo
         )
 }
 
-// Whether no reset takes back what a statement may do.
-#[tactic(auto, using(crate::proofs::Sets::shape_of_set), unfolding(crate::specs::Classes::outlasts_reset))]
-fn outlasts_reset(
-    text: &[u8],
-    seen: &Seen,
-    shape: &Shape,
-    verb: Option<&[u8]>,
-    unread: bool,
-) -> bool
+// Whether no reset takes back what a deep statement may do.
+#[tactic(auto, using(crate::proofs::Sets::shape_of_set), unfolding(crate::specs::Classes::may_last))]
+fn may_last(text: &[u8], seen: &Seen, shape: &Shape, verb: Option<&[u8]>, unread: bool) -> bool
     requires verb { option_copied verb ≡ first text.now }
     requires seen { seen.now ≡ seen_of text.now (statement text.now) }
     requires shape { shape.now ≡ shape_of text.now }
     requires unread { unread ≡ is_unread_text text.now }
-    ensures { result ≡ outlasts_reset text.now }
+    ensures { result ≡ may_last text.now }
 {
     unread
         || begins_unknown(text, seen.opening.first)
@@ -325,7 +329,8 @@ fn class_by(text: &[u8], seen: &Seen, shape: Shape) -> Class
     let verb = first_word(text, seen.opening.first);
     let second = next_word(text, seen.opening.second);
     let unread = is_unread_text(text, seen);
-    let deep = is_deep(text, seen, &shape, verb, unread);
+    let gives = gives_id(text, seen);
+    let deep = is_deep(text, seen, &shape, verb, unread, gives);
     let reads_id = reads_id(text, seen);
     Class {
         deep,
@@ -333,9 +338,9 @@ fn class_by(text: &[u8], seen: &Seen, shape: Shape) -> Class
         next_tx: is_next_transaction(&shape),
         savepoint: is_savepoint(verb),
         ends_tx: ends_transaction_of(text, seen, verb, unread),
-        outlasts_reset: outlasts_reset(text, seen, &shape, verb, unread),
+        outlasts_reset: deep && may_last(text, seen, &shape, verb, unread),
         marks_id: reads_id | deep | makes_id(verb),
-        sets_id: sets_id(text, seen, verb),
+        sets_id: sets_id(text, seen, verb, gives),
         reads_id,
         reads_diag: reads_diagnostics(text, seen, verb, unread),
         reads_found: reads_found(text, seen, unread),
