@@ -11,7 +11,8 @@ impl Known {
     ghost use Rattle.session_core.specs.Known.{tables_of};
     ghost use Rattle.session_core.specs.Says.{next_leaver};
 
-    /// The link that is to be closed next, a client's first. The close is asked for once.
+    /// The link that is to be closed next, a client's first. The close is asked for once. Where there is none it is that of a client who has
+    /// no more time for its login.
     #[tactic(auto, unfolding(crate::specs::Known::tables_of))]
     pub(crate) fn next_close(&mut self) -> Option<LinkId>
         ensures link { result ≡ next_close (tables_of self.old) }
@@ -29,7 +30,10 @@ impl Known {
             }
         }
         self.leaver = None;
-        self.lender.next_close()
+        match self.lender.next_close() {
+            Some(link) => Some(link),
+            None => self.next_late(),
+        }
     }
 }
 

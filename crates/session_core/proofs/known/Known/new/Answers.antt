@@ -3,4 +3,4 @@ use Rattle.session_core.proofs.known.Known.new.Goals as goal
 
 pub returns-clause-tables : goal.returns-clause-tables
 unfolding tables_of
-returns-clause-tables c = one _ _ refl refl (λ k. rw c.new.ensures.empty refl) (λ k. rw c.new-2.ensures.empty refl) c.new-3.ensures refl
+returns-clause-tables c = one _ _ refl refl (λ k. rw c.new.ensures.empty refl) (λ k. rw c.new-2.ensures.empty refl) c.new-3.ensures refl refl
