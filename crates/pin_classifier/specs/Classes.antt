@@ -60,7 +60,7 @@ makes_temporary text = is_word (first text) (codes "CREATE") && has_word text (s
 
 -- the session's end: COMMIT or ROLLBACK with a word RELEASE that doesn't follow NO
 unfoldable pub ends_session : (text : List ℕ) → Bool
-ends_session text = ends_transaction (first text) && has_release text (statement text)
+ends_session text = has_release text (statement text) && ends_transaction (first text)
 
 -- USE without the shape of it
 unfoldable pub uses_other : (text : List ℕ) → Bool

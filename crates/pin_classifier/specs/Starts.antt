@@ -71,7 +71,7 @@ returns_rows first = is_word first (codes "INSERT") || is_word first (codes "REP
 unfoldable pub writes_tables : (first second : Option (List ℕ)) → Bool
 writes_tables first second =
     is_word first (codes "INSERT") || is_word first (codes "UPDATE") || is_word first (codes "DELETE") || is_word first (codes "REPLACE") || is_word first (codes "TRUNCATE")
-    || ((is_word first (codes "CREATE") || is_word first (codes "ALTER") || is_word first (codes "DROP")) && is_word second (codes "TABLE"))
+    || (is_word second (codes "TABLE") && (is_word first (codes "CREATE") || is_word first (codes "ALTER") || is_word first (codes "DROP")))
 
 -- SHOW EXPLAIN and SHOW ANALYZE, which show what another connection does
 unfoldable pub shows_connection : (first second : Option (List ℕ)) → Bool

@@ -1,6 +1,7 @@
 // The class of a statement, whose first word is called its verb.
-ghost use Rattle.std.specs.Prelude.{◌≡◌, IfOk, option_copied};
-ghost use Rattle.pin_classifier.specs.Classes.{begins_other, class_of, ends_transaction_of, first, gives_id, hides_diagnostics, is_connection_id, is_deep, is_deep_inside, is_deep_start, is_global, is_next_transaction, is_other, is_unread_text, is_use, keeps_diagnostics, keeps_found, locking_of, may_last, names_connection, reads_diagnostics, reads_found, reads_id, reads_last, refusal_of, second, sets_id, third, uses_table};
+ghost use Rattle.std.specs.Prelude.{◌≡◌, IfOk, codes, option_copied};
+ghost use Rattle.sql_tokens.specs.Words.{is_word};
+ghost use Rattle.pin_classifier.specs.Classes.{begins_other, class_of, ends_transaction_of, first, gives_id, hides_diagnostics, is_connection_id, is_deep, is_deep_inside, is_deep_start, is_global, is_next_transaction, is_other, is_unread_text, is_use, keeps_diagnostics, keeps_found, locking_of, may_last, names_connection, reads_diagnostics, reads_found, reads_id, reads_last, refusal_of, second, sets_id, uses_table};
 ghost use Rattle.pin_classifier.specs.Passing.{seen_of};
 ghost use Rattle.pin_classifier.specs.Shapes.{set_in, shape_of};
 ghost use Rattle.pin_classifier.specs.Statement.{statement};
@@ -123,7 +124,7 @@ fn is_deep_start(text: &[u8], seen: &Seen, verb: Option<&[u8]>) -> bool
     let fourth = next_word(text, seen.opening.fourth);
     (is_word(verb, b"CREATE") && seen.temporary)
         || changes_schema(verb, second, third, fourth)
-        || (ends_transaction(verb) && seen.release)
+        || (seen.release && ends_transaction(verb))
         || starts_other(verb, second)
         || begins_other(text, seen, verb)
         || analyzes_other(verb, second, third)
@@ -185,16 +186,22 @@ fn hides_diagnostics(text: &[u8], unread: bool) -> bool
 
 // Whether a statement reads what the statement before it left.
 #[tactic(auto, unfolding(crate::specs::Classes::reads_diagnostics))]
-fn reads_diagnostics(text: &[u8], seen: &Seen, verb: Option<&[u8]>, unread: bool) -> bool
+fn reads_diagnostics(
+    text: &[u8],
+    seen: &Seen,
+    verb: Option<&[u8]>,
+    next: Option<&[u8]>,
+    unread: bool,
+) -> bool
     requires verb { option_copied verb ≡ first text.now }
+    requires next { option_copied next ≡ second text.now }
     requires seen { seen.now ≡ seen_of text.now (statement text.now) }
     requires unread { unread ≡ is_unread_text text.now }
     ensures { result ≡ reads_diagnostics text.now }
 {
-    let second = next_word(text, seen.opening.second);
     seen.calls.row_count
         || seen.calls.found_rows
-        || shows_diagnostics(verb, second)
+        || shows_diagnostics(verb, next)
         || seen.variables.warning_count
         || seen.variables.error_count
         || seen.variables.wide
@@ -213,40 +220,49 @@ fn reads_found(text: &[u8], seen: &Seen, unread: bool) -> bool
 
 // Whether a statement surely uses a table.
 #[tactic(auto, unfolding(crate::specs::Classes::uses_table))]
-fn uses_table(text: &[u8], seen: &Seen, verb: Option<&[u8]>) -> bool
+fn uses_table(
+    text: &[u8],
+    seen: &Seen,
+    verb: Option<&[u8]>,
+    next: Option<&[u8]>,
+    selects: bool,
+) -> bool
     requires verb { option_copied verb ≡ first text.now }
+    requires next { option_copied next ≡ second text.now }
+    requires selects { selects ≡ is_word (first text.now) (codes "SELECT") }
     requires seen { seen.now ≡ seen_of text.now (statement text.now) }
     ensures { result ≡ uses_table text.now }
 {
-    (is_word(verb, b"SELECT") && seen.from && !seen.dual && !seen.calls.from_function)
-        || writes_tables(verb, next_word(text, seen.opening.second))
+    (selects && seen.from && !seen.dual && !seen.calls.from_function) || writes_tables(verb, next)
 }
 
 // Whether an older count of found rows may stand behind a statement.
 #[tactic(auto, unfolding(crate::specs::Classes::keeps_found))]
-fn keeps_found(text: &[u8], seen: &Seen, verb: Option<&[u8]>, unread: bool) -> bool
-    requires verb { option_copied verb ≡ first text.now }
+fn keeps_found(text: &[u8], seen: &Seen, selects: bool, unread: bool) -> bool
+    requires selects { selects ≡ is_word (first text.now) (codes "SELECT") }
     requires seen { seen.now ≡ seen_of text.now (statement text.now) }
     requires unread { unread ≡ is_unread_text text.now }
     ensures { result ≡ keeps_found text.now }
 {
-    unread || !is_word(verb, b"SELECT") || seen.into
+    unread || !selects || seen.into
 }
 
 // Whether a statement ends a transaction, whatever is open.
 #[tactic(auto, unfolding(crate::specs::Classes::ends_transaction_of))]
-fn ends_transaction_of(text: &[u8], seen: &Seen, verb: Option<&[u8]>, unread: bool) -> bool
+fn ends_transaction_of(
+    text: &[u8],
+    seen: &Seen,
+    verb: Option<&[u8]>,
+    next: Option<&[u8]>,
+    unread: bool,
+) -> bool
     requires verb { option_copied verb ≡ first text.now }
+    requires next { option_copied next ≡ second text.now }
     requires seen { seen.now ≡ seen_of text.now (statement text.now) }
     requires unread { unread ≡ is_unread_text text.now }
     ensures { result ≡ ends_transaction_of text.now }
 {
-    ends_transaction(verb)
-        && !unread
-        && !goes_back(
-            next_word(text, seen.opening.second),
-            next_word(text, seen.opening.third),
-        )
+    ends_transaction(verb) && !unread && !goes_back(next, next_word(text, seen.opening.third))
 }
 
 // Whether no reset takes back what a deep statement may do.
@@ -279,8 +295,15 @@ fn reads_last(text: &[u8], seen: &Seen, unread: bool) -> bool
 
 // Whether a statement names a connection.
 #[tactic(auto, unfolding(crate::specs::Classes::names_connection))]
-fn names_connection(text: &[u8], seen: &Seen, shape: &Shape, verb: Option<&[u8]>) -> bool
+fn names_connection(
+    text: &[u8],
+    seen: &Seen,
+    shape: &Shape,
+    verb: Option<&[u8]>,
+    next: Option<&[u8]>,
+) -> bool
     requires verb { option_copied verb ≡ first text.now }
+    requires next { option_copied next ≡ second text.now }
     requires seen { seen.now ≡ seen_of text.now (statement text.now) }
     requires shape { shape.now ≡ shape_of text.now }
     ensures { result ≡ names_connection text.now }
@@ -289,7 +312,7 @@ fn names_connection(text: &[u8], seen: &Seen, shape: &Shape, verb: Option<&[u8]>
         || (seen.calls.connection_id && !is_connection_id(shape))
         || seen.calls.thread_function
         || seen.variables.pseudo_thread_id
-        || shows_connection(verb, next_word(text, seen.opening.second))
+        || shows_connection(verb, next)
         || (explains(verb) && stands(text, Mark::ForConnection))
 }
 
@@ -300,9 +323,11 @@ fn refusal_of(
     seen: &Seen,
     shape: &Shape,
     verb: Option<&[u8]>,
+    next: Option<&[u8]>,
     unread: bool,
 ) -> Option<Refusal>
     requires verb { option_copied verb ≡ first text.now }
+    requires next { option_copied next ≡ second text.now }
     requires seen { seen.now ≡ seen_of text.now (statement text.now) }
     requires unread { unread ≡ is_unread_text text.now }
     requires shape { shape.now ≡ shape_of text.now }
@@ -310,7 +335,7 @@ fn refusal_of(
 {
     if is_global(shape) {
         Some(Refusal::SetsServer)
-    } else if names_connection(text, seen, shape, verb) {
+    } else if names_connection(text, seen, shape, verb, next) {
         Some(Refusal::NamesConnection)
     } else if reads_last(text, seen, unread) {
         Some(Refusal::ReadsLast)
@@ -327,27 +352,28 @@ fn class_by(text: &[u8], seen: &Seen, shape: Shape) -> Class
     ensures { result ≡ class_of text.now }
 {
     let verb = first_word(text, seen.opening.first);
-    let second = next_word(text, seen.opening.second);
+    let next = next_word(text, seen.opening.second);
+    let selects = is_word(verb, b"SELECT");
     let unread = is_unread_text(text, seen);
     let gives = gives_id(text, seen);
     let deep = is_deep(text, seen, &shape, verb, unread, gives);
     let reads_id = reads_id(text, seen);
     Class {
         deep,
-        locks: locking_of(verb, second),
+        locks: locking_of(verb, next),
         next_tx: is_next_transaction(&shape),
         savepoint: is_savepoint(verb),
-        ends_tx: ends_transaction_of(text, seen, verb, unread),
+        ends_tx: ends_transaction_of(text, seen, verb, next, unread),
         outlasts_reset: deep && may_last(text, seen, &shape, verb, unread),
         marks_id: reads_id | deep | makes_id(verb),
         sets_id: sets_id(text, seen, verb, gives),
         reads_id,
-        reads_diag: reads_diagnostics(text, seen, verb, unread),
+        reads_diag: reads_diagnostics(text, seen, verb, next, unread),
         reads_found: reads_found(text, seen, unread),
-        keeps_diag: unread || !uses_table(text, seen, verb),
-        keeps_found: keeps_found(text, seen, verb, unread),
+        keeps_diag: unread || !uses_table(text, seen, verb, next, selects),
+        keeps_found: keeps_found(text, seen, selects, unread),
         calc_rows: seen.calc_rows,
-        refusal: refusal_of(text, seen, &shape, verb, unread),
+        refusal: refusal_of(text, seen, &shape, verb, next, unread),
         shape,
     }
 }

@@ -142,8 +142,8 @@ pub(crate) fn writes_tables(first: Option<&[u8]>, second: Option<&[u8]>) -> bool
         || is_word(first, b"DELETE")
         || is_word(first, b"REPLACE")
         || is_word(first, b"TRUNCATE")
-        || ((is_word(first, b"CREATE") || is_word(first, b"ALTER") || is_word(first, b"DROP"))
-            && is_word(second, b"TABLE"))
+        || (is_word(second, b"TABLE")
+            && (is_word(first, b"CREATE") || is_word(first, b"ALTER") || is_word(first, b"DROP")))
 }
 
 // SHOW EXPLAIN and SHOW ANALYZE.

@@ -70,7 +70,7 @@ impl TameServer for Refuser {
         let alloc = *self.stored.allocator();
         match cmd {
             Cmd::Reset => {
-                let reply = reply_of(alloc, b"\0\0\0\0\0\0\0")?;
+                let reply = reply_of(alloc, b"\0\0\0\x02\0\0\0")?;
                 end(session, alloc)?;
                 Ok(reply)
             }
