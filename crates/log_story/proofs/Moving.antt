@@ -25,7 +25,7 @@ use Rattle.log_story.specs.Executes.{Request, requested}
 use Rattle.log_story.specs.Owed.{name_of}
 use Rattle.log_story.specs.Plan.{Asks, Closes, Plan, Resets, Route, StepText, com_reset, is_now, job_of}
 use Rattle.log_story.specs.Servers.{begins, begun_by, begun_on, copy_by, due_in, ended_by, entered_by, freed_if_done, heard_by, hears, is_done, kind_by}
-use Rattle.log_story.specs.Servers.{may_begin, of_due, or_broke, quits_by, quits_for, read_as, reads_on, reply_in}
+use Rattle.log_story.specs.Servers.{logged_in_as, may_begin, of_due, or_broke, quits_by, quits_for, read_as, reads_on, reply_in}
 use Rattle.log_story.specs.Servers.{reset_by, runs_first, stepped, with_run, writes}
 use Rattle.log_story.specs.Tale.{Client, Tale, Wire, is_reset_step, link_in, tell, view_of, with_wire}
 use Rattle.log_story.specs.Telling.{server_says, wire_with}
@@ -209,7 +209,7 @@ module _ (setup : Setup) (link : LinkId) (tale : Tale) where
   entered-moved : (plan : Plan) (wire : Wire) (said : Opening) → Moved setup (only_link link) nobody tale (entered_by plan link wire said tale)
   entered-moved plan wire (LogsIn said rest) =
       let login = plan.logins link in
-      let account : Account = record { user = login.user; found_rows = login.found_rows } in
+      let account : Account = logged_in_as login in
       let now = record wire { entered = true; unread = rest; written = [] } in
       moved-on setup (only_link link) nobody tale (with_wire link now tale) (tell (LoggedIn link wire.server account) (with_wire link now tale))
       (wire-moved setup link now nobody tale)

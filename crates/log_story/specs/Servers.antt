@@ -11,11 +11,12 @@ use Rattle.reply_track.specs.declared.reply.ReplyKind.TheVariants as kind
 use Rattle.reply_track.specs.Runs.{Ending, Ended, run}
 use Rattle.reply_track.specs.Replying.{payloads_in}
 use Rattle.reply_track.specs.Tracking.{started}
+use Rattle.server_side.specs.Account.{Account as Login}
 use Rattle.server_side.specs.Login.{Opening, LogsIn}
 use Rattle.session_state.specs.Pins.{is_pinned, needs_reset}
 use Rattle.server_rule.specs.Servers.{is_some_of}
 use Rattle.private_model.specs.Names.{ClientNo, LinkId, SessionName}
-use Rattle.private_model.specs.Commands.{Command, FieldList, Prepare, Reply, is_prepare}
+use Rattle.private_model.specs.Commands.{Account, Command, FieldList, Prepare, Reply, is_prepare}
 use Rattle.private_model.specs.Story.{Broke, Capture, Due, End, Freed, Happening, Heard, Left, LoggedIn, Own, Prep, Question, Ran, Sent, Statement, Sync}
 use Rattle.private_model.specs.Story.{Unprepared, command_of, is_client, is_name, message_of}
 use Rattle.private_model.specs.View.{Asked, Answered, Carried, Held, Joined, Lent, Link, Nobody, Quiet, Setup, Stage, View, is_quit, present, session_in}
@@ -24,10 +25,14 @@ use Rattle.log_story.specs.Tale.{Tale, Wire, is_reset_step, link_in, tell, view_
 
 -- The login.
 
+-- As whom the router logs in: of what changes a server's answers it asks for several results, which servers offer, and for found
+-- rows where its client did.
+abbrev pub logged_in_as : Login → Account
+logged_in_as login = record { user = login.user; capabilities = record { found_rows = login.found_rows; multi_results = true; ignore_space = false } }
+
 abbrev pub entered_by : Plan → LinkId → Wire → Opening → Tale → Tale
 entered_by plan link wire (LogsIn said rest) tale =
-    let login = plan.logins link in
-    tell (LoggedIn link wire.server (record { user = login.user; found_rows = login.found_rows }))
+    tell (LoggedIn link wire.server (logged_in_as (plan.logins link)))
     (with_wire link (record wire { entered = true; unread = rest; written = [] }) tale)
 entered_by plan link wire _ tale = with_wire link wire tale
 

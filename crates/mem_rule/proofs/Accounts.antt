@@ -21,7 +21,7 @@ use Rattle.mem_rule.specs.declared.form.Form.{Form}
 
 -- two sessions are of one account
 abbrev pub IsSame : Session → Session → Type 0
-IsSame new old = (new.user ≡ old.user) × (new.found_rows ≡ old.found_rows)
+IsSame new old = (new.user ≡ old.user) × (new.capabilities ≡ old.capabilities)
 
 by_settings : (on : Bool) (s : Session) → IsSame (with_settings on s).session s
 by_settings true s = (refl, refl)
@@ -61,4 +61,4 @@ of_command t s Close = (refl, refl)
 
 pub account : AccountLaw tests step
 unfolding step
-account = record { user = λ stored s ok c. (of_command (tables_in stored) s c).0; found_rows = λ stored s ok c. (of_command (tables_in stored) s c).1 }
+account = record { user = λ stored s ok c. (of_command (tables_in stored) s c).0; capabilities = λ stored s ok c. (of_command (tables_in stored) s c).1 }

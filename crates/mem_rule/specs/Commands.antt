@@ -147,7 +147,7 @@ abbrev pub freed : Note → Note
 freed note = plain_note Freed note.key
 
 abbrev pub ends : Session → (reply : List (List ℕ)) → Ran
-ends s reply = record { writes = frees s.locks ++ map freed (filter holds_lock (notes_of s.deep)); session = fresh s.user s.found_rows s.schema; reply = reply }
+ends s reply = record { writes = frees s.locks ++ map freed (filter holds_lock (notes_of s.deep)); session = fresh s.user s.capabilities s.schema; reply = reply }
 
 abbrev pub types_of : Option (List ℕ) → List ℕ
 types_of None = []

@@ -2,7 +2,7 @@
 use Rattle.std.specs.Prelude.{ℕ, false, List, [], ◌∷◌, codes, fold, Option}
 use Rattle.session_state.specs.declared.reply_end.ReplyEnd.{ReplyEnd}
 use Rattle.server_rule.specs.Replies.{one_number, reply_end}
-use Rattle.server_rule.specs.Servers.{fresh}
+use Rattle.server_rule.specs.Servers.{fresh, no_capabilities}
 use Rattle.server_rule.specs.Texts.{read_id_text}
 use Rattle.server_rule.specs.declared.command.Cmd.{Cmd}
 use Rattle.server_rule.specs.declared.command.Cmd.TheVariants.{Query}
@@ -24,7 +24,7 @@ abbrev pub behind : Point → List Cmd → Point
 behind p cmds = fold asks p cmds
 
 abbrev pub new_session : Session
-new_session = fresh (codes "u") false []
+new_session = fresh (codes "u") no_capabilities []
 
 -- a new server and a new session
 abbrev pub opening : Point

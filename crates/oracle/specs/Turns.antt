@@ -12,7 +12,7 @@ use Rattle.oracle.specs.declared.world.Who.{Who}
 use Rattle.oracle.specs.declared.world.World.{World}
 
 abbrev pub account_of : Who → Account
-account_of who = record { user = who.user.now; found_rows = who.found_rows }
+account_of who = record { user = who.user.now; capabilities = who.capabilities }
 
 -- what is asked is this statement
 pub record IsOf (due : Due) (asked : Statement) : Type 0 where

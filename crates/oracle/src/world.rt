@@ -12,7 +12,7 @@ ghost use Rattle.oracle.specs.World.{AreTaken, IsWorld, answer_at, own_at, prepa
 
 use crate::{Own, Prepared};
 use mx_base::{Bytes, OutOfMemory};
-use server_rule::{Cmd, Reply, Session, TameServer};
+use server_rule::{Capabilities, Cmd, Reply, Session, TameServer};
 use session_state::{MessageName, Place, SessionName};
 use session_vars::Settings;
 use std::alloc::Global;
@@ -23,7 +23,7 @@ use std::collections::HashMap;
 pub struct Who<'a> {
     pub name: SessionName,
     pub user: &'a [u8],
-    pub found_rows: bool,
+    pub capabilities: Capabilities,
 }
 
 /// A session of its own for each client, hostgroup and life, and what was answered there.
@@ -51,12 +51,12 @@ fn is_prepare(command: &Cmd) -> bool
 
 // A session in which nothing ran.
 fn fresh(alloc: Global, who: &Who<'_>) -> Result<Own, OutOfMemory>
-    ensures session { IfOk result (λ own. own.session ≡ fresh_of (record { user = who.now.user.now; found_rows = who.now.found_rows }) []) }
+    ensures session { IfOk result (λ own. own.session ≡ fresh_of (record { user = who.now.user.now; capabilities = who.now.capabilities }) []) }
     ensures prepared { IfOk result (λ own. (key : ℕ) → prepared_at own.prepared key ≡ None) }
 {
     let session = Session {
         user: Bytes::from_slice(alloc, who.user)?,
-        found_rows: who.found_rows,
+        capabilities: who.capabilities,
         schema: Bytes::new(alloc),
         settings: Settings::defaults(alloc)?,
         tx: Bytes::new(alloc),
@@ -99,7 +99,7 @@ impl World {
 
     // Takes out the session of a name.
     fn take(&mut self, alloc: Global, who: &Who<'_>) -> Result<Own, OutOfMemory>
-        ensures session { IfOk result (λ own. own.session ≡ session_of (own_at self.old who.now.name) (record { user = who.now.user.now; found_rows = who.now.found_rows })) }
+        ensures session { IfOk result (λ own. own.session ≡ session_of (own_at self.old who.now.name) (record { user = who.now.user.now; capabilities = who.now.capabilities })) }
         ensures prepared { IfOk result (λ own. (key : ℕ) → prepared_at own.prepared key ≡ prepared_of (own_at self.old who.now.name) key) }
         ensures others { (n : SessionName) → is_name n who.now.name ≡ false → own_at self.new n ≡ own_at self.old n }
         ensures answers { self.new.answers ≡ self.old.answers }

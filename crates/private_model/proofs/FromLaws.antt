@@ -32,8 +32,8 @@ module _ (reads : Reads) (tests : Tests) (rule : server.Step) (tame : IsTame rea
   account_law : (stored : List ℕ) (s : Session) → Accepts tests stored s → (c : Command) → account_of (step stored s c).session ≡ account_of s
   account_law stored s ok c =
       let user = tame.account.user stored s ok (cmd_of c) in
-      let found_rows = tame.account.found_rows stored s ok (cmd_of c) in
-      λ i. record { user = user i; found_rows = found_rows i }
+      let capabilities = tame.account.capabilities stored s ok (cmd_of c) in
+      λ i. record { user = user i; capabilities = capabilities i }
 
   set_kept : (stored : List ℕ) (s : Session) → Accepts tests stored s → (n : Number) (done : Bool) → is_ok (step stored s (SetId n)).reply ≡ done → tests.lasts s.deep ≡ false → tests.lasts (step stored s (SetId n)).session.deep ≡ false
   set_kept stored s ok n true is lasts = subst (λ (x : Session). tests.lasts x.deep ≡ false) (sym (tame.insert_id.set_done stored s ok n.value n.fits is)) lasts

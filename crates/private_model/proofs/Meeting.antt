@@ -21,8 +21,8 @@ use Rattle.session_state.specs.declared.pin.Pin.{Pin}
 use Rattle.session_state.specs.declared.place.Told.{Told}
 use Rattle.session_vars.specs.declared.change.SlotValue.{SlotValue}
 
-session_by : (a b : Session) → a.user ≡ b.user → a.found_rows ≡ b.found_rows → a.schema ≡ b.schema → a.settings ≡ b.settings → a.last_id ≡ b.last_id → a.tx ≡ b.tx → a.locks ≡ b.locks → a.deep ≡ b.deep → a.diag ≡ b.diag → a ≡ b
-session_by a b user found_rows schema settings last_id tx locks deep diag = λ i. record { user = user i; found_rows = found_rows i; schema = schema i; settings = settings i; last_id = last_id i; tx = tx i; locks = locks i; deep = deep i; diag = diag i }
+session_by : (a b : Session) → a.user ≡ b.user → a.capabilities ≡ b.capabilities → a.schema ≡ b.schema → a.settings ≡ b.settings → a.last_id ≡ b.last_id → a.tx ≡ b.tx → a.locks ≡ b.locks → a.deep ≡ b.deep → a.diag ≡ b.diag → a ≡ b
+session_by a b user capabilities schema settings last_id tx locks deep diag = λ i. record { user = user i; capabilities = capabilities i; schema = schema i; settings = settings i; last_id = last_id i; tx = tx i; locks = locks i; deep = deep i; diag = diag i }
 
 -- A Run of one text at one schema, with settings that differ in autocommit alone.
 pub record IsRunLike (reads : Reads) (there here : Command) : Type 0 where
@@ -110,7 +110,7 @@ met_lent setup n due user told link_id live pin id s p begins free owner plain k
       account = free.account;
       rest = session_by q (with_diag q.diag (with_id q.last_id s))
           (ap (λ (a : Account). a.user) same_account)
-          (ap (λ (a : Account). a.found_rows) same_account)
+          (ap (λ (a : Account). a.capabilities) same_account)
           (sym (free.follows.schema place.schema begins.placed.schema))
           (sym begins.placed.settings ∙ sym free.follows.settings)
           refl

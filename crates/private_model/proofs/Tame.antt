@@ -12,7 +12,7 @@ use Rattle.session_vars.specs.declared.change.Change.{Change}
 use Rattle.session_vars.specs.declared.change.SlotValue.{SlotValue}
 
 abbrev pub account_of : Session → Account
-account_of session = record { user = session.user; found_rows = session.found_rows }
+account_of session = record { user = session.user; capabilities = session.capabilities }
 
 abbrev pub outcome_with_id : ℕ → Outcome → Outcome
 outcome_with_id n outcome = record outcome { session = with_id n outcome.session }

@@ -16,6 +16,7 @@ use Rattle.server_rule.specs.Classes.{Reads}
 use Rattle.server_rule.specs.Servers.{fresh}
 use Rattle.server_rule.specs.declared.command.Cmd.{Cmd}
 pub use Rattle.server_rule.specs.declared.command.Reply.{Reply}
+use Rattle.server_rule.specs.declared.session.Capabilities.{Capabilities}
 use Rattle.server_rule.specs.declared.session.Session.{Session}
 use Rattle.session_state.specs.Pins.{pin_answered}
 use Rattle.session_state.specs.declared.pin.Pin.{Pin}
@@ -23,13 +24,13 @@ use Rattle.session_state.specs.declared.reply_end.ReplyEnd.{ReplyEnd}
 use Rattle.session_vars.specs.declared.change.SlotValue.{SlotValue}
 use Rattle.session_vars.specs.declared.long_part.LongPart.{LongPart}
 
--- the user of a session, and how it counts rows
+-- the user of a session, and what its login asked for
 pub record Account : Type 0 where
   pub user : List ℕ
-  pub found_rows : Bool
+  pub capabilities : Capabilities
 
 abbrev pub fresh_of : Account → (schema : List ℕ) → Session
-fresh_of account schema = fresh account.user account.found_rows schema
+fresh_of account schema = fresh account.user account.capabilities schema
 
 -- what an execute is given: the types last bound, which parameters are NULL, their values, and long data
 pub record Args : Type 0 where

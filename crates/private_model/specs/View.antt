@@ -7,6 +7,7 @@ use Rattle.private_model.specs.Names.{ClientNo, Hostgroup, LinkId, ServerId, Mes
 use Rattle.private_model.specs.Commands.{Account, Command, Prepare, Quit, Reply, Reset, class_of, id_after, is_err, is_made, is_marked, is_ok, is_prepare, number_in, pin_statement}
 use Rattle.private_model.specs.Story.{BecameDue, Broke, Capture, Dropped, Due, End, Freed, Gone, Happening, Heard, Key, Left, LoggedIn, Mirrored, Prep, Question, Ran, Sent, Statement, Story, Sync, Unprepared, command_of, for_statement, is_client, is_link_id, is_message, is_name, message_of, put}
 use Rattle.server_rule.specs.Classes.{Reads}
+use Rattle.server_rule.specs.Servers.{no_capabilities}
 use Rattle.session_state.specs.Classes.{Effect, Uses, effect_of, schema_by, settings_by}
 use Rattle.session_state.specs.Pins.{is_pinned, no_pin}
 use Rattle.session_state.specs.declared.pin.Pin.{Pin}
@@ -64,7 +65,7 @@ pub record Setup : Type 0 where
   pub stored : (server : ServerId) → List ℕ
 
 abbrev pub no_link : Link
-no_link = record { server = record { 0 = 0 }; account = record { user = []; found_rows = false }; usable = false; told = record { schema = None; settings = defaults }; id = None; live = λ key. None; carries = Nobody; marked = false; stage = Quiet }
+no_link = record { server = record { 0 = 0 }; account = record { user = []; capabilities = no_capabilities }; usable = false; told = record { schema = None; settings = defaults }; id = None; live = λ key. None; carries = Nobody; marked = false; stage = Quiet }
 
 abbrev pub new_link : (server : ServerId) (account : Account) → Link
 new_link server account = record no_link { server = server; account = account; usable = true; told = record { schema = Some []; settings = defaults }; id = Some 0 }

@@ -5,7 +5,7 @@ use Rattle.private_model.specs.Names.{LinkId, ServerId, MessageName, SessionName
 use Rattle.private_model.specs.Commands.{Account, Command, Outcome, Prepare, Quit, Reply, Reset, Run, Step, fresh_of, is_made, number_in, is_prepare}
 use Rattle.private_model.specs.Story.{Dropped, Due, End, Happening, Key, LoggedIn, Prep, Question, Ran, Statement, Story, Sync, Unprepared, command_of, for_statement, is_link_id, is_message, is_name, is_server, message_of, put}
 use Rattle.private_model.specs.View.{Asked, Carried, Held, Setup, Stage, View, is_quit, session_in, text_of, view_after}
-use Rattle.server_rule.specs.Servers.{with_id}
+use Rattle.server_rule.specs.Servers.{no_capabilities, with_id}
 use Rattle.server_rule.specs.declared.session.Session.{Session}
 use Rattle.session_state.specs.Pins.{is_pinned}
 use Rattle.session_state.specs.declared.place.Place.{Place}
@@ -145,7 +145,7 @@ alive_in real link = (real.peers link).alive
 -- Both after a story.
 
 abbrev pub real_after : Setup → Step → Story → Real
-real_after setup step [] = record { stored = setup.stored; peers = λ link. record (new_peer (record { user = []; found_rows = false })) { alive = false } }
+real_after setup step [] = record { stored = setup.stored; peers = λ link. record (new_peer (record { user = []; capabilities = no_capabilities })) { alive = false } }
 real_after setup step (e ∷ past) = real_step step (view_after setup past) (real_after setup step past) e
 
 abbrev pub first_private : Setup → Private

@@ -1,6 +1,7 @@
 -- Servers and the sessions of the links to them.
 use Rattle.std.specs.Prelude.{◌≡◌, true, ℕ, ◌-◌, ◌||◌, nat_eq, nat_lt, List, [], ◌∷◌, ◌++◌, length, slice_get, set, Option, Some, None, if◌then◌else◌}
 use Rattle.mx_base.specs.declared.names.ServerId.{ServerId}
+use Rattle.server_rule.specs.declared.session.Capabilities.{Capabilities}
 use Rattle.server_rule.specs.Servers.{Step, Tests, fresh}
 use Rattle.server_rule.specs.declared.command.Cmd.{Cmd}
 use Rattle.scripted_wire.specs.declared.hosts.Seat.{Seat}
@@ -18,9 +19,9 @@ abbrev pub IsTaken : Tests → Seat → Type 0
 IsTaken tests seat = tests.is_session seat.session.tx seat.session.locks seat.session.deep seat.session.diag ≡ true
 
 -- a session begins
-pub record Enters (server : ℕ) (user : List ℕ) (found_rows : Rattle.std.specs.Prelude.Bool) (old : Hosted) (seat : ℕ) (new : Hosted) : Type 0 where
+pub record Enters (server : ℕ) (user : List ℕ) (capabilities : Capabilities) (old : Hosted) (seat : ℕ) (new : Hosted) : Type 0 where
   pub place : seat ≡ length old.seats
-  pub is : new ≡ record old { seats = old.seats ++ record { server = server; session = fresh user found_rows [] } ∷ [] }
+  pub is : new ≡ record old { seats = old.seats ++ record { server = server; session = fresh user capabilities [] } ∷ [] }
 
 -- what a command that ran leaves, and its reply
 pub record Ran : Type 0 where

@@ -1,5 +1,5 @@
 -- What a server in code does on a link.
-use Rattle.std.specs.Prelude.{ℕ, Bool, true, false, not, nat_eq, bit_and, List, [], ◌∷◌, ◌++◌, codes, Option, Some, None, if◌then◌else◌}
+use Rattle.std.specs.Prelude.{ℕ, Bool, true, false, not, ◌&&◌, nat_eq, bit_and, List, [], ◌∷◌, ◌++◌, codes, Option, Some, None, if◌then◌else◌}
 use Rattle.mx_base.specs.declared.names.ClientNo.{ClientNo}
 use Rattle.mx_wire.specs.declared.wire.Got.{Got}
 use Rattle.mx_wire.specs.declared.wire.Got.TheVariants as got
@@ -12,6 +12,7 @@ use Rattle.client_side.specs.declared.stage.Stage.{Stage}
 use Rattle.client_side.specs.declared.stage.Stage.TheVariants as stage
 use Rattle.client_side.specs.declared.step.ClientStep.{ClientStep}
 use Rattle.client_side.specs.declared.step.ClientStep.TheVariants as client_step
+use Rattle.server_rule.specs.declared.session.Capabilities.{Capabilities}
 use Rattle.server_rule.specs.Servers.{Step, fresh}
 use Rattle.server_rule.specs.declared.command.Cmd.TheVariants as cmd
 use Rattle.scripted_wire.specs.Asked.{asks}
@@ -75,12 +76,20 @@ done client = done_by client.stage client
 
 -- The router is let in, whoever it says it is, by an OK; its session is fresh.
 
-abbrev pub asks_found_rows : (capabilities : ℕ) → Bool
-asks_found_rows capabilities = not (nat_eq (bit_and capabilities 2) 0)
+abbrev pub has_bit : (bit capabilities : ℕ) → Bool
+has_bit bit capabilities = not (nat_eq (bit_and capabilities bit) 0)
+
+-- what it asks for that changes what a server answers
+abbrev pub asked_for : (capabilities : ℕ) → Capabilities
+asked_for capabilities = record {
+  found_rows = has_bit 0x2 capabilities;
+  multi_results = has_bit 0x20000 capabilities && has_bit 0x40000 capabilities;
+  ignore_space = has_bit 0x100 capabilities;
+}
 
 abbrev pub seated : ServerLink → Response → Hosted → Hosted
 seated link response hosted =
-    record hosted { seats = hosted.seats ++ record { server = link.server; session = fresh response.user (asks_found_rows response.capabilities) [] } ∷ [] }
+    record hosted { seats = hosted.seats ++ record { server = link.server; session = fresh response.user (asked_for response.capabilities) [] } ∷ [] }
 
 abbrev pub let_in_by : (first : ℕ) → Option Response → ServerLink → Hosted → Served
 let_in_by first None link hosted = record { link = link; hosted = hosted; did = did.Nothing }

@@ -5,7 +5,7 @@ ghost use Rattle.server_rule.specs.Servers.{Runs, fresh};
 ghost use Rattle.scripted_wire.specs.Hosts.{Hosted, RunsIn, Enters, index_of};
 
 use mx_base::{Bytes, OutOfMemory, ServerId};
-use server_rule::{Cmd, ReplyList, Session, TameServer};
+use server_rule::{Capabilities, Cmd, ReplyList, Session, TameServer};
 use session_vars::Settings;
 use std::alloc::Global;
 use std::marker::Model;
@@ -37,12 +37,12 @@ impl<R: TameServer> Model for Hosts<R> {
 }
 
 // A session in which nothing ran.
-fn fresh(alloc: Global, user: &[u8], found_rows: bool) -> Result<Session, OutOfMemory>
-    ensures { IfOk result (λ session. session ≡ fresh user.now found_rows []) }
+fn fresh(alloc: Global, user: &[u8], capabilities: Capabilities) -> Result<Session, OutOfMemory>
+    ensures { IfOk result (λ session. session ≡ fresh user.now capabilities []) }
 {
     Ok(Session {
         user: Bytes::from_slice(alloc, user)?,
-        found_rows,
+        capabilities,
         schema: Bytes::new(alloc),
         settings: Settings::defaults(alloc)?,
         tx: Bytes::new(alloc),
@@ -82,14 +82,14 @@ impl<R: TameServer> Hosts<R> {
         alloc: Global,
         server: usize,
         user: &[u8],
-        found_rows: bool,
+        capabilities: Capabilities,
     ) -> Result<usize, OutOfMemory>
-        ensures ok { IfOk result (λ seat. Enters server user.now found_rows self.old seat self.new) }
+        ensures ok { IfOk result (λ seat. Enters server user.now capabilities self.old seat self.new) }
         ensures err { OnErr result (self.new ≡ self.old) }
     {
         R::tame();
         let seat = self.seats.len();
-        let session = fresh(alloc, user, found_rows)?;
+        let session = fresh(alloc, user, capabilities)?;
         self.seats.push(Seat { server, session })?;
         Ok(seat)
     }

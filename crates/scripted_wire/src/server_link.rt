@@ -5,7 +5,7 @@ ghost use Rattle.packet_frame.specs.Packets.{spelling, spellings};
 ghost use Rattle.reply_text.specs.Replies.{err_payload, ok_payload};
 ghost use Rattle.scripted_wire.specs.Giving.{Gives, is_some_of};
 ghost use Rattle.scripted_wire.specs.Hosts.{ran};
-ghost use Rattle.scripted_wire.specs.Serving.{Served, answered, first_link, hears, link_read, asks_found_rows, served, rests, drops, lets_in, runs, answers, replied, says, refuses};
+ghost use Rattle.scripted_wire.specs.Serving.{Served, answered, first_link, hears, link_read, asked_for, served, rests, drops, lets_in, runs, answers, replied, says, refuses};
 
 use crate::asked::{Asked, read_asked};
 use crate::did::Did;
@@ -16,7 +16,7 @@ use mx_base::{Bytes, ClientNo, OutOfMemory};
 use mx_wire::Got;
 use packet_frame::write_message;
 use reply_text::{write_err, write_ok};
-use server_rule::{Cmd, ReplyList, TameServer};
+use server_rule::{Capabilities, Cmd, ReplyList, TameServer};
 use std::alloc::Global;
 
 /// What a server in code calls itself.
@@ -27,6 +27,15 @@ const MOST_MESSAGE: u64 = 1_073_741_824;
 
 /// FOUND_ROWS: an UPDATE tells of the rows that it found (client/server protocol, "Capabilities Flags").
 const FOUND_ROWS: u32 = 0x0000_0002;
+
+/// IGNORE_SPACE: blanks may stand behind the name of a function.
+const IGNORE_SPACE: u32 = 0x0000_0100;
+
+/// MULTI_RESULTS: a text may be answered by several results.
+const MULTI_RESULTS: u32 = 0x0002_0000;
+
+/// PS_MULTI_RESULTS: so may a prepared statement.
+const PS_MULTI_RESULTS: u32 = 0x0004_0000;
 
 /// SERVER_STATUS_AUTOCOMMIT (client/server protocol, "SERVER_STATUS_flags_enum").
 const AUTOCOMMIT: u16 = 0x0002;
@@ -41,11 +50,15 @@ pub(crate) struct ServerLink {
     pub ended: bool,
 }
 
-// Whether a client asks for found rows.
-fn asks_found_rows(capabilities: u32) -> bool
-    ensures { result ≡ asks_found_rows capabilities }
+// What a client asks for that changes what a server answers.
+fn asked_for(capabilities: u32) -> Capabilities
+    ensures { result ≡ asked_for capabilities }
 {
-    capabilities & FOUND_ROWS != 0
+    Capabilities {
+        found_rows: capabilities & FOUND_ROWS != 0,
+        multi_results: capabilities & MULTI_RESULTS != 0 && capabilities & PS_MULTI_RESULTS != 0,
+        ignore_space: capabilities & IGNORE_SPACE != 0,
+    }
 }
 
 // What was asked is done with.
@@ -195,8 +208,8 @@ impl ServerLink {
         let Some(response) = self.client.login() else {
             return Ok(Did::Nothing);
         };
-        let found_rows = asks_found_rows(response.capabilities);
-        let seat = hosts.enter(alloc, self.server, response.user.as_slice(), found_rows)?;
+        let asked = asked_for(response.capabilities);
+        let seat = hosts.enter(alloc, self.server, response.user.as_slice(), asked)?;
         self.say_ok(alloc, first)?;
         self.client.done();
         self.seat = Some(seat);

@@ -19,10 +19,10 @@ pub record KeepsTests (tests : Tests) (step : Step) : Type 0 where
   pub accepts_fresh : tests.is_session [] [] [] [] ≡ true
   pub keeps : (stored : List ℕ) (s : Session) → Accepts tests stored s → (c : Cmd) → Accepts tests (step stored s c).stored (step stored s c).session
 
--- The account stays: no command makes a session another user's, or changes how it counts rows.
+-- The account stays: no command makes a session another user's, or changes what its login asked for.
 pub record AccountLaw (tests : Tests) (step : Step) : Type 0 where
   pub user : (stored : List ℕ) (s : Session) → Accepts tests stored s → (c : Cmd) → (step stored s c).session.user ≡ s.user
-  pub found_rows : (stored : List ℕ) (s : Session) → Accepts tests stored s → (c : Cmd) → (step stored s c).session.found_rows ≡ s.found_rows
+  pub capabilities : (stored : List ℕ) (s : Session) → Accepts tests stored s → (c : Cmd) → (step stored s c).session.capabilities ≡ s.capabilities
 
 -- Resets: RESET_CONNECTION is answered by one OK and leaves the session of a new login, but for its schema and for what no
 -- reset takes back. That stands in no fresh session, and only a text of its class brings it. The end of a connection does the
@@ -30,7 +30,7 @@ pub record AccountLaw (tests : Tests) (step : Step) : Type 0 where
 -- transaction, no lock and no other state is open, the data stay.
 pub record ResetLaw (reads : Reads) (tests : Tests) (step : Step) : Type 0 where
   pub answered : (stored : List ℕ) (s : Session) → Accepts tests stored s → is_ok (reply_end false (step stored s Reset).reply) ≡ true
-  pub session : (stored : List ℕ) (s : Session) → Accepts tests stored s → (step stored s Reset).session ≡ record (fresh s.user s.found_rows s.schema) { deep = (step stored s Reset).session.deep }
+  pub session : (stored : List ℕ) (s : Session) → Accepts tests stored s → (step stored s Reset).session ≡ record (fresh s.user s.capabilities s.schema) { deep = (step stored s Reset).session.deep }
   pub deep : (stored : List ℕ) (s : Session) → Accepts tests stored s → tests.lasts s.deep ≡ false → (step stored s Reset).session.deep ≡ []
   pub nothing_lasts : tests.lasts [] ≡ false
   pub brings : (stored : List ℕ) (s : Session) → Accepts tests stored s → (c : Cmd) → outlasts_run reads c ≡ false → tests.lasts s.deep ≡ false → tests.lasts (step stored s c).session.deep ≡ false
@@ -38,7 +38,7 @@ pub record ResetLaw (reads : Reads) (tests : Tests) (step : Step) : Type 0 where
   pub idle : (stored : List ℕ) (s : Session) → Accepts tests stored s → s.tx ≡ [] → s.locks ≡ [] → s.deep ≡ [] → (step stored s Reset).stored ≡ stored
   pub close_reply : (stored : List ℕ) (s : Session) → Accepts tests stored s → (step stored s Close).reply ≡ []
   pub close_stored : (stored : List ℕ) (s : Session) → Accepts tests stored s → (step stored s Close).stored ≡ (step stored s Reset).stored
-  pub close_session : (stored : List ℕ) (s : Session) → Accepts tests stored s → (step stored s Close).session ≡ fresh s.user s.found_rows s.schema
+  pub close_session : (stored : List ℕ) (s : Session) → Accepts tests stored s → (step stored s Close).session ≡ fresh s.user s.capabilities s.schema
 
 -- Tracked settings: a SET of tracked settings makes its changes where it is answered OK, and none else. It leaves schema,
 -- locks and insert id, and it leaves data and transaction where none is open or autocommit isn't set.

@@ -2,6 +2,7 @@
 use Rattle.std.specs.Prelude.{◌≡◌, ℕ, Bool, true, false, nat_eq, List, [], ◌∷◌}
 use Rattle.session_vars.specs.Settings.{defaults}
 use Rattle.server_rule.specs.declared.command.Cmd.{Cmd}
+use Rattle.server_rule.specs.declared.session.Capabilities.{Capabilities}
 use Rattle.server_rule.specs.declared.session.Session.{Session}
 
 pub record Outcome : Type 0 where
@@ -22,9 +23,13 @@ pub record Tests : Type 0 where
 abbrev pub Accepts : Tests → (stored : List ℕ) → Session → Type 0
 Accepts tests stored s = (tests.is_data stored ≡ true) × (tests.is_session s.tx s.locks s.deep s.diag ≡ true)
 
+-- a login asks for nothing
+abbrev pub no_capabilities : Capabilities
+no_capabilities = record { found_rows = false; multi_results = false; ignore_space = false }
+
 -- a session as it is after a login or a reset, but for its schema
-abbrev pub fresh : (user : List ℕ) → (found_rows : Bool) → (schema : List ℕ) → Session
-fresh user found_rows schema = record { user = user; found_rows = found_rows; schema = schema; settings = defaults; tx = []; locks = []; deep = []; last_id = 0; diag = [] }
+abbrev pub fresh : (user : List ℕ) → Capabilities → (schema : List ℕ) → Session
+fresh user capabilities schema = record { user = user; capabilities = capabilities; schema = schema; settings = defaults; tx = []; locks = []; deep = []; last_id = 0; diag = [] }
 
 -- the same but for the insert id, or for the diagnostics
 abbrev pub with_id : ℕ → Session → Session

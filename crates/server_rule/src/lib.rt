@@ -7,5 +7,5 @@ mod session;
 mod tame;
 
 pub use command::{Cmd, LongParts, Reply, ReplyList};
-pub use session::Session;
+pub use session::{Capabilities, Session};
 pub use tame::TameServer;

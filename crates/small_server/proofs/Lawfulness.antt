@@ -133,20 +133,20 @@ plain stored s ok = none_by s.locks s.deep ok.1
 
 pub record Keeps (k : Kind) (rows : Bool) (text stored : List ℕ) (s : Session) : Type 0 where
   pub user : (by_kind k rows text stored s).session.user ≡ s.user
-  pub found_rows : (by_kind k rows text stored s).session.found_rows ≡ s.found_rows
+  pub capabilities : (by_kind k rows text stored s).session.capabilities ≡ s.capabilities
   pub locks : (by_kind k rows text stored s).session.locks ≡ s.locks
   pub deep : (by_kind k rows text stored s).session.deep ≡ s.deep
 
 kind_keeps : (k : Kind) (rows : Bool) (text stored : List ℕ) (s : Session) → Keeps k rows text stored s
-kind_keeps (SetsId n) rows text stored s = record { user = refl; found_rows = refl; locks = refl; deep = refl }
-kind_keeps ReadsId rows text stored s = record { user = refl; found_rows = refl; locks = refl; deep = refl }
-kind_keeps (Tracks changes) rows text stored s = record { user = refl; found_rows = refl; locks = refl; deep = refl }
-kind_keeps (Chooses schema) rows text stored s = record { user = refl; found_rows = refl; locks = refl; deep = refl }
-kind_keeps Begins rows text stored s = record { user = refl; found_rows = refl; locks = refl; deep = refl }
-kind_keeps Commits rows text stored s = record { user = refl; found_rows = refl; locks = refl; deep = refl }
-kind_keeps Adds rows text stored s = record { user = refl; found_rows = refl; locks = refl; deep = refl }
-kind_keeps Shows rows text stored s = record { user = refl; found_rows = refl; locks = refl; deep = refl }
-kind_keeps Refuses rows text stored s = record { user = refl; found_rows = refl; locks = refl; deep = refl }
+kind_keeps (SetsId n) rows text stored s = record { user = refl; capabilities = refl; locks = refl; deep = refl }
+kind_keeps ReadsId rows text stored s = record { user = refl; capabilities = refl; locks = refl; deep = refl }
+kind_keeps (Tracks changes) rows text stored s = record { user = refl; capabilities = refl; locks = refl; deep = refl }
+kind_keeps (Chooses schema) rows text stored s = record { user = refl; capabilities = refl; locks = refl; deep = refl }
+kind_keeps Begins rows text stored s = record { user = refl; capabilities = refl; locks = refl; deep = refl }
+kind_keeps Commits rows text stored s = record { user = refl; capabilities = refl; locks = refl; deep = refl }
+kind_keeps Adds rows text stored s = record { user = refl; capabilities = refl; locks = refl; deep = refl }
+kind_keeps Shows rows text stored s = record { user = refl; capabilities = refl; locks = refl; deep = refl }
+kind_keeps Refuses rows text stored s = record { user = refl; capabilities = refl; locks = refl; deep = refl }
 
 kind_flags : (k : Kind) (rows : Bool) (text stored : List ℕ) (s : Session) (shown : Bool) → shows_transaction (reply_end false (by_kind k rows text stored s).reply) ≡ Some shown → is_some_of (by_kind k rows text stored s).session.tx ≡ shown
 kind_flags (SetsId n) rows text stored s shown e = let is = ok_shows false NoId (is_some_of s.tx) in cc
@@ -392,14 +392,14 @@ module _ (reads : Reads) where
   user_law stored s ok Reset = refl
   user_law stored s ok Close = refl
 
-  found_rows_law : (stored : List ℕ) (s : Session) → Accepts tests stored s → (c : Cmd) → (tally reads stored s c).session.found_rows ≡ s.found_rows
-  found_rows_law stored s ok (Query text) = (kind_keeps (kind_of (reads.class text) text) (rows_by (reads.class text).reads_diag s) text stored s).found_rows
-  found_rows_law stored s ok (Run text schema settings types nulls values long) = (kind_keeps (kind_of (reads.class text) text) (rows_by (reads.class text).reads_diag s) text stored s).found_rows
-  found_rows_law stored s ok (InitDb schema) = refl
-  found_rows_law stored s ok (FieldList rest) = refl
-  found_rows_law stored s ok (Prepare text) = refl
-  found_rows_law stored s ok Reset = refl
-  found_rows_law stored s ok Close = refl
+  capabilities_law : (stored : List ℕ) (s : Session) → Accepts tests stored s → (c : Cmd) → (tally reads stored s c).session.capabilities ≡ s.capabilities
+  capabilities_law stored s ok (Query text) = (kind_keeps (kind_of (reads.class text) text) (rows_by (reads.class text).reads_diag s) text stored s).capabilities
+  capabilities_law stored s ok (Run text schema settings types nulls values long) = (kind_keeps (kind_of (reads.class text) text) (rows_by (reads.class text).reads_diag s) text stored s).capabilities
+  capabilities_law stored s ok (InitDb schema) = refl
+  capabilities_law stored s ok (FieldList rest) = refl
+  capabilities_law stored s ok (Prepare text) = refl
+  capabilities_law stored s ok Reset = refl
+  capabilities_law stored s ok Close = refl
 
   -- a fact of a Query and of a Run of the same text
   sets : (stored : List ℕ) (s : Session) (c : Cmd) (changes : List Change) → effect_run reads c ≡ Tracked changes
@@ -525,7 +525,7 @@ module _ (reads : Reads) where
   pub tally_tame : IsTame reads tests (tally reads)
   tally_tame = record {
     tests_kept = record { accepts_fresh = refl; keeps = keeps };
-    account = record { user = user_law; found_rows = found_rows_law };
+    account = record { user = user_law; capabilities = capabilities_law };
     reset = record { answered = λ stored s ok. ok_is_ok false NoId false; session = λ stored s ok. refl; deep = λ stored s ok lasts. refl; nothing_lasts = refl; brings = λ stored s ok c plain lasts. refl; blind = λ stored s ok n diag there. refl; idle = λ stored s ok tx locks deep. refl; close_reply = λ stored s ok. refl; close_stored = λ stored s ok. refl; close_session = λ stored s ok. refl };
     tracked = record {
       settings = λ stored s ok c changes e. sets stored s c changes e (λ o. o.session.settings ≡ settings_by (Tracked changes) (is_ok (reply_end false o.reply)) s.settings) (λ k rows text is. is.settings);

@@ -20,7 +20,7 @@ abbrev pub refused : (stored : List ℕ) → Session → Outcome
 refused stored s = record { stored = stored; session = record s { diag = [] }; reply = syntax_error ∷ [] }
 
 abbrev pub ended : (stored : List ℕ) → Session → (reply : List (List ℕ)) → Outcome
-ended stored s reply = record { stored = stored; session = fresh s.user s.found_rows s.schema; reply = reply }
+ended stored s reply = record { stored = stored; session = fresh s.user s.capabilities s.schema; reply = reply }
 
 abbrev pub refuses : Step
 refuses stored s Reset = ended stored s (plain_ok ∷ [])

@@ -82,7 +82,7 @@ uses_goes reads c schema e = effect_goes reads c (λ none. absurd (let both : Ne
 both : {A : Type 0} (f : Outcome → A) (stored : List ℕ) (s : Session) (c : Cmd) → f (refused stored s) ≡ f (refused stored s) → goes_on c ≡ true → f (refuses stored s c) ≡ f (refused stored s)
 both f stored s c same is = going c is (λ o. f o ≡ f (refused stored s)) stored s same
 
-account : (c : Cmd) (stored : List ℕ) (s : Session) → ((refuses stored s c).session.user ≡ s.user) × ((refuses stored s c).session.found_rows ≡ s.found_rows)
+account : (c : Cmd) (stored : List ℕ) (s : Session) → ((refuses stored s c).session.user ≡ s.user) × ((refuses stored s c).session.capabilities ≡ s.capabilities)
 account (Query text) stored s = (refl, refl)
 account (InitDb schema) stored s = (refl, refl)
 account (FieldList rest) stored s = (refl, refl)
@@ -128,7 +128,7 @@ no_locks_freed false ok isnt is = apart is refl
 pub refuses_tame : (reads : Reads) → IsTame reads anything refuses
 refuses_tame reads = record {
   tests_kept = record { accepts_fresh = refl; keeps = λ stored s ok c. (refl, refl) };
-  account = record { user = λ stored s ok c. (account c stored s).0; found_rows = λ stored s ok c. (account c stored s).1 };
+  account = record { user = λ stored s ok c. (account c stored s).0; capabilities = λ stored s ok c. (account c stored s).1 };
   reset = record { answered = λ stored s ok. ok_is_ok; session = λ stored s ok. refl; deep = λ stored s ok lasts. refl; nothing_lasts = refl; brings = λ stored s ok c plain lasts. refl; blind = λ stored s ok n diag there. refl; idle = λ stored s ok tx locks deep. refl; close_reply = λ stored s ok. refl; close_stored = λ stored s ok. refl; close_session = λ stored s ok. refl };
   tracked = record {
     settings = λ stored s ok c changes e. going c (tracked_goes reads c changes e) (λ o. o.session.settings ≡ settings_by (Tracked changes) (is_ok (reply_end false o.reply)) s.settings) stored s (ap (λ b. settings_by (Tracked changes) b s.settings) (sym error_not_ok));

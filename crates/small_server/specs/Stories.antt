@@ -11,6 +11,7 @@ use Rattle.session_state.specs.declared.names.SessionName.{SessionName}
 use Rattle.session_state.specs.declared.place.Place.{Place}
 use Rattle.server_rule.specs.Classes.{Reads}
 use Rattle.server_rule.specs.Replies.{first_payload}
+use Rattle.server_rule.specs.Servers.{no_capabilities}
 use Rattle.server_rule.specs.Texts.{read_id_text}
 use Rattle.private_model.specs.Commands.{Account, Command, Query, SetId, Number, Reply, Step, plain_class, runs}
 use Rattle.private_model.specs.Story.{Due, Happening, LoggedIn, BecameDue, Sent, Ran, Heard, Freed, Left, Statement, Own, Capture, Story}
@@ -41,7 +42,7 @@ abbrev pub link : ℕ → LinkId
 link n = record { 0 = n }
 
 abbrev pub anybody : Account
-anybody = record { user = codes "app"; found_rows = false }
+anybody = record { user = codes "app"; capabilities = record no_capabilities { multi_results = true } }
 
 abbrev pub nowhere : Place
 nowhere = record { schema = []; settings = defaults }

@@ -150,5 +150,5 @@ tally reads stored s (Run text schema settings types nulls values long) = on_tex
 tally reads stored s (InitDb schema) = record { stored = stored; session = record s { schema = schema; diag = [] }; reply = answered s false NoId }
 tally reads stored s (FieldList rest) = record { stored = stored; session = record s { diag = [] }; reply = (254 ∷ 0 ∷ 0 ∷ status (is_some_of s.tx) ∷ 0 ∷ []) ∷ [] }
 tally reads stored s (Prepare text) = record { stored = stored; session = record s { diag = [] }; reply = prepared (number_of text) }
-tally reads stored s Reset = record { stored = stored; session = fresh s.user s.found_rows s.schema; reply = ok false NoId false }
-tally reads stored s Close = record { stored = stored; session = fresh s.user s.found_rows s.schema; reply = [] }
+tally reads stored s Reset = record { stored = stored; session = fresh s.user s.capabilities s.schema; reply = ok false NoId false }
+tally reads stored s Close = record { stored = stored; session = fresh s.user s.capabilities s.schema; reply = [] }

@@ -5,7 +5,7 @@ use crate::memory::verb::Verb;
 use check_lines::Answer;
 use mem_server::MemServer;
 use mx_base::{Bytes, OutOfMemory};
-use server_rule::{Cmd, Session};
+use server_rule::{Capabilities, Cmd, Session};
 use session_vars::Settings;
 use std::alloc::Global;
 
@@ -22,7 +22,11 @@ fn fresh(alloc: Global) -> Result<Session, OutOfMemory> {
     let settings = Settings::defaults(alloc)?;
     Ok(Session {
         user,
-        found_rows: false,
+        capabilities: Capabilities {
+            found_rows: false,
+            multi_results: false,
+            ignore_space: false,
+        },
         schema: Bytes::new(alloc),
         settings,
         tx: Bytes::new(alloc),

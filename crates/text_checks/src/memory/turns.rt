@@ -3,7 +3,7 @@ use crate::memory::parts::{Answering, follow};
 use check_lines::{Answer, Fields};
 use mx_base::{Bytes, ClientNo, Hostgroup, OutOfMemory};
 use oracle::{Statement, Who, World};
-use server_rule::Cmd;
+use server_rule::{Capabilities, Cmd};
 use session_state::{MessageName, SessionName};
 use small_server::Refuser;
 
@@ -21,7 +21,11 @@ fn who(client: u64) -> Who<'static> {
             life: 0,
         },
         user: b"u",
-        found_rows: false,
+        capabilities: Capabilities {
+            found_rows: false,
+            multi_results: false,
+            ignore_space: false,
+        },
     }
 }
 
