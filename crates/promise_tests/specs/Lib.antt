@@ -1,0 +1,5 @@
+pub mod Same
+pub mod Telling
+pub mod Judging
+pub mod Waiting
+pub mod Tests

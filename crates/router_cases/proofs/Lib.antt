@@ -1,0 +1,2 @@
+mod Honest
+pub mod Computed

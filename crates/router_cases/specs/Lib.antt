@@ -1,0 +1,4 @@
+pub mod Worked
+pub mod Pieces
+pub mod Ended
+pub mod Executed
