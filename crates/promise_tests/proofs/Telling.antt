@@ -30,6 +30,7 @@ use Rattle.log_story.specs.Tale.{Client, Tale, Wire, is_to_server, link_in, view
 use Rattle.log_story.specs.Telling.{tale_step}
 use Rattle.tale_world.specs.Tested.{IsTestedFrom, Passes}
 use Rattle.tale_world.specs.Tests.{is_account}
+use Rattle.tale_world.proofs.Testing.{same_account}
 use Rattle.router_promises.specs.Due.{DueSo}
 use Rattle.router_promises.specs.Now.{Now, link_now, next, now_at, wire_now}
 use Rattle.router_promises.specs.Router.{first_place}
@@ -83,12 +84,6 @@ fits-so log _ is = tt
 
 -- Clients.
 
-account-by : (a b : Account) → a.user ≡ b.user → a.found_rows ≡ b.found_rows → a ≡ b
-account-by a b user found = λ i. record { user = user i; found_rows = found i }
-
-pub same-account : (a b : Account) → is_account a b ≡ true → a ≡ b
-same-account a b is = (let parts = and_parts (bytes_eq a.user b.user) _ is in account-by a b (same-bytes a.user b.user parts.0) (same-flag a.found_rows b.found_rows parts.1))
-
 pub who-so : (terms : Terms) (client : Client) → says_who terms client ≡ true → IsWhoItSays terms client (opening_of (talk_of (plan_in terms) client))
 who-so terms client is = by (opening_of (talk_of (plan_in terms) client)) is where
   by : (opening : Opening) → option_map_or (is_as terms client opening) (account (talk_of (plan_in terms) client)) true ≡ true → IsWhoItSays terms client opening
@@ -96,7 +91,7 @@ who-so terms client is = by (opening_of (talk_of (plan_in terms) client)) is whe
       (let here : is_as terms client (Says switched response id rest) login ≡ true =
       subst (λ (o : Option Login). option_map_or (is_as terms client (Says switched response id rest)) o true ≡ true) is so in
       let parts = and_parts (is_account (terms.decided.accounts client.number) (login_as login)) _ here in
-      (same-account (terms.decided.accounts client.number) (login_as login) parts.0, same-place (terms.decided.places client.number) (first_place terms.router response) parts.1))
+      (same_account (terms.decided.accounts client.number) (login_as login) parts.0, same-place (terms.decided.places client.number) (first_place terms.router response) parts.1))
   by (Waits switched) so = tt
   by (Fails switched fault id) so = tt
 

@@ -14,6 +14,7 @@ use Rattle.packet_frame.specs.Packets.{spelling}
 use Rattle.ready_loop.specs.Drained.{all_accepted, write_dry}
 use Rattle.private_model.proofs.Maps.{hostgroup_of, number_of}
 use Rattle.private_model.specs.Commands.{Account, Command, FieldList, InitDb, Prepare, Query, Quit, ReadId, Reset, Run, SetId}
+use Rattle.server_rule.specs.declared.session.Capabilities.{Capabilities}
 use Rattle.private_model.specs.Names.{MessageName, SessionName}
 use Rattle.private_model.specs.Story.{BecameDue, Story, command_of}
 use Rattle.private_model.specs.View.{Answered, Asked, Quiet, Stage}
@@ -22,7 +23,7 @@ use Rattle.log_story.specs.Owed.{name_of}
 use Rattle.log_story.specs.Plan.{Route, text_payload}
 use Rattle.log_story.specs.Tale.{Client}
 use Rattle.router_promises.specs.GivenUp.{LeavesFew, has_waited, left_waiting}
-use Rattle.router_promises.specs.Keys.{LinkKey, how_many, is_idle, is_key, is_same, is_stepping, is_waiting, key_for, waiters, waiters_in, waiting}
+use Rattle.router_promises.specs.Keys.{LinkKey, are_same, how_many, is_idle, is_key, is_same, is_stepping, is_waiting, key_for, waiters, waiters_in, waiting}
 use Rattle.router_promises.specs.Now.{Now, held_now, link_now, present_now, wire_now}
 use Rattle.router_promises.specs.Rest.{IsAtRest, IsAttended, IsBegunWhole, IsClientAtRest, IsInWork, IsRead, IsServerAtRest, IsShared, IsUnderWay, IsWholeOn, OwesNothing, RestsBy}
 use Rattle.log_story.specs.Assumed.{IsWhole}
@@ -40,8 +41,15 @@ same-so false false is = refl
 same-so true false is = isnt is
 same-so false true is = isnt is
 
-account-by : (a b : Account) → a.user ≡ b.user → a.found_rows ≡ b.found_rows → a ≡ b
-account-by a b x y = λ i. record { user = x i; found_rows = y i }
+capabilities-by : (a b : Capabilities) → a.found_rows ≡ b.found_rows → a.multi_results ≡ b.multi_results → a.ignore_space ≡ b.ignore_space → a ≡ b
+capabilities-by a b x y z = λ i. record { found_rows = x i; multi_results = y i; ignore_space = z i }
+
+account-by : (a b : Account) → a.user ≡ b.user → are_same a.capabilities b.capabilities ≡ true → a ≡ b
+account-by a b x is =
+    let first = and_parts _ _ is in
+    let later = and_parts _ _ first.1 in
+    let same = capabilities-by a.capabilities b.capabilities (same-so _ _ first.0) (same-so _ _ later.0) (same-so _ _ later.1) in
+    λ i. record { user = x i; capabilities = same i }
 
 key-by : (a b : LinkKey) → a.hostgroup ≡ b.hostgroup → a.account ≡ b.account → a.bare ≡ b.bare → a ≡ b
 key-by a b x y z = λ i. record { hostgroup = x i; account = y i; bare = z i }
@@ -51,7 +59,7 @@ key-so a b is =
     let parts = and_parts _ _ is in
     let more = and_parts _ _ parts.1 in
     let account = and_parts _ _ more.0 in
-    key-by a b (hostgroup_of a.hostgroup b.hostgroup parts.0) (account-by a.account b.account (same-bytes a.account.user b.account.user account.0) (same-so _ _ account.1))
+    key-by a b (hostgroup_of a.hostgroup b.hostgroup parts.0) (account-by a.account b.account (same-bytes a.account.user b.account.user account.0) account.1)
     (same-so a.bare b.bare more.1)
 
 any-append : {A : Type 0} (f : A → Bool) (xs ys : List A) → list_any f (xs ++ ys) ≡ false → (list_any f xs ≡ false) × (list_any f ys ≡ false)

@@ -117,7 +117,7 @@ abbrev pub login : Login
 login = record { user = codes "app"; password = []; found_rows = false }
 
 abbrev pub anybody : Account
-anybody = record { user = codes "app"; found_rows = false }
+anybody = record { user = codes "app"; capabilities = record { found_rows = false; multi_results = true; ignore_space = false } }
 
 abbrev pub place : Place
 place = record { schema = []; settings = collation_settings 45 }

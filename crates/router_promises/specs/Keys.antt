@@ -9,6 +9,7 @@ use Rattle.hostgroups.specs.declared.server.Server.{Server}
 use Rattle.mx_wire.specs.Log.{Log, is_open}
 use Rattle.ready_loop.specs.Drained.{write_dry}
 use Rattle.private_model.specs.Commands.{Account}
+use Rattle.server_rule.specs.declared.session.Capabilities.{Capabilities}
 use Rattle.private_model.specs.Names.{ClientNo, Hostgroup, LinkId, MessageName, ServerId}
 use Rattle.private_model.specs.Story.{BecameDue, Due, Story, is_hostgroup, is_server}
 use Rattle.private_model.specs.View.{Carried, Setup, session_in}
@@ -29,8 +30,11 @@ pub record LinkKey : Type 0 where
 abbrev pub is_same : Bool → Bool → Bool
 is_same a b = (a && b) || (not a && not b)
 
+abbrev pub are_same : Capabilities → Capabilities → Bool
+are_same a b = is_same a.found_rows b.found_rows && (is_same a.multi_results b.multi_results && is_same a.ignore_space b.ignore_space)
+
 abbrev pub is_account : Account → Account → Bool
-is_account a b = bytes_eq a.user b.user && is_same a.found_rows b.found_rows
+is_account a b = bytes_eq a.user b.user && are_same a.capabilities b.capabilities
 
 abbrev pub is_key : LinkKey → LinkKey → Bool
 is_key a b = is_hostgroup a.hostgroup b.hostgroup && (is_account a.account b.account && is_same a.bare b.bare)

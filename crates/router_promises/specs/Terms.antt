@@ -4,6 +4,7 @@ use Rattle.client_session.specs.Answers.{account, opening_of}
 use Rattle.client_side.specs.Login.{Opening, Says}
 use Rattle.mx_wire.specs.Log.{Log}
 use Rattle.private_model.specs.Commands.{Account}
+use Rattle.log_story.specs.Servers.{logged_in_as}
 use Rattle.private_model.specs.Names.{ClientNo, LinkId, ServerId}
 use Rattle.private_model.specs.Story.{Key}
 use Rattle.private_model.specs.View.{Setup}
@@ -58,7 +59,7 @@ abbrev pub entry_behind : Log → ℕ
 entry_behind log = length log + 1
 
 abbrev pub login_as : Login → Account
-login_as login = record { user = login.user; found_rows = login.found_rows }
+login_as login = logged_in_as login
 
 -- a client that is logged in is who it says, and begins where it says
 abbrev pub IsWhoItSays : Terms → Client → Opening → Type 0

@@ -18,7 +18,7 @@ use Rattle.private_model.specs.Story.{Broke, Due, End, Freed, Happening, Left, L
 use Rattle.private_model.specs.View.{Answered, Asked, Carried, Joined, Lent, Nobody, Quiet, Setup, Stage, View, present}
 use Rattle.log_story.specs.Clients.{client_leaves, ended_if_now}
 use Rattle.log_story.specs.Plan.{Plan, Route, StepText, is_now, job_of, own_at}
-use Rattle.log_story.specs.Servers.{begins, begun_by, begun_on, copy_by, due_in, entered_by, freed_if_done, heard_by, hears, is_done, is_done_by, is_given_up, of_due, or_broke}
+use Rattle.log_story.specs.Servers.{begins, begun_by, begun_on, copy_by, due_in, entered_by, freed_if_done, heard_by, hears, is_done, is_done_by, is_given_up, logged_in_as, of_due, or_broke}
 use Rattle.log_story.specs.Servers.{is_left, is_quiet, is_settled, kind_by, may_begin, quits_by, quits_for, read_as, reads_on, reset_by, runs_first, step_for, stepped, tell_all, with_run, writes}
 use Rattle.log_story.specs.Tale.{Client, Tale, Wire, is_reset_step, is_to_server, link_in, new_wire, tell, view_of, with_wire}
 use Rattle.log_story.specs.Telling.{is_lost_or_left, server_says, told, wire_with}
@@ -32,7 +32,7 @@ use Rattle.std.proofs.lemmas.Bool.{or_left, or_right}
 entered_same : (p q : Plan) (link : LinkId) (wire : Wire) (at : Opening) (tale : Tale) → p.logins link ≡ q.logins link
     → entered_by p link wire at tale ≡ entered_by q link wire at tale
 entered_same p q link wire (LogsIn said rest) tale same =
-    ap (λ (login : Account). tell (LoggedIn link wire.server (record { user = login.user; found_rows = login.found_rows }))
+    ap (λ (login : Account). tell (LoggedIn link wire.server (logged_in_as login))
     (with_wire link (record wire { entered = true; unread = rest; written = [] }) tale)) same
 entered_same p q link wire (Goes said) tale same = refl
 entered_same p q link wire (Fails said fault) tale same = refl

@@ -15,13 +15,14 @@ use Rattle.server_rule.specs.Classes.{Reads, core}
 use Rattle.private_model.proofs.Maps.{name_of, number_of, same_name}
 use Rattle.private_model.specs.Names.{SessionName}
 use Rattle.private_model.specs.Commands.{Account, Command, FieldList, InitDb, Prepare, Query, Quit, ReadId, Reset, Run, SetId, class_of, is_marked}
+use Rattle.server_rule.specs.declared.session.Capabilities.{Capabilities}
 use Rattle.private_model.specs.Lawful.{BeginsThere, Fits, GoesOnThere, IdsAgree, IsKeyed, IsLawful, IsOwnStep, IsPlaced}
 use Rattle.private_model.specs.Lawful.{IsSet, IsStatement, IsStepOf, IsToldKey, MayCome, MayLend, MaySend, PreparesFirst, PreparesThere, is_statement}
 use Rattle.private_model.specs.Story.{BecameDue, Broke, Capture, Dropped, Due, End, Freed, Gone, Happening, Heard, Left, LoggedIn, Mirrored, Own, Prep, Question, Ran, Sent, Statement, Story, Sync, Unprepared}
 use Rattle.private_model.specs.Story.{is_name, message_of}
 use Rattle.private_model.specs.View.{Answered, Asked, Carried, Held, Joined, Lent, Link, Nobody, Quiet, Setup, Stage, View, present, view_after}
 use Rattle.log_story.specs.Servers.{is_quiet}
-use Rattle.tale_world.specs.Tests.{are_settings, begins_there, fits, goes_on_there, has_due, is_account, is_flag, is_id, is_joined, is_keyed, is_lent, is_lent_to, is_nobody}
+use Rattle.tale_world.specs.Tests.{are_flags, are_settings, begins_there, fits, goes_on_there, has_due, is_account, is_flag, is_id, is_joined, is_keyed, is_lent, is_lent_to, is_nobody}
 use Rattle.tale_world.specs.Tests.{is_own_step, is_placed, is_schema, is_set_by, is_step_of, is_told_key, is_value, may_begin_question, may_happen, may_lend, may_prepare, may_state, may_tell}
 
 isnt : {A : Type 0} → false ≡ true → A
@@ -54,13 +55,23 @@ same_flag : (a b : Bool) → is_flag a b ≡ true → a ≡ b
 same_flag true b is = sym is
 same_flag false b is = sym (not-true b is)
 
-account_by : (a b : Account) → a.user ≡ b.user → a.found_rows ≡ b.found_rows → a ≡ b
-account_by a b user found = λ i. record { user = user i; found_rows = found i }
+capabilities_by : (a b : Capabilities) → a.found_rows ≡ b.found_rows → a.multi_results ≡ b.multi_results → a.ignore_space ≡ b.ignore_space → a ≡ b
+capabilities_by a b found several space = λ i. record { found_rows = found i; multi_results = several i; ignore_space = space i }
 
-same_account : (a b : Account) → is_account a b ≡ true → a ≡ b
+same_capabilities : (a b : Capabilities) → are_flags a b ≡ true → a ≡ b
+same_capabilities a b is =
+    let first = and_parts (is_flag a.found_rows b.found_rows) _ is in
+    let later = and_parts (is_flag a.multi_results b.multi_results) (is_flag a.ignore_space b.ignore_space) first.1 in
+    capabilities_by a b (same_flag a.found_rows b.found_rows first.0) (same_flag a.multi_results b.multi_results later.0)
+    (same_flag a.ignore_space b.ignore_space later.1)
+
+account_by : (a b : Account) → a.user ≡ b.user → a.capabilities ≡ b.capabilities → a ≡ b
+account_by a b user capabilities = λ i. record { user = user i; capabilities = capabilities i }
+
+pub same_account : (a b : Account) → is_account a b ≡ true → a ≡ b
 same_account a b is =
-    let parts = and_parts (bytes_eq a.user b.user) (is_flag a.found_rows b.found_rows) is in
-    account_by a b (same_bytes a.user b.user parts.0) (same_flag a.found_rows b.found_rows parts.1)
+    let parts = and_parts (bytes_eq a.user b.user) (are_flags a.capabilities b.capabilities) is in
+    account_by a b (same_bytes a.user b.user parts.0) (same_capabilities a.capabilities b.capabilities parts.1)
 
 ids_agree : (a b : Option ℕ) → is_id a b ≡ true → IdsAgree a b
 ids_agree (Some a) (Some b) is = record { id = b; link = ap (λ x. Some x) (number_of a b is); session = refl }

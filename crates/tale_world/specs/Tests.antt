@@ -12,6 +12,7 @@ use Rattle.session_state.specs.declared.place.Told.{Told}
 use Rattle.server_rule.specs.Classes.{Reads, core}
 use Rattle.private_model.specs.Names.{SessionName}
 use Rattle.private_model.specs.Commands.{Account, Command, InitDb, Prepare, Query, Quit, Run, SetId, class_of, is_marked}
+use Rattle.server_rule.specs.declared.session.Capabilities.{Capabilities}
 use Rattle.private_model.specs.Lawful.{is_statement}
 use Rattle.private_model.specs.Story.{Broke, Capture, Due, End, Happening, Own, Prep, Question, Sent, Statement, Story, Sync, Unprepared, is_name, message_of}
 use Rattle.private_model.specs.View.{Carried, Held, Joined, Lent, Link, Nobody, Setup, View, present, view_after}
@@ -37,8 +38,11 @@ abbrev pub is_flag : Bool → Bool → Bool
 is_flag true b = b
 is_flag false b = not b
 
+abbrev pub are_flags : Capabilities → Capabilities → Bool
+are_flags a b = is_flag a.found_rows b.found_rows && (is_flag a.multi_results b.multi_results && is_flag a.ignore_space b.ignore_space)
+
 abbrev pub is_account : Account → Account → Bool
-is_account a b = bytes_eq a.user b.user && is_flag a.found_rows b.found_rows
+is_account a b = bytes_eq a.user b.user && are_flags a.capabilities b.capabilities
 
 -- both are known, and equal
 abbrev pub is_id : Option ℕ → Option ℕ → Bool
