@@ -2,7 +2,7 @@
 use Rattle.std.specs.Prelude.{Bool, List, None, Ok, Option, Result, Some, [], false, true, ℕ, ◌++◌}
 use Rattle.client_session.specs.{Accounts.account_of, Errors.access_denied, Errors.bad_handshake, Errors.own_ok, Errors.packet_out_of_order}
 use Rattle.client_session.specs.{Errors.packet_too_large, Setups.Setup}
-use Rattle.client_side.specs.{Login.Fails, Login.Opening, Login.Says, Login.Waits, Login.fault_id, Login.opening, Reading.said}
+use Rattle.client_side.specs.{Login.Fails, Login.Opening, Login.Says, Login.Waits, Login.fault_id, Login.login_limit, Login.opening, Reading.said}
 use Rattle.client_side.specs.{declared.step.ClientFault.ClientFault, declared.step.ClientFault.TheVariants.Frame, declared.step.ClientFault.TheVariants.Hand}
 use Rattle.command_parse.specs.{Meaning.Meaning, Meaning.parsed, Meaning.Meaning.FieldList, Meaning.Meaning.InitDb, Meaning.Meaning.Query, Meaning.Meaning.Quit}
 use Rattle.command_parse.specs.{declared.fault.CommandFault.CommandFault}
@@ -25,6 +25,14 @@ heard_more talk more = record talk { read = talk.read ++ more }
 -- how far its login is
 abbrev pub opening_of : Talk → Opening
 opening_of talk = opening talk.setup.limit talk.read
+
+-- not all of it is there
+abbrev pub waits_in : Opening → Bool
+waits_in (Waits switched) = true
+waits_in _ = false
+
+abbrev pub lacks_login : Talk → Bool
+lacks_login talk = waits_in (opening_of talk)
 
 -- who it is, once it is logged in
 abbrev pub account_in : Talk → Opening → Option Account
@@ -74,7 +82,7 @@ fault_error limit (Frame fault) = frame_error limit fault
 abbrev pub front_in : Talk → Opening → List ℕ
 front_in talk (Waits switched) = greeted talk switched
 front_in talk (Says switched response id rest) = greeted talk switched ++ spelling id (login_answer response (account_of talk.setup.users talk.salt response))
-front_in talk (Fails switched fault id) = greeted talk switched ++ spelling id (fault_error talk.setup.limit fault)
+front_in talk (Fails switched fault id) = greeted talk switched ++ spelling id (fault_error (login_limit talk.setup.limit) fault)
 
 abbrev pub front : Talk → List ℕ
 front talk = front_in talk (opening_of talk)

@@ -3,9 +3,11 @@
 #![tactic(auto)]
 
 mod account;
+mod arrival;
 mod refusal;
 mod setup;
 
 pub use account::account_of;
+pub use arrival::login_end;
 pub use refusal::{Refusal, write_denied, write_own_ok, write_refusal};
 pub use setup::{ServerAt, Setup, User};

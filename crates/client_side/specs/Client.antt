@@ -1,14 +1,23 @@
 -- What a client's link is to its callers.
-use Rattle.std.specs.Prelude.{◌≡◌, ℕ, ◌+◌, nat_lt, List, [], ◌++◌, Option, Some, None, IsSome, if◌then◌else◌}
+use Rattle.std.specs.Prelude.{◌≡◌, ℕ, ◌+◌, nat_lt, Bool, true, false, List, [], ◌++◌, Option, Some, None, IsSome, if◌then◌else◌}
 use Rattle.mx_base.specs.declared.names.ClientNo.{ClientNo}
 use Rattle.packet_frame.specs.FramerState.{FramerState, past}
 use Rattle.packet_frame.specs.Packets.{Framed}
 use Rattle.handshake.specs.declared.response.Response.{Response}
 use Rattle.client_side.specs.declared.stage.Stage.{Stage}
 use Rattle.client_side.specs.declared.stage.Stage.TheVariants as stage
-use Rattle.client_side.specs.Login.{greeting_said}
+use Rattle.client_side.specs.Login.{greeting_said, login_limit}
 
--- its number and its salt, what was read, how far its login is, how many commands arrived, and what is to be written
+-- commands come once the login is done
+abbrev pub is_in : Stage → Bool
+is_in stage.Commands = true
+is_in _ = false
+
+-- the limit of the messages that come now
+abbrev pub limit_at : (is_in : Bool) → (limit : ℕ) → ℕ
+limit_at is_in limit = if is_in then limit else login_limit limit
+
+-- its number and its salt, what was read with the limit of its commands, how far its login is, how many commands arrived, and what is to be written
 pub record ClientState : Type 0 where
   pub number : ClientNo
   pub salt : List ℕ

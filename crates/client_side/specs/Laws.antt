@@ -14,9 +14,9 @@ use Rattle.client_side.specs.declared.stage.Stage.{Stage}
 use Rattle.client_side.specs.declared.stage.Stage.TheVariants as stage
 use Rattle.client_side.specs.declared.step.ClientFault.{ClientFault}
 use Rattle.client_side.specs.declared.step.ClientFault.TheVariants.{Hand}
-use Rattle.client_side.specs.Login.{Opening, Waits, Says, Fails, switched_of, needs_switch, greeting_said, switch_said, by_answer, by_message, by_response, answer_in, opening}
+use Rattle.client_side.specs.Login.{Opening, login_limit, Waits, Says, Fails, switched_of, needs_switch, greeting_said, switch_said, by_answer, by_message, by_response, answer_in, opening}
 use Rattle.client_side.specs.Client.{ClientState, new_client, fed, past_message}
-use Rattle.client_side.specs.Steps.{next_of, looked, answer_found, response_found, response_read, behind, asked}
+use Rattle.client_side.specs.Steps.{look_login, next_of, looked, answer_found, response_found, response_read, behind, asked}
 use Rattle.client_side.specs.Reading.{said_to, IsReading, IsLoggingIn, HasStepped}
 
 -- nothing was read yet
@@ -45,15 +45,15 @@ pub logging-fed : (client : ClientState) (version read piece bytes : List ℕ) �
 logging-fed client version read piece bytes at = fed_at client.stage client version read piece bytes at
 
 -- a framer without a fault looks into its bytes
-looked_into : (first : ℕ) (framer : FramerState) → framer.fault ≡ None → look first framer ≡ first_message framer.limit first framer.kept
-looked_into first framer faultless = ap (λ fault. look_by fault (first_message framer.limit first framer.kept)) faultless
+looked_into : (first : ℕ) (framer : FramerState) → framer.fault ≡ None → look_login first framer ≡ first_message (login_limit framer.limit) first framer.kept
+looked_into first framer faultless = ap (λ fault. look_by fault (first_message (login_limit framer.limit) first framer.kept)) faultless
 
 -- a message at the front of the bytes stays, and so does what is behind it
-taken : (first : ℕ) (framer : FramerState) (message : Framed) (rest more : List ℕ) → first_message framer.limit first framer.kept ≡ Whole message rest
-    → first_message framer.limit first (framer.kept ++ more) ≡ Whole message ((past_message message framer).kept ++ more)
+taken : (first : ℕ) (framer : FramerState) (message : Framed) (rest more : List ℕ) → first_message (login_limit framer.limit) first framer.kept ≡ Whole message rest
+    → first_message (login_limit framer.limit) first (framer.kept ++ more) ≡ Whole message ((past_message message framer).kept ++ more)
 taken first framer message rest more whole =
-    first_message-whole-more framer.limit first framer.kept more message rest whole
-    ∙ ap (λ behind. Whole message (behind ++ more)) (first_message-goes framer.limit first framer.kept message rest whole)
+    first_message-whole-more (login_limit framer.limit) first framer.kept more message rest whole
+    ∙ ap (λ behind. Whole message (behind ++ more)) (first_message-goes (login_limit framer.limit) first framer.kept message rest whole)
 
 reading-past : (message : Framed) (framer : FramerState) → IsReading framer → IsReading (past_message message framer)
 reading-past message framer at = record { unfound = refl; faultless = at.faultless }
@@ -67,7 +67,7 @@ still_due at client version read bytes due was = subst (λ (s : Stage). IsLoggin
 
 -- the bare answer is due
 answered : (client : ClientState) (response : Response) (version read written : List ℕ) → client.stage ≡ stage.Answer response → IsLoggingIn (stage.Answer response) client version read (written ++ client.outgoing)
-    → (found : Found) → first_message client.framer.limit 3 client.framer.kept ≡ found
+    → (found : Found) → first_message (login_limit client.framer.limit) 3 client.framer.kept ≡ found
     → HasStepped (answer_found response client found).step (answer_found response client found).client client.framer.limit version read (written ++ (answer_found response client found).client.outgoing)
 answered client response version read written due at Nothing is =
     let waits : opening client.framer.limit read ≡ Waits true =
@@ -80,13 +80,13 @@ answered client response version read written due at (Whole message rest) is =
     λ more. at.1 more ∙ ap (by_answer response) (taken 3 client.framer message rest more is) in
     (own, refl, (true, reading-past message client.framer at.0, record { whatever = says }, at.2))
 answered client response version read written due at (Faulty fault) is =
-    (true, λ more. at.1 more ∙ ap (by_answer response) (first_message-faulty-more client.framer.limit 3 client.framer.kept more fault is), at.2)
+    (true, λ more. at.1 more ∙ ap (by_answer response) (first_message-faulty-more (login_limit client.framer.limit) 3 client.framer.kept more fault is), at.2)
 
 answering : (client : ClientState) (response : Response) (version read written : List ℕ) → client.stage ≡ stage.Answer response → IsLoggingIn (stage.Answer response) client version read (written ++ client.outgoing)
-    → HasStepped (answer_found response client (look 3 client.framer)).step (answer_found response client (look 3 client.framer)).client client.framer.limit version read (written ++ (answer_found response client (look 3 client.framer)).client.outgoing)
+    → HasStepped (answer_found response client (look_login 3 client.framer)).step (answer_found response client (look_login 3 client.framer)).client client.framer.limit version read (written ++ (answer_found response client (look_login 3 client.framer)).client.outgoing)
 answering client response version read written due at =
     subst (λ (found : Found). HasStepped (answer_found response client found).step (answer_found response client found).client client.framer.limit version read (written ++ (answer_found response client found).client.outgoing))
-    (sym (looked_into 3 client.framer at.0.faultless)) (answered client response version read written due at (first_message client.framer.limit 3 client.framer.kept) refl)
+    (sym (looked_into 3 client.framer at.0.faultless)) (answered client response version read written due at (first_message (login_limit client.framer.limit) 3 client.framer.kept) refl)
 
 -- what is behind the response, where the id of an answer to it is `id`
 pub record IsBehind (client : ClientState) (read : List ℕ) (id : ℕ) (decoded : Result Response HandFault) : Type 0 where
@@ -112,26 +112,26 @@ decided client id (Ok response) version read written at bytes = chosen client id
 
 -- the response is due
 responded : (client : ClientState) (version read written : List ℕ) → client.stage ≡ stage.Response → IsLoggingIn stage.Response client version read (written ++ client.outgoing)
-    → (found : Found) → first_message client.framer.limit 1 client.framer.kept ≡ found
+    → (found : Found) → first_message (login_limit client.framer.limit) 1 client.framer.kept ≡ found
     → HasStepped (response_found client found).step (response_found client found).client client.framer.limit version read (written ++ (response_found client found).client.outgoing)
 unfolding opening
 responded client version read written due at Nothing is =
-    let waits : opening client.framer.limit read ≡ Waits false = ap (λ bytes. by_message client.framer.limit (first_message client.framer.limit 1 bytes)) (sym at.1) ∙ ap (by_message client.framer.limit) is in
+    let waits : opening client.framer.limit read ≡ Waits false = ap (λ bytes. by_message client.framer.limit (first_message (login_limit client.framer.limit) 1 bytes)) (sym at.1) ∙ ap (by_message client.framer.limit) is in
     (still_due stage.Response client version read (written ++ client.outgoing) due (reading-looked client at.0, at.1, at.2), false, waits, at.2)
 responded client version read written due at (Whole message rest) is =
     let kept = (past_message message client.framer).kept in
     let whatever : (more : List ℕ) → opening client.framer.limit (read ++ more) ≡ by_response client.framer.limit (next_id message.last) (response_of message.payload) (kept ++ more) =
-    λ more. ap (λ bytes. by_message client.framer.limit (first_message client.framer.limit 1 (bytes ++ more))) (sym at.1) ∙ ap (by_message client.framer.limit) (taken 1 client.framer message rest more is) in
+    λ more. ap (λ bytes. by_message client.framer.limit (first_message (login_limit client.framer.limit) 1 (bytes ++ more))) (sym at.1) ∙ ap (by_message client.framer.limit) (taken 1 client.framer message rest more is) in
     decided (behind message client) (next_id message.last) (response_of message.payload) version read written (record { reading = reading-past message client.framer at.0; whatever = whatever }) at.2
 responded client version read written due at (Faulty fault) is =
-    (false, λ more. ap (λ bytes. by_message client.framer.limit (first_message client.framer.limit 1 (bytes ++ more))) (sym at.1) ∙ ap (by_message client.framer.limit) (first_message-faulty-more client.framer.limit 1 client.framer.kept more fault is), at.2)
+    (false, λ more. ap (λ bytes. by_message client.framer.limit (first_message (login_limit client.framer.limit) 1 (bytes ++ more))) (sym at.1) ∙ ap (by_message client.framer.limit) (first_message-faulty-more (login_limit client.framer.limit) 1 client.framer.kept more fault is), at.2)
 
 -- the next step is taken, where `written` was written before
 next_at : (at : Stage) (client : ClientState) (version read written : List ℕ) → client.stage ≡ at → IsLoggingIn at client version read (written ++ client.outgoing)
     → HasStepped (next_of at client).step (next_of at client).client client.framer.limit version read (written ++ (next_of at client).client.outgoing)
 next_at stage.Response client version read written due was =
     subst (λ (found : Found). HasStepped (response_found client found).step (response_found client found).client client.framer.limit version read (written ++ (response_found client found).client.outgoing))
-    (sym (looked_into 1 client.framer was.0.faultless)) (responded client version read written due was (first_message client.framer.limit 1 client.framer.kept) refl)
+    (sym (looked_into 1 client.framer was.0.faultless)) (responded client version read written due was (first_message (login_limit client.framer.limit) 1 client.framer.kept) refl)
 next_at (stage.Answer response) client version read written due was = answering client response version read written due was
 next_at (stage.Login response first) client version read written due was = (response, due, subst (λ (s : Stage). IsLoggingIn s client version read (written ++ client.outgoing)) (sym due) was)
 next_at (stage.Refused first fault) client version read written due was = was
@@ -153,29 +153,29 @@ by_answer-switched response Nothing = refl
 by_answer-switched response (Whole message rest) = refl
 by_answer-switched response (Faulty fault) = refl
 
-answer-grows : (limit : ℕ) (response : Response) (bytes more : List ℕ) (found : Found) → first_message limit 3 bytes ≡ found → Grows (by_answer response found) more (answer_in limit response (bytes ++ more))
-answer-grows limit response bytes more Nothing is = by_answer-switched response (first_message limit 3 (bytes ++ more))
-answer-grows limit response bytes more (Whole message rest) is = ap (by_answer response) (first_message-whole-more limit 3 bytes more message rest is)
-answer-grows limit response bytes more (Faulty fault) is = ap (by_answer response) (first_message-faulty-more limit 3 bytes more fault is)
+answer-grows : (limit : ℕ) (response : Response) (bytes more : List ℕ) (found : Found) → first_message (login_limit limit) 3 bytes ≡ found → Grows (by_answer response found) more (answer_in limit response (bytes ++ more))
+answer-grows limit response bytes more Nothing is = by_answer-switched response (first_message (login_limit limit) 3 (bytes ++ more))
+answer-grows limit response bytes more (Whole message rest) is = ap (by_answer response) (first_message-whole-more (login_limit limit) 3 bytes more message rest is)
+answer-grows limit response bytes more (Faulty fault) is = ap (by_answer response) (first_message-faulty-more (login_limit limit) 3 bytes more fault is)
 
 choice-grows : (limit id : ℕ) (response : Response) (bytes more : List ℕ) (switched : Bool)
     → Grows (if switched then answer_in limit response bytes else Says false response id bytes) more (if switched then answer_in limit response (bytes ++ more) else Says false response id (bytes ++ more))
-choice-grows limit id response bytes more true = answer-grows limit response bytes more (first_message limit 3 bytes) refl
+choice-grows limit id response bytes more true = answer-grows limit response bytes more (first_message (login_limit limit) 3 bytes) refl
 choice-grows limit id response bytes more false = refl
 
 response-grows : (limit id : ℕ) (decoded : Result Response HandFault) (bytes more : List ℕ) → Grows (by_response limit id decoded bytes) more (by_response limit id decoded (bytes ++ more))
 response-grows limit id (Err fault) bytes more = refl
 response-grows limit id (Ok response) bytes more = choice-grows limit id response bytes more (needs_switch response.plugin)
 
-message-grows : (limit : ℕ) (read more : List ℕ) (found : Found) → first_message limit 1 read ≡ found → Grows (by_message limit found) more (by_message limit (first_message limit 1 (read ++ more)))
+message-grows : (limit : ℕ) (read more : List ℕ) (found : Found) → first_message (login_limit limit) 1 read ≡ found → Grows (by_message limit found) more (by_message limit (first_message (login_limit limit) 1 (read ++ more)))
 message-grows limit read more Nothing is = tt
-message-grows limit read more (Whole message rest) is = rw (first_message-whole-more limit 1 read more message rest is) (response-grows limit (next_id message.last) (response_of message.payload) rest more)
-message-grows limit read more (Faulty fault) is = ap (by_message limit) (first_message-faulty-more limit 1 read more fault is)
+message-grows limit read more (Whole message rest) is = rw (first_message-whole-more (login_limit limit) 1 read more message rest is) (response-grows limit (next_id message.last) (response_of message.payload) rest more)
+message-grows limit read more (Faulty fault) is = ap (by_message limit) (first_message-faulty-more (login_limit limit) 1 read more fault is)
 
 -- a login that is there stays, and so does a fault; who is asked to switch stays asked
 pub opening-grows : (limit : ℕ) (read more : List ℕ) → Grows (opening limit read) more (opening limit (read ++ more))
 unfolding opening
-opening-grows limit read more = message-grows limit read more (first_message limit 1 read) refl
+opening-grows limit read more = message-grows limit read more (first_message (login_limit limit) 1 read) refl
 
 grows_from : (limit : ℕ) (read more : List ℕ) (begun : Opening) → opening limit read ≡ begun → Grows begun more (opening limit (read ++ more))
 grows_from limit read more begun is = subst (λ old. Grows old more (opening limit (read ++ more))) is (opening-grows limit read more)

@@ -1,5 +1,5 @@
 -- How the bytes of a client begin: its response to the greeting, and the bare answer where it is asked to switch the login method.
-use Rattle.std.specs.Prelude.{ℕ, ◌+◌, ◌-◌, ◌/◌, ◌%◌, Bool, true, false, not, bytes_eq, List, Option, Some, None, Result, Ok, Err, if◌then◌else◌}
+use Rattle.std.specs.Prelude.{ℕ, ◌+◌, ◌-◌, ◌/◌, ◌%◌, Bool, true, false, nat_lt, not, bytes_eq, List, Option, Some, None, Result, Ok, Err, if◌then◌else◌}
 use Rattle.packet_frame.specs.declared.fault.FrameFault.{FrameFault}
 use Rattle.packet_frame.specs.declared.fault.FrameFault.TheVariants.{OutOfOrder, TooLarge}
 use Rattle.packet_frame.specs.Packets.{Found, longest, next_id, first_message, spelling}
@@ -27,6 +27,10 @@ abbrev pub switch_said : (salt : List ℕ) → List ℕ
 switch_said salt = spelling 2 (switch_bytes (record { plugin = native_password; salt = salt }))
 
 -- What the client says.
+
+-- A client that isn't logged in says one message at a time, of at most 65,536 bytes, be the limit of its commands as great as it may.
+abbrev pub login_limit : (limit : ℕ) → ℕ
+login_limit limit = if nat_lt limit 65536 then limit else 65536
 
 -- another login method is named
 abbrev pub needs_switch : Option (List ℕ) → Bool
@@ -58,7 +62,7 @@ by_answer response (Faulty fault) = Fails true (Frame fault) (fault_id 3 fault)
 
 -- the bare answer behind a switch has the id 3
 abbrev pub answer_in : (limit : ℕ) → Response → List ℕ → Opening
-answer_in limit response bytes = by_answer response (first_message limit 3 bytes)
+answer_in limit response bytes = by_answer response (first_message (login_limit limit) 3 bytes)
 
 abbrev pub by_response : (limit id : ℕ) → Result Response HandFault → List ℕ → Opening
 by_response limit id (Err fault) rest = Fails false (Hand fault) id
@@ -71,4 +75,4 @@ by_message limit (Faulty fault) = Fails false (Frame fault) (fault_id 1 fault)
 
 -- the response behind the greeting has the id 1
 unfoldable pub opening : (limit : ℕ) → List ℕ → Opening
-opening limit bytes = by_message limit (first_message limit 1 bytes)
+opening limit bytes = by_message limit (first_message (login_limit limit) 1 bytes)

@@ -1,6 +1,6 @@
 -- What a client says next, and what is left of it.
 use Rattle.std.specs.Prelude.{◌≡◌, ◌⊎◌, ℕ, true, ◌++◌, IsSome, Result, Ok, Err, if◌then◌else◌}
-use Rattle.packet_frame.specs.FramerState.{look, seen}
+use Rattle.packet_frame.specs.FramerState.{FramerState, look, seen}
 use Rattle.packet_frame.specs.Packets.{Framed, Found, next_id}
 use Rattle.packet_frame.specs.Packets.Found.{Nothing, Whole, Faulty}
 use Rattle.handshake.specs.declared.fault.HandFault.{HandFault}
@@ -11,8 +11,12 @@ use Rattle.client_side.specs.declared.stage.Stage.TheVariants as stage
 use Rattle.client_side.specs.declared.step.ClientFault.TheVariants.{Hand, Frame}
 use Rattle.client_side.specs.declared.step.ClientStep.{ClientStep}
 use Rattle.client_side.specs.declared.step.ClientStep.TheVariants as step
-use Rattle.client_side.specs.Login.{switch_said, needs_switch, fault_id}
+use Rattle.client_side.specs.Login.{switch_said, needs_switch, fault_id, login_limit}
 use Rattle.client_side.specs.Client.{ClientState, counted, past_message, HasFound}
+
+-- what is found of a login: its messages are shorter than commands may be
+abbrev pub look_login : (first : ℕ) → FramerState → Found
+look_login first framer = look first (record framer { limit = login_limit framer.limit })
 
 -- a step, and the client that is left
 pub record Next : Type 0 where
@@ -51,7 +55,7 @@ asked response client = record client { stage = stage.Answer response; outgoing 
 -- the response, where the id of an answer to it is `id`
 abbrev pub response_read : (id : ℕ) → Result Response HandFault → ClientState → Next
 response_read id (Err fault) client = record { step = step.Refused id (Hand fault); client = record client { stage = stage.Refused id fault } }
-response_read id (Ok response) client = if needs_switch response.plugin then answer_found response (asked response client) (look 3 client.framer) else logs_in response id client
+response_read id (Ok response) client = if needs_switch response.plugin then answer_found response (asked response client) (look_login 3 client.framer) else logs_in response id client
 
 abbrev pub response_found : ClientState → Found → Next
 response_found client Nothing = nothing client
@@ -66,15 +70,15 @@ command_found client (Faulty fault) = unframed 0 fault client
 
 -- by how far the login is
 abbrev pub next_of : Stage → ClientState → Next
-next_of stage.Response client = response_found client (look 1 client.framer)
-next_of (stage.Answer response) client = answer_found response client (look 3 client.framer)
+next_of stage.Response client = response_found client (look_login 1 client.framer)
+next_of (stage.Answer response) client = answer_found response client (look_login 3 client.framer)
 next_of (stage.Login response first) client = record { step = step.Login first; client = client }
 next_of (stage.Refused first fault) client = record { step = step.Refused first (Hand fault); client = client }
 next_of stage.Commands client = command_found client (look 0 client.framer)
 
 -- the same of the bare answer, where it is due, and of the message that is it
 abbrev pub IsAnswerNext : Stage → ClientState → Next → Type 0
-IsAnswerNext (stage.Answer response) client next = next ≡ answer_found response client (look 3 client.framer)
+IsAnswerNext (stage.Answer response) client next = next ≡ answer_found response client (look_login 3 client.framer)
 IsAnswerNext _ client next = Unit {0}
 
 abbrev pub IsAnswerRead : Stage → Framed → ClientState → Next → Type 0
@@ -91,7 +95,7 @@ IsFoundBy _ client = Unit {0}
 
 abbrev pub IsAskedOnly : Result Response HandFault → ClientState → ClientState → Type 0
 IsAskedOnly (Err fault) client new = ⊥
-IsAskedOnly (Ok response) client new = (needs_switch response.plugin ≡ true) × (new ≡ looked (asked response client) (look 3 client.framer))
+IsAskedOnly (Ok response) client new = (needs_switch response.plugin ≡ true) × (new ≡ looked (asked response client) (look_login 3 client.framer))
 
 abbrev pub IsUnread : Framed → ClientState → ClientState → Type 0
 IsUnread message old new = (new ≡ old) ⊎ IsAskedOnly (response_of message.payload) (behind message old) new
@@ -101,6 +105,6 @@ IsUnanswered old (Whole message rest) new = IsUnread message (looked old (Whole 
 IsUnanswered old _ new = ⊥
 
 abbrev pub IsHeldUp : Stage → ClientState → ClientState → Type 0
-IsHeldUp stage.Response old new = IsUnanswered old (look 1 old.framer) new
-IsHeldUp (stage.Answer response) old new = new ≡ looked old (look 3 old.framer)
+IsHeldUp stage.Response old new = IsUnanswered old (look_login 1 old.framer) new
+IsHeldUp (stage.Answer response) old new = new ≡ looked old (look_login 3 old.framer)
 IsHeldUp _ old new = ⊥

@@ -1,4 +1,7 @@
 // The link of a client.
+ghost use Rattle.std.specs.Prelude.{◌≡◌};
+ghost use Rattle.client_side.specs.Login.{login_limit};
+
 use crate::greeting::greeting_packet;
 use crate::next::counted;
 use crate::stage::Stage;
@@ -8,6 +11,20 @@ use packet_frame::Framer;
 use std::alloc::Global;
 use std::marker::Model;
 
+/// What a client may say before its login is done: messages of so many bytes.
+const MOST_LOGIN: u64 = 65_536;
+
+/// The limit of the messages of a login, where commands have this one: 65,536 bytes, or that one where it is less.
+pub fn login_limit(limit: u64) -> u64
+    ensures { result ≡ login_limit limit }
+{
+    if limit < MOST_LOGIN {
+        limit
+    } else {
+        MOST_LOGIN
+    }
+}
+
 /// The link of a client (client/server protocol, "Connection Lifecycle"): what was read of it and isn't answered, and
 /// what is to be written to it.
 #[derive(Drop)]
@@ -15,6 +32,7 @@ pub struct Client {
     pub(crate) alloc: Global,
     number: ClientNo,
     pub(crate) salt: [u8; 20],
+    limit: u64,
     pub(crate) framer: Framer,
     pub(crate) stage: Stage,
     pub(crate) arrived: u64,
@@ -26,7 +44,12 @@ impl Model for Client {
 
     ghost Value = { ClientState };
 
-    ghost view = { λ c. record { number = c.number; salt = c.salt; framer = c.framer; stage = c.stage; arrived = c.arrived; outgoing = c.outgoing } };
+    ghost view = { λ c. record { number = c.number; salt = c.salt; framer = record c.framer { limit = c.limit }; stage = c.stage; arrived = c.arrived; outgoing = c.outgoing } };
+
+    ghost use Rattle.std.specs.Prelude.{◌≡◌};
+    ghost use Rattle.client_side.specs.Client.{is_in, limit_at};
+
+    ghost invariant = { λ c. c.framer.limit ≡ limit_at (is_in c.stage) c.limit };
 }
 
 impl Client {
@@ -36,8 +59,8 @@ impl Client {
     ghost use Rattle.handshake.specs.Spelling.{IsText};
     ghost use Rattle.client_side.specs.Client.{ClientState, told_first, new_client, fed, login_of, HasFound, IsDone};
 
-    /// A client of which nothing was read, and to which the greeting is to be written. It takes messages of at most
-    /// `limit` bytes.
+    /// A client of which nothing was read, and to which the greeting is to be written. It takes commands of at most
+    /// `limit` bytes, and what it says before them is as short as `login_limit` has it.
     pub fn new(
         alloc: Global,
         number: ClientNo,
@@ -54,7 +77,7 @@ impl Client {
     }
 
     /// A client of which nothing was read, and to which these bytes are to be written in the greeting's place. It takes
-    /// messages of at most `limit` bytes.
+    /// messages as `new` does.
     pub fn told(
         alloc: Global,
         number: ClientNo,
@@ -70,7 +93,8 @@ impl Client {
             alloc,
             number,
             salt,
-            framer: Framer::new(alloc, limit),
+            limit,
+            framer: Framer::new(alloc, login_limit(limit)),
             stage: Stage::Response,
             arrived: 0,
             outgoing,
@@ -130,7 +154,10 @@ impl Client {
         ensures { IsDone self.old.stage self.old self.new }
     {
         match &self.stage {
-            Stage::Login { .. } => self.stage = Stage::Commands,
+            Stage::Login { .. } => {
+                self.framer.allow(self.limit);
+                self.stage = Stage::Commands;
+            }
             _ => {
                 self.framer.done();
                 self.arrived = counted(self.arrived);

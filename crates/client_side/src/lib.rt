@@ -8,6 +8,6 @@ mod next;
 mod stage;
 mod step;
 
-pub use client::Client;
+pub use client::{Client, login_limit};
 pub use stage::Stage;
 pub use step::{ClientFault, ClientStep};

@@ -56,13 +56,15 @@ fn needs_switch(response: &Response) -> bool
 }
 
 impl Client {
-    ghost use Rattle.std.specs.Prelude.{◌≡◌, ◌++◌, IsSome, IfSome, IfOk, OnOk, OnErr, Result, Err};
+    ghost use Rattle.std.specs.Prelude.{◌≡◌, ◌++◌, true, false, IsSome, IfSome, IfOk, OnOk, OnErr, Result, Err};
     ghost use Rattle.handshake.specs.declared.fault.HandFault.{HandFault};
     ghost use Rattle.handshake.specs.Reading.{Gives};
     ghost use Rattle.handshake.specs.Response.{response_of};
     ghost use Rattle.client_side.specs.Client.{ClientState, IsSame};
     ghost use Rattle.packet_frame.specs.Packets.{next_id};
     ghost use Rattle.packet_frame.specs.FramerState.{look};
+    ghost use Rattle.client_side.specs.Client.{is_in};
+    ghost use Rattle.client_side.specs.Steps.{look_login};
     ghost use Rattle.client_side.specs.Login.{switch_said};
     ghost use Rattle.client_side.specs.Steps.{next_of, response_found, response_read, answer_found, command_found, behind, asked, looked, IsAnswerNext, IsAnswerRead, IsFoundBy, IsUnread, IsUnanswered, IsHeldUp};
 
@@ -92,8 +94,9 @@ impl Client {
 
     // The response, where it is whole.
     fn next_response(&mut self) -> Result<ClientStep, OutOfMemory>
-        ensures step { IfOk result (λ step. record { step = step; client = self.new } ≡ response_found self.old (look 1 self.old.framer)) }
-        ensures err { OnErr result (IsUnanswered self.old (look 1 self.old.framer) self.new) }
+        requires { is_in self.old.stage ≡ false }
+        ensures step { IfOk result (λ step. record { step = step; client = self.new } ≡ response_found self.old (look_login 1 self.old.framer)) }
+        ensures err { OnErr result (IsUnanswered self.old (look_login 1 self.old.framer) self.new) }
     {
         match self.framer.next(1) {
             Ok(None) => Ok(ClientStep::Nothing),
@@ -107,7 +110,8 @@ impl Client {
 
     // The response that was found; `first` is the sequence id of an answer to it.
     fn read(&mut self, first: u8) -> Result<ClientStep, OutOfMemory>
-        requires { IsSome self.old.framer.found }
+        requires found { IsSome self.old.framer.found }
+        requires login { is_in self.old.stage ≡ false }
         ensures step { IfOk result (λ step. IfSome self.old.framer.found (λ message. record { step = step; client = self.new } ≡ response_read first (response_of message.payload) (behind message self.old))) }
         ensures err { OnErr result (IfSome self.old.framer.found (λ message. IsUnread message self.old self.new)) }
     {
@@ -129,7 +133,8 @@ impl Client {
     // The response that was found can't be read.
     #[tactic(auto, using(crate::proofs::Given::given_fault))]
     fn refuse(&mut self, first: u8, fault: HandFault) -> Result<ClientStep, OutOfMemory>
-        requires { IsSome self.old.framer.found }
+        requires found { IsSome self.old.framer.found }
+        requires login { is_in self.old.stage ≡ false }
         ensures step { IfOk result (λ step. IfSome self.old.framer.found (λ message. (read : Result Response HandFault) → Gives (Err fault) read → record { step = step; client = self.new } ≡ response_read first read (behind message self.old))) }
         ensures err { OnErr result (self.new ≡ self.old) }
     {
@@ -148,7 +153,8 @@ impl Client {
 
     // The client is asked to switch.
     fn ask(&mut self, response: Response) -> Result<(), OutOfMemory>
-        requires { IsSome self.old.framer.found }
+        requires found { IsSome self.old.framer.found }
+        requires login { is_in self.old.stage ≡ false }
         ensures ok { OnOk result (IfSome self.old.framer.found (λ message. self.new ≡ asked response (behind message self.old))) }
         ensures err { OnErr result (self.new ≡ self.old) }
     {
@@ -169,8 +175,9 @@ impl Client {
 
     // The bare answer, where it is whole.
     fn next_answer(&mut self) -> Result<ClientStep, OutOfMemory>
+        requires { is_in self.old.stage ≡ false }
         ensures step { IfOk result (λ step. IsAnswerNext self.old.stage self.old (record { step = step; client = self.new })) }
-        ensures err { OnErr result (self.new ≡ looked self.old (look 3 self.old.framer)) }
+        ensures err { OnErr result (self.new ≡ looked self.old (look_login 3 self.old.framer)) }
     {
         match self.framer.next(3) {
             Ok(None) => Ok(ClientStep::Nothing),
@@ -184,13 +191,14 @@ impl Client {
 
     // The bare answer that was found; `first` is the sequence id of an answer to it.
     fn read_answer(&mut self, first: u8) -> Result<ClientStep, OutOfMemory>
-        requires { IsSome self.old.framer.found }
+        requires found { IsSome self.old.framer.found }
+        requires login { is_in self.old.stage ≡ false }
         ensures step { IfOk result (λ step. IfSome self.old.framer.found (λ message. first ≡ next_id message.last → IsAnswerRead self.old.stage message self.old (record { step = step; client = self.new }))) }
         ensures err { OnErr result (self.new ≡ self.old) }
     {
         let answer = Bytes::from_slice(self.alloc, self.framer.payload())?;
         self.framer.done();
-        let stage = mem::replace(&mut self.stage, Stage::Commands);
+        let stage = mem::replace(&mut self.stage, Stage::Response);
         if let Stage::Answer(mut response) = stage {
             response.answer = answer;
             self.stage = Stage::Login { response, first };
@@ -200,6 +208,7 @@ impl Client {
 
     // The command, where one is whole.
     fn next_command(&mut self) -> ClientStep
+        requires { is_in self.old.stage ≡ true }
         ensures { record { step = result; client = self.new } ≡ command_found self.old (look 0 self.old.framer) }
     {
         match self.framer.next(0) {

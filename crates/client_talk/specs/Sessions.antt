@@ -17,6 +17,11 @@ account_in (phase.Idle account) = Some account
 account_in (phase.Working account) = Some account
 account_in _ = None
 
+-- it isn't logged in yet
+abbrev pub is_entering : Phase → Bool
+is_entering phase.LoggingIn = true
+is_entering _ = false
+
 abbrev pub is_ending : Phase → Bool
 is_ending phase.Ending = true
 is_ending _ = false

@@ -2,12 +2,12 @@
 use Rattle.client_session.specs.declared.refusal.Refusal.TheVariants.{MalformedCommand, NoServer, UnknownCommand}
 use Rattle.client_session.specs.{Answers.fault_error, Errors.access_denied, Errors.own_ok, Refusals.payload_of, Setups.Setup, Setups.has_server}
 use Rattle.client_side.specs.Client.{counted, login_of, past_message}
-use Rattle.client_side.specs.{Steps.Next, Steps.next_of, declared.step.ClientStep.ClientStep}
-use Rattle.client_talk.specs.declared.asked.Asked.TheVariants.{Ping, Query, Quit, Refused}
+use Rattle.client_side.specs.{Login.login_limit, Steps.Next, Steps.next_of, declared.step.ClientStep.ClientStep}
+use Rattle.client_talk.specs.declared.asked.Asked.TheVariants.{Ping, Query, Quit, Refused, Silence}
 use Rattle.client_talk.specs.declared.step.Turn.TheVariants.{More, Rests, Work}
 use Rattle.client_talk.specs.{declared.asked.Asked.Asked, declared.session.Phase.Phase, declared.session.Session.Session, declared.step.Turn.Turn}
-use Rattle.command_parse.specs.Meaning.Meaning.{FieldList as Lists, InitDb as Chooses, Ping as Pings, Query as Queries, Quit as Quits}
-use Rattle.command_parse.specs.{Meaning.Meaning, Meaning.parsed, declared.fault.CommandFault.CommandFault}
+use Rattle.command_parse.specs.Meaning.Meaning.{FieldList as Lists, InitDb as Chooses, Ping as Pings, Query as Queries, Quit as Quits, Refused as Other}
+use Rattle.command_parse.specs.{Meaning.Meaning, Meaning.has_no_reply, Meaning.parsed, declared.fault.CommandFault.CommandFault}
 use Rattle.packet_frame.specs.Packets.{Framed, spelling}
 use Rattle.std.specs.Prelude.{Bool, Err, List, None, Ok, Option, Result, Some, if◌then◌else◌, ℕ, ◌++◌}
 use Rattle.{client_session.specs.Accounts.account_of, handshake.specs.declared.response.Response.Response, server_side.specs.Account.Account}
@@ -28,6 +28,7 @@ asked_by has_server (Ok Quits) = Quit
 asked_by has_server (Ok (Queries text)) = query_if has_server
 asked_by has_server (Ok (Chooses schema)) = query_if has_server
 asked_by has_server (Ok (Lists rest)) = query_if has_server
+asked_by has_server (Ok (Other byte)) = if has_no_reply byte then Silence else Refused UnknownCommand
 asked_by has_server (Ok _) = Refused UnknownCommand
 
 abbrev pub asked_of : (has_server : Bool) → (payload : List ℕ) → Asked
@@ -95,6 +96,7 @@ abbrev pub arrives_as : Asked → Framed → (ordinal first : ℕ) → Session �
 arrives_as Query message ordinal first session = works message ordinal first session
 arrives_as Ping message ordinal first session = goes (answers message first own_ok session)
 arrives_as Quit message ordinal first session = stops (ended session)
+arrives_as Silence message ordinal first session = goes (past message session)
 arrives_as (Refused refusal) message ordinal first session = goes (answers message first (payload_of refusal) session)
 
 abbrev pub arrives : Setup → Option Framed → (ordinal first : ℕ) → Session → Step
@@ -103,12 +105,17 @@ arrives setup (Some message) ordinal first session = arrives_as (asked_of (has_s
 
 -- What the client says next.
 
+-- the limit of its messages, which are short before its login is done
+abbrev pub limit_in : Phase → (limit : ℕ) → ℕ
+limit_in phase.LoggingIn limit = login_limit limit
+limit_in _ limit = limit
+
 -- where that is nothing that may come, the error is the last that the client is told
 abbrev pub step_by : Setup → ClientStep → Session → Step
 step_by setup says.Nothing session = stops session
 step_by setup (says.Login first) session = logs_in setup (login_of session.client.stage) first session
 step_by setup (says.Message ordinal first) session = arrives setup session.client.framer.found ordinal first session
-step_by setup (says.Refused first fault) session = stops (ended (told (spelling first (fault_error setup.limit fault)) session))
+step_by setup (says.Refused first fault) session = stops (ended (told (spelling first (fault_error (limit_in session.phase setup.limit) fault)) session))
 
 abbrev pub stepped : Setup → Next → Phase → Step
 stepped setup next at = step_by setup next.step (record { client = next.client; phase = at })

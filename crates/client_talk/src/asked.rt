@@ -3,7 +3,7 @@ ghost use Rattle.std.specs.Prelude.{◌≡◌};
 ghost use Rattle.client_talk.specs.Steps.{asked_of};
 
 use client_session::Refusal;
-use command_parse::{Command, parse};
+use command_parse::{Command, has_no_reply, parse};
 
 /// What a client's message asks for (client/server protocol, "Command Phase").
 #[derive(Clone, Copy)]
@@ -14,6 +14,8 @@ pub enum Asked {
     Ping,
     /// The end of the session.
     Quit,
+    /// Nothing that is answered: a part of a parameter, or the close of a prepared statement.
+    Silence,
     /// Nothing that the router does, and this error answers it.
     Refused(Refusal),
 }
@@ -32,6 +34,7 @@ pub fn asked_of(payload: &[u8], has_server: bool) -> Asked
         }
         Ok(Command::Ping) => Asked::Ping,
         Ok(Command::Quit) => Asked::Quit,
+        Ok(Command::Refused(byte)) if has_no_reply(byte) => Asked::Silence,
         Ok(_) => Asked::Refused(Refusal::UnknownCommand),
         Err(_) => Asked::Refused(Refusal::MalformedCommand),
     }

@@ -13,4 +13,4 @@ mod step;
 pub use events::{answered, ended, said, taken};
 pub use query::Query;
 pub use session::{Phase, Session, new_session};
-pub use standing::{account, is_finished, is_read, left};
+pub use standing::{account, is_entering, is_finished, is_read, left};

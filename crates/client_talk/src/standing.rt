@@ -1,7 +1,7 @@
 // How far a session is.
 ghost use Rattle.std.specs.Prelude.{◌≡◌};
 ghost use Rattle.std.specs.Option.{option_copied};
-ghost use Rattle.client_talk.specs.Sessions.{account_in, is_read, is_finished};
+ghost use Rattle.client_talk.specs.Sessions.{account_in, is_entering, is_read, is_finished};
 
 use crate::session::{Phase, Session};
 use server_side::Account;
@@ -18,6 +18,13 @@ pub fn is_read(session: &Session) -> bool
     ensures { result ≡ is_read session.now.phase }
 {
     !matches!(session.phase, Phase::Ending)
+}
+
+/// Whether the client isn't logged in yet.
+pub fn is_entering(session: &Session) -> bool
+    ensures { result ≡ is_entering session.now.phase }
+{
+    matches!(session.phase, Phase::LoggingIn)
 }
 
 /// Whether the session ends and all was written to the client: its link is to be closed.

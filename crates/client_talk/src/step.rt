@@ -4,13 +4,13 @@ ghost use Rattle.packet_frame.specs.Packets.{spelling};
 ghost use Rattle.client_side.specs.declared.stage.Stage.TheVariants.{Commands};
 ghost use Rattle.client_side.specs.Client.{login_of};
 ghost use Rattle.client_session.specs.Answers.{fault_error};
-ghost use Rattle.client_talk.specs.Steps.{told, ended, admitted, past, at_work, works, arrives, logs_in, step};
+ghost use Rattle.client_talk.specs.Steps.{told, ended, admitted, limit_in, past, at_work, works, arrives, logs_in, step};
 
 use crate::asked::{Asked, asked_of};
 use crate::query::Query;
 use crate::session::{Phase, Session};
 use client_session::{Refusal, Setup, account_of, write_denied, write_own_ok, write_refusal};
-use client_side::{ClientFault, ClientStep};
+use client_side::{ClientFault, ClientStep, login_limit};
 use mx_base::OutOfMemory;
 use packet_frame::write_message;
 use server_side::Account;
@@ -151,12 +151,26 @@ fn arrive(
             session.phase = Phase::Ending;
             Ok(Turn::Rests)
         }
+        Asked::Silence => {
+            session.client.done();
+            Ok(Turn::More)
+        }
         Asked::Refused(refusal) => {
             let mut packet = Vec::new(alloc);
             write_refusal(alloc, &mut packet, first, refusal)?;
             answer(session, &packet)?;
             Ok(Turn::More)
         }
+    }
+}
+
+// The limit of the client's messages.
+fn limit_in(phase: &Phase, limit: u64) -> u64
+    ensures { result ≡ limit_in phase.now limit }
+{
+    match phase {
+        Phase::LoggingIn => login_limit(limit),
+        _ => limit,
     }
 }
 
@@ -188,7 +202,8 @@ pub fn step(alloc: Global, session: &mut Session, setup: &Setup) -> Result<Turn,
         ClientStep::Login { first } => log_in(alloc, session, first, setup),
         ClientStep::Message { ordinal, first } => arrive(alloc, session, ordinal, first, setup),
         ClientStep::Refused { first, fault } => {
-            give_up(alloc, session, first, fault, setup.limit())?;
+            let limit = limit_in(&session.phase, setup.limit());
+            give_up(alloc, session, first, fault, limit)?;
             Ok(Turn::Rests)
         }
     }

@@ -54,6 +54,10 @@ abbrev pub parsed : List ℕ → Result Meaning CommandFault
 parsed [] = Err Empty
 parsed (byte ∷ rest) = Ok (command_of byte rest)
 
+-- a part of a parameter and the end of a prepared statement: nothing answers these, whatever stands behind the byte
+abbrev pub has_no_reply : (byte : ℕ) → Bool
+has_no_reply byte = nat_eq byte COM_STMT_SEND_LONG_DATA || nat_eq byte COM_STMT_CLOSE
+
 -- a command for a prepared statement
 abbrev pub names_statement : (byte : ℕ) → Bool
 names_statement byte = nat_eq byte COM_STMT_EXECUTE || nat_eq byte COM_STMT_SEND_LONG_DATA || nat_eq byte COM_STMT_CLOSE || nat_eq byte COM_STMT_RESET || nat_eq byte COM_STMT_FETCH

@@ -10,4 +10,4 @@ mod statement;
 pub use command::Command;
 pub use fault::CommandFault;
 pub use parsing::parse;
-pub use statement::{Known, statement_of};
+pub use statement::{Known, has_no_reply, statement_of};

@@ -1,6 +1,6 @@
 // The statement that a command names.
 ghost use Rattle.std.specs.Prelude.{◌≡◌};
-ghost use Rattle.command_parse.specs.Meaning.{names_statement, statement_of};
+ghost use Rattle.command_parse.specs.Meaning.{has_no_reply, names_statement, statement_of};
 
 use crate::command_byte::{
     COM_STMT_CLOSE, COM_STMT_EXECUTE, COM_STMT_FETCH, COM_STMT_RESET, COM_STMT_SEND_LONG_DATA,
@@ -28,6 +28,14 @@ pub fn statement_of(payload: &[u8]) -> Option<u32>
     } else {
         None
     }
+}
+
+/// Whether nothing answers a command of this byte, be it whole or too short: a part of a parameter and the close of a prepared
+/// statement (client/server protocol, "COM_STMT_SEND_LONG_DATA" and "COM_STMT_CLOSE").
+pub fn has_no_reply(byte: u8) -> bool
+    ensures { result ≡ has_no_reply byte }
+{
+    matches!(byte, COM_STMT_SEND_LONG_DATA | COM_STMT_CLOSE)
 }
 
 // Whether a command of this byte is for a prepared statement.

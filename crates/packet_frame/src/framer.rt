@@ -30,7 +30,7 @@ impl Model for Framer {
 }
 
 impl Framer {
-    ghost use Rattle.std.specs.Prelude.{◌≡◌, ◌++◌, [], length, None, IsSome, IfSome, OnOk, OnErr};
+    ghost use Rattle.std.specs.Prelude.{◌≡◌, ◌≤◌, ◌++◌, [], length, None, IsSome, IfSome, OnOk, OnErr};
     ghost use Rattle.packet_frame.specs.Packets.{id_of_answer};
     ghost use Rattle.packet_frame.specs.FramerState.{FramerState, look, seen, answer, past};
 
@@ -43,6 +43,14 @@ impl Framer {
             kept: Kept::new(alloc),
             refused: None,
         }
+    }
+
+    /// From now on messages of at most `limit` bytes are taken, which is no less than before. Takes no memory.
+    pub fn allow(&mut self, limit: u64)
+        requires { self.old.limit ≤ limit }
+        ensures { self.new ≡ record self.old { limit = limit } }
+    {
+        self.limit = limit;
     }
 
     /// Keeps the next piece of the bytes. OutOfMemory leaves everything as it was.

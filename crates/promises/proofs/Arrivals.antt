@@ -30,7 +30,7 @@ pub data Comes (log : Log) (e : Entry) (n : ℕ) (came : Arrival) : Type 0 where
   Now : arrival_in log e ≡ Some came → IsNew came.link log → Comes log e n came
 
 module _ (log : Log) (e : Entry) (fits : Fits log e) where
-  arrived : (k : ℕ) (came : Arrival) → slice_get (arrivals (log ++ e ∷ [])) k ≡ Some came
+  pub arrived : (k : ℕ) (came : Arrival) → slice_get (arrivals (log ++ e ∷ [])) k ≡ Some came
       → (slice_get (arrivals log) k ≡ Some came) ⊎ ((k ≡ length (arrivals log)) × (arrival_in log e ≡ Some came))
   arrived k came is = grind (arith, common_steps, arrivals-more, place-of)
 

@@ -4,7 +4,7 @@ use Rattle.{mx_base.specs.declared.names.Port.Port, mx_wire.specs.declared.entry
 use Rattle.{packet_frame.specs.Packets.Framed, promises.proofs.InWork.query-answer, promises.proofs.InWork.refused-more, server_side.specs.Account.Account}
 use Rattle.client_session.{specs.Answers.is_query, specs.Errors.connection_refused, specs.Errors.no_server}
 use Rattle.client_session.specs.Arrivals.{Arrival, arrival_in, arrival_of, arrivals_behind, connected}
-use Rattle.mx_wire.specs.{Growth.same_number, Log.Log, Log.is_link, Log.link_of, Log.of_link, Moments.AllLawful, Moments.lawful-each, Tells.Fits, Tells.IsNew}
+use Rattle.mx_wire.specs.{Growth.same_number, Log.Log, Log.is_link, Log.link_of, Log.moment_of, Log.of_link, Moments.AllLawful, Moments.lawful-each, Tells.Fits, Tells.IsNew}
 use Rattle.mx_wire.specs.declared.entry.Entry.TheVariants.{Accepted, OpenFailed, Opened}
 use Rattle.promises.specs.Due.{answer, answer_by, answer_when, due_at, message_of, query_answer, reply_to, route, server_of}
 use Rattle.promises.specs.Follows.{BreaksOff, Cause, NotLoggedIn, NotOpened}
@@ -116,7 +116,7 @@ abbrev pub option_link : LinkId → Option Arrival → LinkId
 option_link link None = link
 option_link link (Some came) = came.link
 
-pub same-came : (before : Log) (port : Port) (link : LinkId) (salt : List ℕ) (came : Arrival) → Some (record { port = port; link = link; salt = salt; others = length (connected before) }) ≡ Some came → link ≡ came.link
+pub same-came : (before : Log) (port : Port) (link : LinkId) (salt : List ℕ) (came : Arrival) → Some (record { port = port; link = link; salt = salt; others = length (connected before); at = moment_of before }) ≡ Some came → link ≡ came.link
 same-came before port link salt came is = ap (option_link link) is
 
 pub arrival-as : (before log : Log) (k : ℕ) (came : Arrival) → slice_get (arrivals_behind before log) k ≡ Some came → list_any (came_as came.link) log ≡ true

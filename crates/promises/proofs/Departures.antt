@@ -38,7 +38,7 @@ pub record Parted (service : Service) (log : Log) (n : ℕ) (link : LinkId) (byt
 
 part-may : {service : Service} {log : Log} {n : ℕ} {came : Arrival} {bytes : List ℕ} → PartAt service log n came bytes
     → (bytes ≢ [] → was_offered came.link log ≡ true) → came.port ≡ Traffic → MayPart (is_served service.setup came) service n came log
-part-may (Done served done) offered traffic = rw served done
+part-may (Done served done) offered traffic = rw served (inl done)
 part-may (Refused refused port none) offered traffic = rw refused (offered (grind (arith, common_steps, (spelling-some 0 too_many_connections))))
 part-may (Offered refused port was) offered traffic = rw refused was
 part-may (Strange admin) offered traffic = cc
@@ -49,7 +49,7 @@ pub client-spares : (service : Service) (log : Log) (e : Entry) (link : LinkId)
 client-spares service log e link names none n i turn is = cc (names ∙ ap (option_and_then (refused_for service log e link)) none, is)
 
 -- A link closes: one client less is connected, where it is a client's.
-closed-counted : {log : Log} (link : LinkId) {is_client : Bool} → AllLawful Fits log → is_among link (connected log) ≡ is_client
+pub closed-counted : {log : Log} (link : LinkId) {is_client : Bool} → AllLawful Fits log → is_among link (connected log) ≡ is_client
     → {all here : ℕ} → Counted log all here → Counted (log ++ Closed link ∷ []) all (cond is_client (here - 1) here)
 closed-counted {log} link {is_client} told among {all} {here} counted = record {
   all = counted.all ∙ ap length (sym (arrivals-plain log (Closed link) (λ before. refl)));

@@ -33,7 +33,7 @@ unowned waits = (let no : None ≡ Some (owner_for service 1 ann_work.message wa
 
 pub no-rest : IsAtRest service drained → ⊥
 unfolding ann_work
-no-rest rest = unowned ((rest.clients 1 (record { port = Traffic; link = link 1; salt = salt; others = 0 }) refl refl).waits refl ann_work ann-works refl)
+no-rest rest = unowned ((rest.clients 1 (record { port = Traffic; link = link 1; salt = salt; others = 0; at = 0 }) refl refl).waits refl ann_work ann-works refl)
 
 -- while the first client has a link no other is opened, whomever it would be for: there is no other client
 pub no-second : (opens : List Turn) → MayOpen (record { setup = setup; opens = first_turn ∷ opens; forms = forms }) at entering → ⊥

@@ -2,7 +2,7 @@
 use Rattle.client_session.specs.Arrivals.{Arrival, arrival_of, arrivals, connected}
 use Rattle.exchange.specs.{Commands.carrier_of}
 use Rattle.mx_base.specs.{declared.names.LinkId.LinkId, declared.names.Port.Port}
-use Rattle.mx_wire.specs.{Log.Log, Log.is_open, Log.of_link, Log.open_step, Moments.AllLawful, Moments.lawful-last, Tells.Fits, Tells.IsOpen}
+use Rattle.mx_wire.specs.{Log.Log, Log.is_open, Log.moment_of, Log.of_link, Log.open_step, Moments.AllLawful, Moments.lawful-last, Tells.Fits, Tells.IsOpen}
 use Rattle.mx_wire.specs.{declared.entry.Entry.Entry, declared.entry.Entry.TheVariants.Accepted}
 use Rattle.mx_wire.specs.Growth.{of_link-same, same_number, step-other, step-same}
 use Rattle.promises.proofs.{Arrivals.get-behind, Arrivals.unborn, Calm.carrier-same, Calm.unrefused-more, Causes.same-link, Queries.Calm, Staying.arrivals-more}
@@ -31,7 +31,7 @@ module _ (service : Service) (log : Log) (port : Port) (link : LinkId) (salt : L
   number = suc (length (arrivals log))
 
   abbrev pub arrival : Arrival
-  arrival = record { port = port; link = link; salt = salt; others = length (connected log) }
+  arrival = record { port = port; link = link; salt = salt; others = length (connected log); at = moment_of log }
 
   pub arrives : Fits log e → AllLawful (IsLawful service) (log ++ e ∷ []) → Arrives service log port link salt number arrival
   arrives fits lawful = record {

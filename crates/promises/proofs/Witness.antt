@@ -1,6 +1,6 @@
 -- The worked log keeps the promises.
 use Rattle.client_session.specs.{Accounts.account_of, Errors.bad_server_bytes, Errors.connection_lost, Errors.connection_refused, Errors.own_ok}
-use Rattle.client_session.specs.Arrivals.{Arrival, arrival_of, arrivals}
+use Rattle.client_session.specs.{Answers.lacks_login, Arrivals.Arrival, Arrivals.arrival_of, Arrivals.arrivals}
 use Rattle.client_side.specs.{Login.opening as client_opening}
 use Rattle.exchange.specs.{Commands.carrier_of, Logins.IsPrefix, Replies.Clean, Replies.Enters, Replies.Runs, Replies.Spoilt, Replies.standing_on}
 use Rattle.handshake.specs.{Response.head_fields, Response.response_fields, Response.response_of, Switch.switch_of}
@@ -13,6 +13,7 @@ use Rattle.packet_frame.specs.{PacketLaws.nat_eq-true, Packets.Framed, Packets.f
 use Rattle.promises.proofs.{Causes.came_as, Causes.opened_as, Causes.or-cases, Causes.or-inl, Causes.or-inr, InWork.some-same, Links.open-was}
 use Rattle.promises.specs.{Closes.IsSpoilt, Closes.MayClose, Due.Work, Due.due, Due.work_of, Headline.IsLawful, Headline.IsServed, Headline.Serves}
 use Rattle.promises.specs.{Owners.Owner, Owners.owner_of, Owners.user_on, Rest.IsAnswered, Rest.IsAtRest, Rest.IsKept, Rest.LogsIn, Rest.RestsAt, Rest.Sent}
+use Rattle.promises.specs.{Owners.talk_with, Rest.MustLogIn, Rest.WakesAt, Worked.no_moment}
 use Rattle.promises.specs.{Rest.Waits, Sends.Begins, Sends.MayOpen, Sends.MaySay, Sends.MaySend, Sends.owner_for, Service.Service}
 use Rattle.promises.specs.Worked.{ann, answered, at, bob, bob_asked, bob_asks, denied, early, entering, first_turn, forms, link, logged_in, query, salt}
 use Rattle.promises.specs.Worked.{second_turn, server_greeting, service, setup, waiting, whole}
@@ -26,10 +27,10 @@ use Rattle.std.specs.Prelude.{Bool, List, None, Option, Some, [], false, length,
 
 -- Who came.
 abbrev ann_at : Arrival
-ann_at = record { port = Traffic; link = link 1; salt = salt; others = 0 }
+ann_at = record { port = Traffic; link = link 1; salt = salt; others = 0; at = 0 }
 
 abbrev bob_at : Arrival
-bob_at = record { port = Traffic; link = link 2; salt = salt; others = 1 }
+bob_at = record { port = Traffic; link = link 2; salt = salt; others = 1; at = 0 }
 
 -- A log is served where a test says so of each client that came.
 abbrev is_front : List ℕ → List ℕ → Bool
@@ -260,11 +261,11 @@ bob-waits = record { due = bob_asked; is_due = refl; link = link 4; opened = ref
 
 ann-answered : IsAnswered service 1 ann_at waiting
 unfolding client_opening server_opening payloads_in first_message split spelling account_of response_fields head_fields response_of greeting_fields protocol_field offer_fields back_field greeting_of switch_of number_field bytes_field text_field counted_field optional_text last_text own_ok connection_refused bad_server_bytes connection_lost response_said answer_said
-ann-answered = record { served = refl; told = inl refl; lasts = inl refl; waits = λ here work is query. subst (λ (w : Work). Waits service 1 w waiting) (some-same ann_work work (sym ann-work ∙ is)) ann-waits }
+ann-answered = record { served = refl; told = inl refl; lasts = inl refl; in_time = λ enters. absurd (let no : false ≡ true = enters.lacks in cc); waits = λ here work is query. subst (λ (w : Work). Waits service 1 w waiting) (some-same ann_work work (sym ann-work ∙ is)) ann-waits }
 
 bob-answered : IsAnswered service 2 bob_at waiting
 unfolding client_opening server_opening payloads_in first_message split spelling account_of response_fields head_fields response_of greeting_fields protocol_field offer_fields back_field greeting_of switch_of number_field bytes_field text_field counted_field optional_text last_text own_ok connection_refused bad_server_bytes connection_lost response_said answer_said
-bob-answered = record { served = refl; told = inl refl; lasts = inl refl; waits = λ here work is query. subst (λ (w : Work). Waits service 2 w waiting) (some-same ann_work work (sym bob-work ∙ is)) bob-waits }
+bob-answered = record { served = refl; told = inl refl; lasts = inl refl; in_time = λ enters. absurd (let no : false ≡ true = enters.lacks in cc); waits = λ here work is query. subst (λ (w : Work). Waits service 2 w waiting) (some-same ann_work work (sym bob-work ∙ is)) bob-waits }
 
 third-kept : IsKept forms (record { client = 1; hostgroup = 0 }) ann (link 3) waiting
 unfolding client_opening server_opening payloads_in first_message split spelling account_of response_fields head_fields response_of greeting_fields protocol_field offer_fields back_field greeting_of switch_of number_field bytes_field text_field counted_field optional_text last_text own_ok connection_refused bad_server_bytes connection_lost response_said answer_said
@@ -296,11 +297,11 @@ rest-waiting = record { accepted = accepted; named = refl; read = λ l opened. i
 -- and at the end
 ann-done : IsAnswered service 1 ann_at answered
 unfolding client_opening server_opening payloads_in first_message split spelling account_of response_fields head_fields response_of greeting_fields protocol_field offer_fields back_field greeting_of switch_of number_field bytes_field text_field counted_field optional_text last_text own_ok connection_refused bad_server_bytes connection_lost response_said answer_said
-ann-done = record { served = refl; told = inl refl; lasts = inl refl; waits = λ here work is query. absurd (let no : None ≡ Some work = is in cc) }
+ann-done = record { served = refl; told = inl refl; lasts = inl refl; in_time = λ enters. absurd (let no : false ≡ true = enters.lacks in cc); waits = λ here work is query. absurd (let no : None ≡ Some work = is in cc) }
 
 bob-done : IsAnswered service 2 bob_at answered
 unfolding client_opening server_opening payloads_in first_message split spelling account_of response_fields head_fields response_of greeting_fields protocol_field offer_fields back_field greeting_of switch_of number_field bytes_field text_field counted_field optional_text last_text own_ok connection_refused bad_server_bytes connection_lost response_said answer_said
-bob-done = record { served = refl; told = inl refl; lasts = inl refl; waits = λ here work is query. absurd (let no : None ≡ Some work = is in cc) }
+bob-done = record { served = refl; told = inl refl; lasts = inl refl; in_time = λ enters. absurd (let no : false ≡ true = enters.lacks in cc); waits = λ here work is query. absurd (let no : None ≡ Some work = is in cc) }
 
 third-clean : IsKept forms (record { client = 1; hostgroup = 0 }) ann (link 3) answered
 unfolding client_opening server_opening payloads_in first_message split spelling account_of response_fields head_fields response_of greeting_fields protocol_field offer_fields back_field greeting_of switch_of number_field bytes_field text_field counted_field optional_text last_text own_ok connection_refused bad_server_bytes connection_lost response_said answer_said
@@ -321,8 +322,30 @@ rest-answered = record { accepted = accepted; named = refl; read = λ l opened. 
   servers : (l : LinkId) (owner : Owner) (user : Account) → Four l → is_open l answered ≡ true → owner_of service l answered ≡ Some owner → user_on service l answered ≡ Some user → IsKept forms owner user l answered
   servers l owner user four opened owned who = grind (arith, common_steps, kept-by, ann-still, third-clean)
 
+-- no client is without a login as the loop waits
+ann-logged-in : lacks_login (talk_with service 1 ann_at waiting) ≡ false
+unfolding client_opening server_opening payloads_in first_message split spelling account_of response_fields head_fields response_of greeting_fields protocol_field offer_fields back_field greeting_of switch_of number_field bytes_field text_field counted_field optional_text last_text own_ok connection_refused bad_server_bytes connection_lost response_said answer_said
+ann-logged-in = refl
+
+bob-logged-in : lacks_login (talk_with service 2 bob_at waiting) ≡ false
+unfolding client_opening server_opening payloads_in first_message split spelling account_of response_fields head_fields response_of greeting_fields protocol_field offer_fields back_field greeting_of switch_of number_field bytes_field text_field counted_field optional_text last_text own_ok connection_refused bad_server_bytes connection_lost response_said answer_said
+bob-logged-in = refl
+
+none-enters : (log : Log) → arrivals log ≡ ann_at ∷ bob_at ∷ [] → lacks_login (talk_with service 1 ann_at log) ≡ false
+    → lacks_login (talk_with service 2 bob_at log) ≡ false → (n : ℕ) (came : Arrival) → MustLogIn service n came log → ⊥
+none-enters log are first second n came enters = (let is = enters.is_came in let lacks = enters.lacks in grind (arith, common_steps, some-same))
+
+wakes-begun : WakesAt service no_moment []
+wakes-begun = record { least = λ n came enters. (let no : arrival_of n [] ≡ Some came = enters.is_came in absurd (nobody n came no)); is_one = inl refl } where
+  nobody : (n : ℕ) (came : Arrival) → arrival_of n [] ≡ Some came → ⊥
+  nobody zero came is = cc
+  nobody (suc n) came is = cc
+
+wakes-waiting : WakesAt service no_moment waiting
+wakes-waiting = record { least = λ n came enters. absurd (none-enters waiting refl ann-logged-in bob-logged-in n came enters); is_one = inl refl }
+
 rests-whole : AllLawful (RestsAt service) whole
-rests-whole = (rest-begun, skip 23 (rest-waiting, skip 11 (rest-answered, tt)))
+rests-whole = ((rest-begun, wakes-begun), skip 23 ((rest-waiting, wakes-waiting), skip 11 (rest-answered, tt)))
 
 -- So the definitions can be met.
 pub keeps : Serves setup whole

@@ -1,15 +1,15 @@
 -- Why links close.
-use Rattle.std.specs.Prelude.{◌≡◌, ◌⊎◌, ◌≢◌, ℕ, Bool, true, false, ◌||◌, is_some, Option, Some, None}
+use Rattle.std.specs.Prelude.{◌≡◌, ◌≤◌, ◌⊎◌, ◌≢◌, ℕ, Bool, true, false, ◌||◌, is_some, Option, Some, None}
 use Rattle.std.specs.List.{list_any}
 use Rattle.mx_base.specs.declared.names.LinkId.{LinkId}
 use Rattle.mx_base.specs.declared.names.Port.TheVariants.{Traffic}
-use Rattle.mx_wire.specs.Log.{Log, of_link, written_of}
+use Rattle.mx_wire.specs.Log.{Log, moment_of, of_link, written_of}
 use Rattle.mx_wire.specs.declared.entry.Entry.{Entry}
 use Rattle.mx_wire.specs.declared.entry.Entry.TheVariants.{Wrote, WriteNothing, WriteFailed}
 use Rattle.server_side.specs.Account.{Account}
 use Rattle.client_side.specs.Login.{Opening, Waits, Says, Fails}
-use Rattle.client_session.specs.Arrivals.{Arrival, arrival_of, is_served}
-use Rattle.client_session.specs.Answers.{Talk, opening_of, account, messages_of, is_query, is_quit}
+use Rattle.client_session.specs.Arrivals.{Arrival, arrival_of, is_served, login_until}
+use Rattle.client_session.specs.Answers.{Talk, opening_of, account, lacks_login, messages_of, is_query, is_quit}
 use Rattle.exchange.specs.Logins.{was_lost, was_broken}
 use Rattle.exchange.specs.Replies.{Clean, Runs, Spoilt, standing_on}
 use Rattle.promises.specs.Service.{Service}
@@ -57,10 +57,15 @@ pub record IsDone (service : Service) (n : ℕ) (came : Arrival) (log : Log) : T
   pub ended : has_ended service n came log ≡ true
   pub told : WasToldAll service n came log
 
--- The link of a client that is served closes where a read or a write of it failed, or the client is at its end and was told all; that of one that
--- isn't closes where a write was tried of what it is told.
+-- a client has no login, and no more time for it
+pub record IsLate (service : Service) (n : ℕ) (came : Arrival) (log : Log) : Type 0 where
+  pub lacks : lacks_login (talk_with service n came log) ≡ true
+  pub late : login_until came ≤ moment_of log
+
+-- The link of a client that is served closes where a read or a write of it failed, or the client is at its end and was told all, or it didn't log in
+-- in time; that of one that isn't closes where a write was tried of what it is told.
 abbrev pub MayPart : (served : Bool) → Service → ℕ → Arrival → Log → Type 0
-MayPart true service n came log = (was_broken came.link log ≡ true) ⊎ IsDone service n came log
+MayPart true service n came log = ((was_broken came.link log ≡ true) ⊎ IsDone service n came log) ⊎ IsLate service n came log
 MayPart false service n came log = was_offered came.link log ≡ true
 
 -- Links to servers.

@@ -6,8 +6,8 @@ use Rattle.mx_base.specs.declared.names.Port.{Port}
 use Rattle.mx_base.specs.declared.names.Port.TheVariants.{Traffic, Admin}
 use Rattle.mx_wire.specs.Log.{Log}
 use Rattle.packet_frame.specs.Packets.{Framed, next_id, spelling}
-use Rattle.command_parse.specs.Meaning.{Meaning, parsed}
-use Rattle.command_parse.specs.Meaning.Meaning.{Query, InitDb, FieldList, Ping, Quit}
+use Rattle.command_parse.specs.Meaning.{Meaning, has_no_reply, parsed}
+use Rattle.command_parse.specs.Meaning.Meaning.{Query, InitDb, FieldList, Ping, Quit, Refused}
 use Rattle.command_parse.specs.declared.fault.CommandFault.{CommandFault}
 use Rattle.server_side.specs.Account.{Account}
 use Rattle.client_session.specs.declared.setup.ServerAt.{ServerAt}
@@ -48,6 +48,10 @@ query_answer service n i message due log =
     then if is_refused service n i log then Some (connection_refused ∷ []) else reply_to service n i log
     else Some (no_server ∷ [])
 
+-- A command that has no reply is answered by no bytes at all, so that those behind it keep their answers.
+abbrev pub refused_answer : (byte : ℕ) → Answer
+refused_answer byte = if has_no_reply byte then [] else unknown_command ∷ []
+
 abbrev pub answer_by : Option Answer → Result Meaning CommandFault → Option Answer
 answer_by reply (Err fault) = Some (malformed_command ∷ [])
 answer_by reply (Ok (Query text)) = reply
@@ -55,6 +59,7 @@ answer_by reply (Ok (InitDb schema)) = reply
 answer_by reply (Ok (FieldList rest)) = reply
 answer_by reply (Ok Ping) = Some (own_ok ∷ [])
 answer_by reply (Ok Quit) = None
+answer_by reply (Ok (Refused byte)) = Some (refused_answer byte)
 answer_by reply (Ok _) = Some (unknown_command ∷ [])
 
 -- the i-th message of client n, counted from 1

@@ -1,9 +1,9 @@
 -- What is left to do as the loop waits: nothing but what others have to do first.
-use Rattle.std.specs.Prelude.{◌≡◌, ◌⊎◌, ◌≢◌, ℕ, true, false, List, [], ◌∷◌, ◌++◌, Some}
+use Rattle.std.specs.Prelude.{◌≡◌, ◌≤◌, ◌<◌, ◌⊎◌, ◌≢◌, ℕ, true, false, List, [], ◌∷◌, ◌++◌, Some}
 use Rattle.mx_base.specs.declared.names.LinkId.{LinkId}
 use Rattle.mx_base.specs.declared.names.Port.{Port}
 use Rattle.mx_base.specs.declared.tag.Tag.TheVariants.{For}
-use Rattle.mx_wire.specs.Log.{Log, written_of}
+use Rattle.mx_wire.specs.Log.{Log, moment_of, written_of}
 use Rattle.mx_wire.specs.Tells.{IsOpen}
 use Rattle.mx_wire.specs.declared.entry.Entry.{Entry}
 use Rattle.mx_wire.specs.declared.entry.Entry.TheVariants.{Woke, WaitFailed, Over}
@@ -11,13 +11,13 @@ use Rattle.packet_frame.specs.Packets.{Framed, spelling}
 use Rattle.ready_loop.specs.Drained.{all_accepted, all_named, read_dry, write_dry}
 use Rattle.server_side.specs.Account.{Account}
 use Rattle.server_side.specs.Login.{Goes}
-use Rattle.client_session.specs.Arrivals.{Arrival, arrival_of, is_served}
-use Rattle.client_session.specs.Answers.{is_query}
+use Rattle.client_session.specs.Arrivals.{Arrival, arrival_of, is_served, login_until}
+use Rattle.client_session.specs.Answers.{is_query, lacks_login}
 use Rattle.exchange.specs.Logins.{login_on}
 use Rattle.exchange.specs.Commands.{Command, commands_on}
 use Rattle.exchange.specs.Replies.{Forms, Enters, Sends, Runs, Spoilt, standing_on}
 use Rattle.promises.specs.Service.{Service}
-use Rattle.promises.specs.Owners.{is_here, Owner, owner_of, user_on}
+use Rattle.promises.specs.Owners.{is_here, talk_with, Owner, owner_of, user_on}
 use Rattle.promises.specs.Due.{Work, due_at, work_of}
 use Rattle.promises.specs.Sends.{owner_for}
 use Rattle.promises.specs.Closes.{has_ended, WasToldAll}
@@ -41,12 +41,25 @@ pub record Waits (service : Service) (n : ℕ) (work : Work) (log : Log) : Type 
   pub is_user : user_on service link log ≡ Some user
   pub on : Stays service.forms n work.ordinal work.message user link log
 
+-- A connected client that is served hasn't logged in yet.
+pub record MustLogIn (service : Service) (n : ℕ) (came : Arrival) (log : Log) : Type 0 where
+  pub is_came : arrival_of n log ≡ Some came
+  pub served : is_served service.setup came ≡ true
+  pub here : is_here n log ≡ true
+  pub lacks : lacks_login (talk_with service n came log) ≡ true
+
+-- The moment at which the router wants to be woken is the first at which such a client has no more time, and the last of all where there is none.
+pub record WakesAt (service : Service) (until_ms : ℕ) (log : Log) : Type 0 where
+  pub least : (n : ℕ) (came : Arrival) → MustLogIn service n came log → until_ms ≤ login_until came
+  pub is_one : (until_ms ≡ 18446744073709551615) ⊎ ((n : ℕ) × (came : Arrival) × MustLogIn service n came log × (until_ms ≡ login_until came))
+
 -- A client whose link is open is served. What it is due is written, and it isn't at its end, or its link takes no more; and where it is connected its
--- query in work waits.
+-- query in work waits, and it is logged in or has time for that.
 pub record IsAnswered (service : Service) (n : ℕ) (came : Arrival) (log : Log) : Type 0 where
   pub served : is_served service.setup came ≡ true
   pub told : WasToldAll service n came log ⊎ (write_dry came.link log ≡ true)
   pub lasts : (has_ended service n came log ≡ false) ⊎ (write_dry came.link log ≡ true)
+  pub in_time : MustLogIn service n came log → moment_of log < login_until came
   pub waits : is_here n log ≡ true → (work : Work) → work_of service n log ≡ Some work → is_query work.message.payload ≡ true → Waits service n work log
 
 -- a reply runs there, or a command is on its way and the link takes no more
@@ -77,9 +90,9 @@ pub record IsAtRest (service : Service) (log : Log) : Type 0 where
   pub clients : (n : ℕ) (came : Arrival) → arrival_of n log ≡ Some came → IsOpen came.link log → IsAnswered service n came log
   pub servers : (link : LinkId) (owner : Owner) (user : Account) → IsOpen link log → owner_of service link log ≡ Some owner → user_on service link log ≡ Some user → IsKept service.forms owner user link log
 
--- the loop waits at rest
+-- the loop waits at rest, and to be woken in time
 abbrev pub RestsAt : Service → Log → Entry → Type 0
-RestsAt service log (Woke until_ms now_ms) = IsAtRest service log
+RestsAt service log (Woke until_ms now_ms) = IsAtRest service log × WakesAt service until_ms log
 RestsAt service log WaitFailed = IsAtRest service log
 RestsAt service log Over = IsAtRest service log
 RestsAt service log _ = Unit {0}

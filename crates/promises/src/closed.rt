@@ -14,8 +14,13 @@ ghost use Rattle.promises.specs.Service.{open_tries, Turn, turn_of, Service};
 ghost use Rattle.std.specs.Prelude.{◌<◌, is_some, ◌≡◌, ◌≢◌, ℕ, ◌≤◌, ◌⊎◌, Bool, true, false, List, [], ◌∷◌, ◌++◌, length, Option, Some, None};
 ghost use Rattle.exchange.specs.Replies.{reply_at, Spoilt, Runs, Sends, Enters, Clean, standing_on, Answer, Forms, Grammar, command_reply, replies_by};
 ghost use Rattle.promises.specs.Owners.{is_here, user_of, Owner, refused_by, refused, is_refused};
-ghost use Rattle.promises.specs.Closes.{MayDrop};
-ghost use Rattle.promises.specs.Rest.{IsAtRest};
+ghost use Rattle.promises.specs.Closes.{MayDrop, MayPart};
+ghost use Rattle.exchange.specs.Logins.{was_lost};
+ghost use Rattle.promises.specs.Owners.{talk_with};
+ghost use Rattle.client_session.specs.Answers.{lacks_login};
+ghost use Rattle.client_session.specs.Arrivals.{login_until};
+ghost use Rattle.mx_wire.specs.Log.{moment_of};
+ghost use Rattle.promises.specs.Rest.{MustLogIn, IsAtRest, RestsAt};
 ghost use Rattle.promises.specs.Sends.{form_of, Asks, MayOpen, MaySend};
 ghost use Rattle.packet_frame.specs.Packets.{Framed};
 ghost use Rattle.mx_wire.specs.Moments.{AllLawful};
@@ -28,7 +33,7 @@ ghost use Rattle.mx_base.specs.declared.tag.Tag.{Tag};
 ghost use Rattle.mx_base.specs.declared.tag.Tag.TheVariants.{For};
 ghost use Rattle.mx_wire.specs.Log.{Log};
 ghost use Rattle.mx_wire.specs.declared.entry.Entry.{Entry};
-ghost use Rattle.mx_wire.specs.declared.entry.Entry.TheVariants.{Got, OpenFailed, Wrote};
+ghost use Rattle.mx_wire.specs.declared.entry.Entry.TheVariants.{Got, OpenFailed, Woke, Wrote};
 ghost use Rattle.client_session.specs.declared.setup.ServerAt.{ServerAt};
 
 /// No message has the ordinal 0, so no query is sent once more under it.
@@ -209,4 +214,19 @@ pub fn one_read()
 /// And one write, whatever it is for.
 pub fn one_write()
     ensures { (service : Service) (recording : List RecordEntry) (log : Log) (link : LinkId) (tag other : Tag) (bytes others : List ℕ) → IsSized service recording log (Wrote link tag bytes) → IsSized service recording log (Wrote link other others) → bytes ≡ others }
+{}
+
+/// At rest no connected client is without a login ten seconds after it came.
+pub fn late_is_gone()
+    ensures { (service : Service) (n : ℕ) (came : Arrival) (log : Log) → IsAtRest service log → MustLogIn service n came log → moment_of log < login_until came }
+{}
+
+/// A client that isn't lost and has time for its login isn't closed.
+pub fn early_stays()
+    ensures { (service : Service) (n : ℕ) (came : Arrival) (log : Log) → MayPart true service n came log → was_lost came.link log ≡ false → lacks_login (talk_with service n came log) ≡ true → login_until came ≤ moment_of log }
+{}
+
+/// The router asks to be woken no later than a client's time for its login is over.
+pub fn wakes_in_time()
+    ensures { (service : Service) (n : ℕ) (came : Arrival) (log : Log) (until_ms now_ms : ℕ) → RestsAt service log (Woke until_ms now_ms) → MustLogIn service n came log → until_ms ≤ login_until came }
 {}

@@ -1,8 +1,10 @@
 -- A client comes, a client's link or one to a server closes, and entries of which nothing is made.
+use Rattle.promises.proofs.Connecting.{counts-all, is_among}
+use Rattle.router_world.specs.Tables.{without_number}
 use Rattle.{lend_core.specs.Changes.without_close, router_world.specs.Tables.to_part, router_world.specs.World.comes, router_world.specs.World.refused}
 use Rattle.promises.{proofs.Calm.Leaves, proofs.Calm.leaves-other, proofs.Connecting.connected-more, proofs.Connecting.open-kept, specs.Worked.at}
 use Rattle.promises.proofs.Arrivals.{IsPlain, arrivals-few, counted-plain, fold-few}
-use Rattle.promises.proofs.Departures.{PartAt, Refused, Strange, client-spares, closed-behind, owned-closed, parted-closed, parted-offered, parted-silent}
+use Rattle.promises.proofs.Departures.{PartAt, Refused, Strange, client-spares, closed-behind, closed-counted, owned-closed, parted-closed, parted-offered, parted-silent}
 use Rattle.promises.proofs.Departures.{parted-unowned}
 use Rattle.promises.proofs.Newcomers.{Arrives, arrival, arrives}
 use Rattle.promises.proofs.Silences.{IsSilent, drop-passes, silent-calm, silent-leaves}
@@ -13,10 +15,11 @@ use Rattle.router_world.proofs.Names.{farewell_of, flat_map, got_bytes, inl, inr
 use Rattle.router_world.proofs.Names.{most_command, nat_lt, new_session, none-if, open_step, option_and_then, refl, refused_by, refused_on, replied}
 use Rattle.router_world.proofs.Names.{same_number, set, some-same, subst, suc, sym, true, turn-stays, with_lends, wrote_bytes, ℕ, ◌++◌, ◌∙◌, ◌∷◌, ◌≡◌, ◌≢◌, ◌≤◌}
 use Rattle.router_world.proofs.Names.{◌⊎◌}
-use Rattle.router_world.proofs.Sound.{Clients, Closes, Happens, LendsSound, Nobody, NoneParts, OneParts, PartStands, Parted, Parts, PartsStand, Servers, Sits}
+use Rattle.router_world.proofs.Sound.{Clients, Closes, Gone, Happens, LendsSound, Nobody, NoneParts, OneParts, PartStands, Parted, Parts, PartsStand, Servers, Sits}
 use Rattle.router_world.proofs.Sound.{Sound}
 use Rattle.router_world.proofs.Stepping.{Aside, Calm, IsQuiet, aside-others, aside-stands, beside, came-unlent, known-later, lends-aside, lends-framed}
-use Rattle.router_world.proofs.Stepping.{same-traces, seated-moved, unclosing}
+use Rattle.router_world.proofs.Names.{and_parts, nat_eq-true, without_seat}
+use Rattle.router_world.proofs.Stepping.{same-traces, seated-moved, unclosing, unlent}
 use Rattle.std.specs.Prelude.{cond, ◌-◌}
 
 -- An entry of which the router makes nothing.
@@ -93,6 +96,47 @@ closed-client {service} {log} {link} {parting} {tables} happens stands is on = (
     (λ same. cc (on, same, parted-unowned stands.parted happens.told, (happens.sound.lends.closes other closes).is_turn))))) NoneParts
     (λ other opened. (let was = closed-behind log link other opened in
     known-later other refl same-traces (λ p there its. absurd (was.1 (cc (is, there, its, on)))) (happens.sound.known other was.0))))
+
+-- So does that of a client of which nothing is left among the links to servers.
+module _ {service : Service} {log : Log} {link : LinkId} {client : ClientNo} {seat : Seat} {tables : Tables} (happens : Happens service log (Closed link) tables)
+    (unparted : tables.parting ≡ []) (unclosed : tables.lends.closing ≡ []) (is : tables.seats client.0 ≡ Some seat) (on : seat.link ≡ link)
+    (gone : Gone tables.lends client.0) where
+  abbrev late-sits : Sits service log tables.numbers tables.lends client.0 seat
+  late-sits = happens.sound.seated.seats client.0 seat is
+
+  late-number : tables.numbers link.0 ≡ Some client
+  late-number = ap (λ (l : LinkId). tables.numbers l.0) (sym on) ∙ late-sits.numbered
+
+  late-aside : Aside service log (Closed link) client.0 tables
+  late-aside = (let silent : IsSilent (Closed link) = assumption in beside link happens refl
+      (λ k apart its. (let same = some-same _ _ (sym its ∙ late-number) in grind (arith, common_steps, same_number)))
+      (unlent happens.told happens.sound link client late-number) (silent-calm service log silent))
+
+  late-lends : LendsSound service (log ++ Closed link ∷ []) tables.lends
+  late-lends = lends-aside late-aside unclosed
+
+  pub closed-late : Sound service (log ++ Closed link ∷ []) (record (without_number link (without_seat client tables)) { here = tables.here - 1 })
+  closed-late = record {
+    counted = closed-counted link {is_client = true} happens.told among happens.sound.counted;
+    seated = seated-moved late-lends (aside-others late-aside)
+        (grind (arith, common_steps, set-other, row-of, nat_eq-true, same_number, late-number)) (record {
+          seat = λ other at. absurd (no-some (set-same tables.seats client.0 None) at);
+          number = λ other at. absurd (grind (arith, common_steps, no-some, row-of, same_number, (own other)));
+          away = λ none. gone;
+        });
+    lends = late-lends;
+    parts = rw unparted NoneParts;
+    known = λ other opened. (let was = closed-behind log link other opened in known-later other
+        (set-other tables.numbers link.0 other.0 None (apart-numbers other.0 link.0 was.1)) same-traces (λ p there its. cc (unparted, there))
+        (happens.sound.known other was.0));
+  } where
+    among : is_among link (connected log) ≡ true
+    among = (let counts = (counts-all log happens.told).among client.0 late-sits.stands.came late-sits.stands.is_came in
+        let traffic = (and_parts (is_traffic late-sits.stands.came.port) _ late-sits.stands.served).0 in
+        let at = late-sits.stands.link in grind (arith, common_steps))
+
+    own : (other : LinkId) → tables.numbers other.0 ≡ Some (record { 0 = client.0 }) → link ≡ other
+    own other at = (let its = happens.sound.seated.numbers other (record { 0 = client.0 }) at in cc (is, its.1, its.2, on))
 
 -- A link to a server closes.
 pub closed-server : {service : Service} {log : Log} {link : LinkId} {tables : Tables} → Happens service log (Closed link) tables

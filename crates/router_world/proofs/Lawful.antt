@@ -1,10 +1,14 @@
 -- Whose an open link is, what the router sends there, and that what it does and where it waits keeps the promises.
 use Rattle.{mx_wire.specs.Moments.moment-last, mx_wire.specs.Moments.moment-more, promises.proofs.Links.owner-turn, std.proofs.lemmas.Bool.false_from_ne_true}
 use Rattle.promises.proofs.{Arrivals.get-behind, Arrivals.of-client, Arrivals.unowned, Departures.parted-closes, Departures.parted-told, Dues.work-is}
-use Rattle.promises.proofs.LinkLeft.{ForClient, ForServer, IsLeft, IsNeeded, IsPart, link-kept, part-due, part-lawful, served-more, server-closes, waits-in}
+use Rattle.promises.proofs.LinkLeft.{ForClient, ForServer, IsLeft, IsNeeded, IsPart, client-closes, link-kept, part-due, part-lawful, served-more, server-closes, waits-in}
 use Rattle.promises.proofs.LinkLeft.{waits-on}
-use Rattle.promises.specs.Closes.{MayClose}
-use Rattle.promises.specs.Rest.{IsAnswered, IsAtRest, IsEnding, Waits}
+use Rattle.promises.specs.Closes.{MayClose, MayPart, WasToldAll}
+use Rattle.router_world.proofs.Names.{false, has_ended, is_query}
+use Rattle.promises.specs.Rest.{IsAnswered, IsAtRest, IsEnding, WakesAt, Waits}
+use Rattle.router_world.proofs.Clocks.{ClockStands, in-time, late-may, wakes-so}
+use Rattle.router_world.specs.{Acts.late_link, World.late_of}
+use Rattle.std.specs.Option.{option_and_then, option_map}
 use Rattle.ready_loop.specs.Drained.{MayWait, read_dry}
 use Rattle.router_world.proofs.{Apart.owned-turn, Stepping.IsQuiet, Stepping.done, Stepping.nobody-waits, Stepping.unlent, Stepping.unnumbered}
 use Rattle.router_world.proofs.Names.{Address, AllLawful, Arrival, ClientNo, Closed, Entry, Fits, For, Form, Forms, Framed, IsFarewell, IsFront, IsLawful}
@@ -19,6 +23,7 @@ use Rattle.router_world.proofs.Seats.{ended-seat, seat-told, told-seat}
 use Rattle.router_world.proofs.Sound.{Busy, Clients, Closes, Gone, Linked, Logs, Nobody, NoneParts, On, One, OneParts, PartStands, Parts, RowStands, SeatStands}
 use Rattle.router_world.proofs.Sound.{Servers, Sound, Waiting, Waits as WaitsForLink}
 use Rattle.client_talk.specs.declared.session.Phase.TheVariants as phase
+use Rattle.mx_wire.specs.declared.entry.Entry.TheVariants as entry
 
 -- Which clients are connected, and whose an open link is.
 
@@ -26,18 +31,34 @@ pub data IsOf (tables : Tables) (link : LinkId) : Type 0 where
   OfClient : (client : ClientNo) (seat : Seat) → tables.numbers link.0 ≡ Some client → tables.seats client.0 ≡ Some seat → seat.link ≡ link → IsOf tables link
   OfServer : (lent : Lent) → tables.lends.links link.0 ≡ Some lent → IsOf tables link
 
--- the one client's link that is to be closed, or else the one link to a server
+-- the one client's link that is to be closed, or else the one link to a server, or else that of the client who has no more time for its login
 pub data ClosesNext (service : Service) (log : Log) (tables : Tables) (link : LinkId) : Type 0 where
   ClosesClient : (parting : Parting) → PartStands service log tables.numbers tables.lends.closing parting → tables.parting ≡ parting ∷ []
       → parting.link ≡ link → ClosesNext service log tables link
   ClosesServer : tables.parting ≡ [] → tables.lends.closing ≡ link ∷ [] → ClosesNext service log tables link
+  ClosesLate : tables.parting ≡ [] → tables.lends.closing ≡ [] → (client : ClientNo) (seat : Seat) → late_of tables.clock ≡ Some client
+      → tables.seats client.0 ≡ Some seat → seat.link ≡ link → ClosesNext service log tables link
+
+late-seated : {service : Service} {log : Log} {tables : Tables} (link : LinkId) (client : ClientNo) (o : Option Seat) → tables.seats client.0 ≡ o
+    → tables.parting ≡ [] → tables.lends.closing ≡ [] → late_of tables.clock ≡ Some client
+    → option_map (λ (seat : Seat). seat.link) o ≡ Some link → ClosesNext service log tables link
+late-seated link client None there unparted unclosed late is = cc
+late-seated link client (Some seat) there unparted unclosed late is = ClosesLate unparted unclosed client seat late there (some-same seat.link link is)
+
+late-next : {service : Service} {log : Log} {tables : Tables} (link : LinkId) (o : Option ClientNo) → late_of tables.clock ≡ o
+    → tables.parting ≡ [] → tables.lends.closing ≡ []
+    → option_map (λ (seat : Seat). seat.link) (option_and_then (λ (client : ClientNo). tables.seats client.0) o) ≡ Some link
+    → ClosesNext service log tables link
+late-next link None late unparted unclosed is = cc
+late-next {tables = tables} link (Some client) late unparted unclosed is =
+    late-seated link client (tables.seats client.0) refl unparted unclosed late is
 
 pub closes-next : {service : Service} {log : Log} {tables : Tables} (link : LinkId) → Sound service log tables
-    → close_of tables.parting tables.lends.closing ≡ Some link → ClosesNext service log tables link
+    → close_of tables.parting tables.lends.closing (late_link tables) ≡ Some link → ClosesNext service log tables link
 closes-next {service} {log} {tables} link sound next = elim sound.parts as (λ parting at. tables.parting ≡ parting → ClosesNext service log tables link) [
   | OneParts p stands ↦ λ is. ClosesClient p stands is (cc (is, next))
   | NoneParts ↦ λ none. elim sound.lends.one_closes as (λ closing one. tables.lends.closing ≡ closing → ClosesNext service log tables link) [
-    | Nobody ↦ λ is. cc (none, is, next)
+    | Nobody ↦ λ is. late-next link (late_of tables.clock) refl none is (rw (none, is) at next)
     | One other ↦ λ is. ClosesServer none (cc (none, is, next))
   ] refl
 ] refl
@@ -82,6 +103,7 @@ module _ {service : Service} {log : Log} {tables : Tables} (sound : Sound servic
   pub farewell-left : (link : LinkId) (sent : Sent) → IsFarewell tables link → farewell_of tables.parting ≡ Some sent → IsLeft service log link sent
   farewell-left link sent farewell is = elim (closes-next link sound farewell.is_next) [
     | ClosesServer none closing ↦ cc (ap farewell_of none, is)
+    | ClosesLate none unclosed client seat late there on ↦ cc (ap farewell_of none, is)
     | ClosesClient p stands at on ↦ (let reply = reply-whole p.bytes sent (rw at at is) in
         ForClient stands.n stands.parted.came stands.parted.is_came (stands.parted.on ∙ on) reply.0
         (rw reply.1 (parted-told stands.parted (λ none. cc (none, at, is)))))
@@ -178,16 +200,26 @@ module _ {service : Service} {log : Log} (told : AllLawful Fits log) (sound : So
   writes-left link tag bytes (inl ours) = (let front = ours.1 in let is_left = sends-left told sound front.sent front.is in search (front, is_left))
   writes-left link tag bytes (inr ours) = (let front = ours.1 in let is_left = farewell-left sound link front.sent ours.0 front.is in search (front, is_left))
 
-  pub lawful-entry : (e : Entry) → OpensNext service log e → IsOurs service.setup log e → IsLawful service log e
-  lawful-entry (Opened server address link) next ours = may-open (Opened server address link) server address next ours refl
-  lawful-entry (OpenFailed server address) next ours = may-open (OpenFailed server address) server address next ours refl
-  lawful-entry (Wrote link tag bytes) next ours = part-lawful (writes-left link tag bytes ours)
-  lawful-entry (Closed link) next ours = elim (closes-next link sound ours.is_next) [
+  -- a client who has no more time for its login may be parted from
+  late-parts : ClockStands service log now → (client : ClientNo) (seat : Seat) (link : LinkId) → late_of now.clock ≡ Some client
+      → now.seats client.0 ≡ Some seat → seat.link ≡ link → MayClose service link log
+  late-parts clock client seat link late there on = (let may = late-may told sound clock client late in
+      let stands = (sound.seated.seats client.0 seat there).stands in
+      let same : stands.came ≡ may.0 = some-same stands.came may.0 (sym stands.is_came ∙ may.1.is_came) in
+      client-closes told client.0 may.0 link may.1.is_came (ap (λ (c : Arrival). c.link) (sym same) ∙ stands.link ∙ on)
+      (λ traffic. subst (λ b. MayPart b service client.0 may.0 log) (sym may.1.served) (inr may.2)))
+
+  pub lawful-entry : ClockStands service log now → (e : Entry) → OpensNext service log e → IsOurs service.setup log e → IsLawful service log e
+  lawful-entry clock (Opened server address link) next ours = may-open (Opened server address link) server address next ours refl
+  lawful-entry clock (OpenFailed server address) next ours = may-open (OpenFailed server address) server address next ours refl
+  lawful-entry clock (Wrote link tag bytes) next ours = part-lawful (writes-left link tag bytes ours)
+  lawful-entry clock (Closed link) next ours = elim (closes-next link sound ours.is_next) [
+    | ClosesLate none unclosed client seat late there on ↦ late-parts clock client seat link late there on
     | ClosesServer none is ↦ (let stands = sound.lends.closes link is in server-closes told link stands.turn stands.is_turn stands.may)
     | ClosesClient p stands is on ↦ subst (λ (l : LinkId). MayClose service l log) on
         (parted-closes stands.parted told (λ some. grind (arith, common_steps, ours)))
   ]
-  lawful-entry _ next ours = tt
+  lawful-entry clock _ next ours = tt
 
 -- as many commands as opens were tried
 pub counts-more : (service : Service) (log : Log) (e : Entry) → Sound service log (tables_after service.setup log) → IsOurs service.setup log e
@@ -219,6 +251,10 @@ module _ {service : Service} {log : Log} {tables : Tables} (told : AllLawful Fit
   busy-waits n i work (Linked link lent owns at (On unasked command inside has tag)) working = (let row = (sound.lends.rows link lent at).0 in
       let mine = owned-turn sound.lends owns at in rw mine at (waits-on row (row-full at) work has (rw mine working)))
 
+  -- nobody has no more time for a login
+  unlate : late_link tables ≡ None
+  unlate = (let acted = waits.acted in grind (arith, common_steps, (late_link tables)))
+
   -- Each client with a seat is answered.
   module _ {link : LinkId} (opened : IsOpen link log) (client : ClientNo) (seat : Seat) (number : tables.numbers link.0 ≡ Some client)
       (is : tables.seats client.0 ≡ Some seat) (on : seat.link ≡ link) where
@@ -247,23 +283,44 @@ module _ {service : Service} {log : Log} {tables : Tables} (told : AllLawful Fit
       })
     ]
 
-    seat-answered : IsAnswered service client.0 stands.came log
-    seat-answered = (let same : link ≡ stands.came.link = sym (stands.link ∙ on) in record {
+    same-dry : write_dry stands.came.link log ≡ write_dry link log
+    same-dry = ap (λ (l : LinkId). write_dry l log) (stands.link ∙ on)
+
+    seat-owed : WasToldAll service client.0 stands.came log ⊎ (write_dry stands.came.link log ≡ true)
+    seat-owed = elim seat-full [
+      | inl none ↦ inl (sym (append-nil (written_of stands.came.link log)) ∙ ap (λ xs. written_of stands.came.link log ++ xs) (sym none)
+          ∙ told-seat service log client.0 seat stands)
+      | inr full ↦ inr (same-dry ∙ full)
+    ]
+
+    seat-lasts : (has_ended service client.0 stands.came log ≡ false) ⊎ (write_dry stands.came.link log ≡ true)
+    seat-lasts = elim (bool_cases (is_ending seat.session.phase)) [
+      | inl ends ↦ inr (same-dry ∙ ending-full ends)
+      | inr lasts ↦ inl (ended-seat service log client.0 seat stands ∙ lasts)
+    ]
+
+    seat-waits : is_here client.0 log ≡ true → (work : Work) → work_of service client.0 log ≡ Some work → is_query work.message.payload ≡ true
+        → Waits service client.0 work log
+    seat-waits here work at query = elim stands.state [
+      | inr ended ↦ grind (arith, common_steps)
+      | inl heard ↦ (let all = seat-told heard.at in
+          let working = all.works work (sym all.due.work ∙ sym (work-is service client.0 stands.came log stands.is_came) ∙ at) query in
+          busy-waits client.0 seat.session.client.arrived work (rw working.1 at (sound.seated.seats client.0 seat is).serves) at)
+    ]
+
+    seat-answered : ClockStands service log tables → IsAnswered service client.0 stands.came log
+    seat-answered clock = record {
       served = stands.served;
-      told = grind (arith, common_steps, append-nil, told-seat, seat-full);
-      lasts = grind (arith, common_steps, ending-full, (ended-seat service log client.0 seat stands));
-      waits = λ here work at query. elim stands.state [
-        | inr ended ↦ grind (arith, common_steps)
-        | inl heard ↦ (let all = seat-told heard.at in
-            let working = all.works work (sym all.due.work ∙ sym (work-is service client.0 stands.came log stands.is_came) ∙ at) query in
-            busy-waits client.0 seat.session.client.arrived work (rw working.1 at (sound.seated.seats client.0 seat is).serves) at)
-      ];
-    })
+      told = seat-owed;
+      lasts = seat-lasts;
+      in_time = λ must. in-time told sound clock unlate client.0 stands.came must;
+      waits = seat-waits;
+    }
 
   -- So is each client, each open link is read dry, but that of a client at its end, and each to a server is its client's, which is connected, or busy.
 
-  pub rests-at : IsAtRest service log
-  rests-at = record {
+  pub rests-at : ClockStands service log tables → IsAtRest service log
+  rests-at clock = record {
     accepted = waits.drained.accepted;
     named = waits.drained.named;
     read = λ link opened. grind (arith, common_steps, (whose link opened), (seat-read opened));
@@ -271,7 +328,7 @@ module _ {service : Service} {log : Log} {tables : Tables} (told : AllLawful Fit
       | OfServer lent at ↦ cc (unowned log told service n came is refl, (sound.lends.rows came.link lent at).0.is_turn)
       | OfClient client seat number at on ↦ (let stands = (sound.seated.seats client.0 seat at).stands in
           of-client log told (λ m (c : Arrival). IsAnswered service m c log) stands.is_came is (stands.link ∙ on)
-          (seat-answered opened client seat number at on))
+          (seat-answered opened client seat number at on clock))
     ];
     servers = λ link owner user opened owned known. (let there = server-of sound owner told (done service.setup tables waits.acted) opened owned in
         link-kept there.2.0 (row-full there.1) owner user (owner-needs sound there.2) owned known);
@@ -279,15 +336,26 @@ module _ {service : Service} {log : Log} {tables : Tables} (told : AllLawful Fit
 
 -- Each entry of the router's keeps the promises.
 
+-- it waits at rest, and to be woken in time
+rests-entry : {service : Service} {log : Log} → AllLawful Fits log → Sound service log (tables_after service.setup log)
+    → ClockStands service log (tables_after service.setup log) → (e : Entry) → IsOurs service.setup log e → RestsAt service log e
+rests-entry {service} {log} told sound clock (entry.Woke until_ms now_ms) ours = (
+  rests-at told sound ours.0 clock,
+  subst (λ until. WakesAt service until log) (sym ours.1) (wakes-so told sound clock),
+)
+rests-entry told sound clock entry.WaitFailed ours = rests-at told sound ours clock
+rests-entry told sound clock entry.Over ours = rests-at told sound ours clock
+rests-entry told sound clock _ ours = tt
+
 pub keeps-more : (service : Service) (log : Log) (e : Entry) → AllLawful Fits log → Fits log e → Sound service log (tables_after service.setup log)
-    → OpensNext service log e → IsOurs service.setup log e → Keeps service log → Keeps service (log ++ e ∷ [])
-keeps-more service log e told fits sound next ours keeps = (let lawful : AllLawful (IsLawful service) (log ++ e ∷ []) = lawful-more
-    (IsLawful service) log e keeps.lawful (lawful-entry told sound e next ours) in record {
+    → ClockStands service log (tables_after service.setup log) → OpensNext service log e → IsOurs service.setup log e → Keeps service log → Keeps service (log ++ e ∷ [])
+keeps-more service log e told fits sound clock next ours keeps = (let lawful : AllLawful (IsLawful service) (log ++ e ∷ []) = lawful-more
+    (IsLawful service) log e keeps.lawful (lawful-entry told sound clock e next ours) in record {
       served = moment-more (IsServed service) log e keeps.served (served-more service log e told fits lawful
           (λ link tag bytes same. part-due (writes-left told sound link tag bytes (subst (IsOurs service.setup log) same ours)) told)
           (moment-last (IsServed service) log keeps.served));
       lawful = lawful;
-      rests = lawful-more (RestsAt service) log e keeps.rests (grind (arith, common_steps, rests-at));
+      rests = lawful-more (RestsAt service) log e keeps.rests (rests-entry told sound clock e ours);
     })
 
 -- What the reply to each message is like, by the whole log.

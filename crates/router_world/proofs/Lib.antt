@@ -9,3 +9,4 @@ pub mod Seats
 pub mod Sizing
 pub mod Sound
 pub mod Stepping
+pub mod Clocks

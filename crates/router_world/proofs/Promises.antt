@@ -9,9 +9,20 @@ use Rattle.promises.proofs.ServerLinks.{Concerns, LinkStands, OnLink as LinkOf, 
 use Rattle.promises.proofs.ServerLinks.{opened-row, outside-at, refused-replied}
 use Rattle.router_world.proofs.Apart.{Answers, Came, Leaving, NobodyWaits, RowGoes, RowSame, RowStays, Stood, Waiters, busy-alike, link-or-other, no-some}
 use Rattle.router_world.proofs.Apart.{none-one, set-other, set-same, stood}
-use Rattle.router_world.proofs.Comings.{closed-client, closed-server, coming-step, nothing-step, offered-step, parting-unlent, parting-unnumbered}
+use Rattle.router_world.proofs.Clocks.{ClockStands, clock-begun, clock-step, enters-seat, late-may}
+use Rattle.router_world.specs.Tables.{Clock, with_clock}
+use Rattle.router_world.specs.Tables.{without_number, without_seat}
+use Rattle.router_world.specs.World.{breaks_off, closed_by, closes_next, ended_on, enters, got_on, late_closes, late_leaves, late_of, on_client}
+use Rattle.router_world.specs.World.{still_entering, tidied}
+use Rattle.client_talk.specs.{Events.said, Going.still, Steps.ended}
+use Rattle.router_world.proofs.Names.{IsFarewell, farewell_of}
+use Rattle.router_world.specs.{Acts.next_close, World.wrote_on}
+use Rattle.std.specs.Prelude.{◌-◌}
+use Rattle.client_talk.specs.Sessions.{is_entering}
+use Rattle.router_world.proofs.Names.{ClientNo}
+use Rattle.router_world.proofs.Comings.{closed-client, closed-late, closed-server, coming-step, nothing-step, offered-step, parting-unlent, parting-unnumbered}
 use Rattle.router_world.proofs.Going.{broken-client, ended-client, got-client, server-step, working-busy, wrote-client}
-use Rattle.router_world.proofs.Lawful.{ClosesClient, ClosesServer, IsFor, IsOf, OfClient, OfServer, OpensNext, client-sends, closes-next, counts-more, form_by}
+use Rattle.router_world.proofs.Lawful.{ClosesClient, ClosesLate, ClosesServer, IsFor, IsOf, OfClient, OfServer, OpensNext, client-sends, closes-next, counts-more, form_by}
 use Rattle.router_world.proofs.Lawful.{is-of, keeps-more, opens-for, opens-next, reply-front, server-sends, service-of}
 use Rattle.router_world.proofs.LinksAt.{AtRow, busy-here, failed-came, heard-came, leaving-entry, left-row, wrote-came}
 use Rattle.router_world.proofs.Names.{Address, AllLawful, BackendState, Entry, Fits, Got, Handed, In, IsFront, IsLawful, IsOpen, IsOurs, Keeps, Lends, Lent}
@@ -21,12 +32,36 @@ use Rattle.router_world.proofs.Names.{false, fold-append, front, inl, inr, is_fa
 use Rattle.router_world.proofs.Names.{message-stays, most_command, nat_eq, new_backend, next_turn, oldest, open_failed, open_tries, opened, refl, refusal-cause}
 use Rattle.router_world.proofs.Names.{same_number, some-same, step-other, subst, suc, sym, tables_after, taken_on, told, true, turn_at, turn_for, turns}
 use Rattle.router_world.proofs.Names.{with_lends, with_link, without_ask, ℕ, ◌++◌, ◌<◌, ◌∙◌, ◌∷◌, ◌≡◌, ◌≢◌, ◌≤◌}
-use Rattle.router_world.proofs.Sound.{AreFormed, Busy, Happens, Known, Linked, Logs, Nobody, NoneParts, On, Own, Parts, Servers, Serves as SeatServes, Sound}
+use Rattle.router_world.proofs.Sound.{AreFormed, Busy, Gone, Happens, Known, Linked, Logs, Nobody, NoneParts, On, Own, Parts, Servers, Serves as SeatServes, Sound}
 use Rattle.router_world.proofs.Sound.{Unsent, Waits}
 use Rattle.router_world.proofs.Stepping.{Calm, IsQuiet, OnLink, ask-calm, concerned, done, known-later, later-calm, nobody-waits, steady, unlent, unnumbered}
 use Rattle.router_world.specs.World.{failed_on, lost_on, step}
 use Rattle.client_talk.specs.declared.session.Phase.TheVariants as phase
 use Rattle.mx_wire.specs.declared.entry.Entry.TheVariants as entry
+
+-- What is known by when clients have to log in is apart from all else.
+sound-clock : {service : Service} {log : Log} {tables : Tables} (clock : Clock) → Sound service log tables → Sound service log (with_clock clock tables)
+sound-clock clock sound = record {
+  counted = sound.counted;
+  seated = record { seats = sound.seated.seats; numbers = sound.seated.numbers; away = sound.seated.away };
+  lends = sound.lends;
+  parts = sound.parts;
+  known = sound.known;
+}
+
+sound-tidied : {service : Service} {log : Log} (tables : Tables) → Sound service log tables → Sound service log (tidied tables)
+sound-tidied tables sound = sound-clock (record tables.clock { newcomers = still_entering tables.seats tables.clock.newcomers }) sound
+
+-- nothing is asked for one who isn't logged in
+entering-gone : {service : Service} {log : Log} {tables : Tables} → Sound service log tables → (client : ClientNo) (seat : Seat)
+    → tables.seats client.0 ≡ Some seat → enters (tables.seats client.0) ≡ true → Gone tables.lends client.0
+entering-gone {tables = tables} sound client seat there entering = by seat.session.phase _ (ap enters (sym there) ∙ entering)
+    (sound.seated.seats client.0 seat there).serves where
+      by : (p : Phase) (i : ℕ) → is_entering p ≡ true → SeatServes p tables.lends client.0 i → Gone tables.lends client.0
+      by phase.LoggingIn i now serves = serves
+      by (phase.Idle user) i now serves = absurd (let no : false ≡ true = now in cc)
+      by (phase.Working user) i now serves = absurd (let no : false ≡ true = now in cc)
+      by phase.Ending i now serves = absurd (let no : false ≡ true = now in cc)
 
 -- What an open makes of what stands.
 
@@ -240,8 +275,68 @@ module _ {service : Service} {log : Log} {e : Entry} {link : LinkId} {tables : T
   failed-step : is_failure e ≡ true → is_loss e ≡ true → ((k i : ℕ) → carries k i e ≡ None)
       → Sound service (log ++ e ∷ []) (failed_on service.setup link (tables.numbers link.0) tables)
   failed-step failure loss silent = elim whose [
-    | OfClient client seat number is at ↦ rw number (broken-client (record { on = on; writes = silent; number = number; is = is; same = at }) failure loss)
+    | OfClient client seat number is at ↦
+        rw number (sound-tidied (breaks_off client link tables)
+        (broken-client (record { on = on; writes = silent; number = number; is = is; same = at }) failure loss))
     | OfServer lent is ↦ rw (unnumbered on.happens.told on.happens.sound link lent is) (lost-step loss silent lent is)
+  ]
+
+-- What comes of a client's link.
+
+got-seated : {service : Service} {log : Log} {link : LinkId} {bytes : List ℕ} {tables : Tables} → OnLink service log (Got link bytes) link tables
+    → (client : ClientNo) (seat : Seat) → tables.numbers link.0 ≡ Some client → tables.seats client.0 ≡ Some seat → seat.link ≡ link
+    → Sound service (log ++ Got link bytes ∷ []) (got_on service.setup link bytes (tables.numbers link.0) tables)
+got-seated {service} {log} {link} {bytes} {tables} on client seat number is at = rw number (sound-tidied (on_client (said service.setup bytes) client tables)
+    (rw (is, same_number client.0) (got-client (record { on = on; writes = λ n i. refl; number = number; is = is; same = at }))))
+
+ended-seated : {service : Service} {log : Log} {link : LinkId} {tables : Tables} → OnLink service log (entry.Ended link) link tables
+    → (client : ClientNo) (seat : Seat) → tables.numbers link.0 ≡ Some client → tables.seats client.0 ≡ Some seat → seat.link ≡ link
+    → Sound service (log ++ entry.Ended link ∷ []) (ended_on service.setup link (tables.numbers link.0) tables)
+ended-seated {service} {log} {link} {tables} on client seat number is at = rw number (sound-tidied (on_client (λ session. still (ended session)) client tables)
+    (rw (is, same_number client.0) (ended-client (record { on = on; writes = λ n i. refl; number = number; is = is; same = at }))))
+
+-- A client's link closes who had no more time for its login.
+late-step : {service : Service} {log : Log} {link : LinkId} {tables : Tables} → Happens service log (entry.Closed link) tables
+    → ClockStands service log tables → tables.parting ≡ [] → tables.lends.closing ≡ [] → (client : ClientNo) (seat : Seat)
+    → late_of tables.clock ≡ Some client → tables.seats client.0 ≡ Some seat → seat.link ≡ link
+    → Sound service (log ++ entry.Closed link ∷ []) (closed_by tables.parting tables)
+late-step {service} {log} {link} {tables} happens clock none unclosed client seat late there on = (let must = late-may happens.told happens.sound clock client late in
+    let gone = entering-gone happens.sound client seat there (enters-seat happens.told happens.sound client.0 must.0 must.1) in
+    subst (Sound service (log ++ entry.Closed link ∷ [])) (sym (ap (λ p. closed_by p tables) none ∙ ap (λ c. closes_next c tables) unclosed
+    ∙ ap (λ o. late_closes o tables) late ∙ ap (λ o. late_leaves client o tables) there)) (sound-tidied (left seat.link)
+    (subst (λ l. Sound service (log ++ entry.Closed link ∷ []) (left l)) (sym on) (closed-late happens none unclosed there on gone)))) where
+      left : LinkId → Tables
+      left l = record (without_number l (without_seat client tables)) { here = tables.here - 1 }
+
+-- A link closes, and what was offered to it before.
+module _ {service : Service} {log : Log} {link : LinkId} {tables : Tables} where
+  closed-step : Happens service log (entry.Closed link) tables → ClockStands service log tables → next_close tables ≡ Some link
+      → Sound service (log ++ entry.Closed link ∷ []) (closed_by tables.parting tables)
+  closed-step happens clock is_next = elim (closes-next link happens.sound is_next) [
+    | ClosesServer none is ↦ subst (Sound service (log ++ entry.Closed link ∷ []))
+        (sym (ap (λ p. closed_by p tables) none ∙ ap (λ c. closes_next c tables) is)) (closed-server happens none is)
+    | ClosesLate none unclosed client seat late there on ↦ late-step happens clock none unclosed client seat late there on
+    | ClosesClient p stands is on ↦ rw is (closed-client happens stands is on)
+  ]
+
+  farewell-failed : Happens service log (WriteFailed link) tables → IsFarewell tables link
+      → Sound service (log ++ WriteFailed link ∷ []) (failed_on service.setup link (tables.numbers link.0) tables)
+  farewell-failed happens ours = elim (closes-next link happens.sound ours.is_next) [
+    | ClosesServer none is ↦ cc (none, ours.some)
+    | ClosesLate none unclosed client seat late there on ↦ cc (none, ours.some)
+    | ClosesClient p stands is on ↦ rw (parting-unnumbered happens stands is on, parting-unlent happens stands is on)
+        (offered-step happens stands is on p.bytes is (inr (refl, refl)) ours.some refl refl (λ n i. refl) refl (assumption) (λ was. refl))
+  ]
+
+  farewell-wrote : {tag : Tag} {bytes : List ℕ} → Happens service log (Wrote link tag bytes) tables → IsFarewell tables link
+      → IsFront (farewell_of tables.parting) tag bytes
+      → Sound service (log ++ Wrote link tag bytes ∷ []) (wrote_on link (length bytes) (left_in (tables.lends.links link.0)) tables)
+  farewell-wrote {tag} {bytes} happens ours front = elim (closes-next link happens.sound ours.is_next) [
+    | ClosesServer none is ↦ cc (none, ours.some)
+    | ClosesLate none unclosed client seat late there on ↦ cc (none, ours.some)
+    | ClosesClient p stands is on ↦ rw (parting-unlent happens stands is on, parting-unnumbered happens stands is on) (offered-step happens stands is on []
+        (grind (arith, common_steps)) (inl refl) ours.some refl refl (λ n i. cc ((reply-front tag bytes p.bytes (rw is at front)).0)) refl (assumption)
+        (λ was. refl))
   ]
 
 -- What each entry makes of what stands.
@@ -260,31 +355,27 @@ module _ (service : Service) (log : Log) where
         apart = λ row. grind (arith, common_steps, apart-numbers, some-same, opened);
       })
 
-  entry-step : (e : Entry) → service.setup.limit ≤ most_command → Happens service log e now → OpensNext service log e → IsOurs service.setup log e
+  entry-step : (e : Entry) → service.setup.limit ≤ most_command → ClockStands service log now → Happens service log e now → OpensNext service log e → IsOurs service.setup log e
       → Sound service (log ++ e ∷ []) (step service.setup now e)
-  entry-step (entry.Accepted port link salt) short happens next ours = coming-step happens (done service.setup now ours) short
-  entry-step (entry.Opened server address link) short happens next ours = opened-step (on-open happens next ours refl (λ may. may))
-  entry-step (entry.OpenFailed server address) short happens next ours = open-failed-step (on-open happens next ours refl (λ may. may))
-  entry-step (entry.Got link bytes) short happens next ours = (let on : OnLink service log (Got link bytes) link now = assumption in elim (whose on) [
-    | OfClient client seat number is at ↦ rw (number, is, same_number client.0)
-        (got-client (record { on = on; writes = λ n i. refl; number = number; is = is; same = at }))
+  entry-step (entry.Woke until_ms now_ms) short clock happens next ours =
+      sound-clock _ (nothing-step {e = entry.Woke until_ms now_ms} happens (assumption) (assumption) (λ was. refl))
+  entry-step (entry.Accepted port link salt) short clock happens next ours = sound-clock _ (coming-step happens (done service.setup now ours) short)
+  entry-step (entry.Opened server address link) short clock happens next ours = opened-step (on-open happens next ours refl (λ may. may))
+  entry-step (entry.OpenFailed server address) short clock happens next ours = open-failed-step (on-open happens next ours refl (λ may. may))
+  entry-step (entry.Got link bytes) short clock happens next ours = (let on : OnLink service log (Got link bytes) link now = assumption in elim (whose on) [
+    | OfClient client seat number is at ↦ got-seated on client seat number is at
     | OfServer lent is ↦ rw (unnumbered on.happens.told on.happens.sound link lent is)
         (row-step on is {news = heard link bytes now.lends} (λ seat is early unsent i later. refl)
         (rw is (heard-came (row-at on is) (record { some = happens.fits.some; are = ours.1 }))))
   ])
-  entry-step (entry.Ended link) short happens next ours = (let on : OnLink service log (Ended link) link now = assumption in elim (whose on) [
-    | OfClient client seat number is at ↦ rw (number, is, same_number client.0)
-        (ended-client (record { on = on; writes = λ n i. refl; number = number; is = is; same = at }))
+  entry-step (entry.Ended link) short clock happens next ours = (let on : OnLink service log (Ended link) link now = assumption in elim (whose on) [
+    | OfClient client seat number is at ↦ ended-seated on client seat number is at
     | OfServer lent is ↦ rw (unnumbered on.happens.told on.happens.sound link lent is) (lost-step on refl (λ k i. refl) lent is)
   ])
-  entry-step (entry.ReadFailed link) short happens next ours = failed-step {tables = now} (assumption) refl refl (λ k i. refl)
-  entry-step (entry.WriteFailed link) short happens next (inl ours) = failed-step {tables = now} (assumption) refl refl (λ k i. refl)
-  entry-step (entry.WriteFailed link) short happens next (inr ours) = elim (closes-next link happens.sound ours.is_next) [
-    | ClosesServer none is ↦ cc (none, ours.some)
-    | ClosesClient p stands is on ↦ rw (parting-unnumbered happens stands is on, parting-unlent happens stands is on)
-        (offered-step happens stands is on p.bytes is (inr (refl, refl)) ours.some refl refl (λ n i. refl) refl (assumption) (λ was. refl))
-  ]
-  entry-step (entry.Wrote link tag bytes) short happens next (inl ours) = (let on : OnLink service log (Wrote link tag bytes) link now = assumption in
+  entry-step (entry.ReadFailed link) short clock happens next ours = failed-step {tables = now} (assumption) refl refl (λ k i. refl)
+  entry-step (entry.WriteFailed link) short clock happens next (inl ours) = failed-step {tables = now} (assumption) refl refl (λ k i. refl)
+  entry-step (entry.WriteFailed link) short clock happens next (inr ours) = farewell-failed happens ours
+  entry-step (entry.Wrote link tag bytes) short clock happens next (inl ours) = (let on : OnLink service log (Wrote link tag bytes) link now = assumption in
       elim (whose on) [
         | OfClient client seat number is at ↦ (let reply = reply-front tag bytes seat.session.client.outgoing
             (subst (λ lent. IsFront lent tag bytes) (client-sends on.happens.told on.happens.sound number is at) ours.1) in
@@ -294,22 +385,15 @@ module _ (service : Service) (log : Log) where
         | OfServer lent is ↦ (let sends = server-sends on.happens.told on.happens.sound is in
             rw (is, sym sends ∙ ours.1.is) (wrote-step (subst (λ lent. IsFront lent tag bytes) sends ours.1) on is))
       ])
-  entry-step (entry.Wrote link tag bytes) short happens next (inr ours) = elim (closes-next link happens.sound ours.0.is_next) [
-    | ClosesServer none is ↦ cc (none, ours.0.some)
-    | ClosesClient p stands is on ↦ rw (parting-unlent happens stands is on, parting-unnumbered happens stands is on) (offered-step happens stands is on []
-        (grind (arith, common_steps)) (inl refl) ours.0.some refl refl (λ n i. cc ((reply-front tag bytes p.bytes (rw is at ours.1)).0)) refl (assumption)
-        (λ was. refl))
-  ]
-  entry-step (entry.Closed link) short happens next ours = elim (closes-next link happens.sound ours.is_next) [
-    | ClosesServer none is ↦ rw none (closed-server happens none is)
-    | ClosesClient p stands is on ↦ rw is (closed-client happens stands is on)
-  ]
-  entry-step e short happens next ours = nothing-step happens (assumption) (assumption) (λ was. refl)
+  entry-step (entry.Wrote link tag bytes) short clock happens next (inr ours) = farewell-wrote happens ours.0 ours.1
+  entry-step (entry.Closed link) short clock happens next ours = closed-step happens clock ours.is_next
+  entry-step e short clock happens next ours = nothing-step happens (assumption) (assumption) (λ was. refl)
 
 -- What stands for each beginning of a log whose entries are the router's.
 pub record StandsFor (service : Service) (log : Log) : Type 0 where
   pub told : AllLawful Fits log
   pub sound : Sound service log (tables_after service.setup log)
+  pub clock : ClockStands service log (tables_after service.setup log)
   pub counts : length (turns service.setup log) ≡ length (open_tries log)
   pub keeps : Keeps service log
 
@@ -320,18 +404,22 @@ module _ (setup : Setup) (all : Log) (short : setup.limit ≤ most_command) wher
   one-more : (log more : Log) (e : Entry) → (log ++ e ∷ []) ++ more ≡ all → MayFollow log e → IsOurs setup log e → StandsFor by-all log
       → StandsFor by-all (log ++ e ∷ [])
   one-more log more e is follows ours stands = (let next = opens-next by-all log e more (ap (turns setup) (sym is)) stands.counts in
-      let keeps = keeps-more by-all log e stands.told follows.fits stands.sound next ours stands.keeps in
+      let keeps = keeps-more by-all log e stands.told follows.fits stands.sound stands.clock next ours stands.keeps in
       -- what the reply to a message is like goes by the whole log
-      let formed : AreFormed by-all (log ++ e ∷ []) = λ n i message there. ap form_by (rw is at (message-stays by-all n i _ more message there)) in record {
-        told = lawful-more Fits log e stands.told follows.fits;
-        sound = rw fold-append (entry-step by-all log e short (assumption) next ours);
+      let formed : AreFormed by-all (log ++ e ∷ []) = λ n i message there. ap form_by (rw is at (message-stays by-all n i _ more message there)) in
+      let happens : Happens by-all log e (tables_after setup log) = assumption in
+      let told : AllLawful Fits (log ++ e ∷ []) = lawful-more Fits log e stands.told follows.fits in
+      let sound : Sound by-all (log ++ e ∷ []) (step setup (tables_after setup log) e) = entry-step by-all log e short stands.clock happens next ours in record {
+        told = told;
+        sound = rw fold-append sound;
+        clock = rw fold-append (clock-step e happens stands.clock told sound);
         counts = counts-more by-all log e stands.sound ours stands.counts;
         keeps = keeps;
       })
 
   pub stands-all : AllLawful MayFollow all → AllLawful (IsOurs setup) all → AllLawful (λ l e. StandsFor by-all l) all × StandsFor by-all all
   stands-all = lawful-within MayFollow (IsOurs setup) (StandsFor by-all) all [] all one-more refl
-      (record { told = tt; sound = grind (arith, common_steps, NoneParts, Nobody); counts = refl; keeps = grind (arith, common_steps) })
+      (record { told = tt; sound = grind (arith, common_steps, NoneParts, Nobody); clock = clock-begun by-all; counts = refl; keeps = grind (arith, common_steps) })
 
 -- A log whose entries are the router's keeps the promises.
 pub keeps : (setup : Setup) (log : Log) → setup.limit ≤ most_command → AllLawful MayFollow log → AllLawful (IsOurs setup) log → Serves setup log

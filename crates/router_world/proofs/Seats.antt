@@ -111,6 +111,8 @@ module _ (talk : Talk) (reply : ℕ → Option Answer) (written : List ℕ) (bef
           asks = (refl, more);
         })
         idle-arrives asked.Quit means = ends goes.mine goes.grows (Quits comes (grind (arith, common_steps, (parsed message.payload))))
+        idle-arrives asked.Silence means = (let none : answer ≡ Some [] = grind (arith, common_steps, (parsed message.payload)) in
+            let at = message-taken comes [] none in grind (arith, common_steps, goes, more, append-nil))
         idle-arrives asked.Ping means = idle-answers own_ok (grind (arith, common_steps, (parsed message.payload)))
         idle-arrives (asked.Refused refusal) means = idle-answers (payload_of refusal)
             (grind (arith, common_steps, (is_some talk.setup.target), (parsed message.payload)))

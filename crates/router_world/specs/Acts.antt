@@ -1,10 +1,10 @@
 -- What the router does next, by what it knows: what it reads, writes, opens and closes.
 use Rattle.{client_session.specs.Setups.Setup, client_session.specs.Setups.has_server, client_session.specs.declared.setup.ServerAt.ServerAt}
-use Rattle.{client_talk.specs.Sessions.is_read, lend_core.specs.Events.is_waiting, lend_core.specs.Events.left_in, lend_core.specs.Lends.oldest}
+use Rattle.{client_talk.specs.Sessions.is_read, lend_core.specs.Events.is_waiting, lend_core.specs.Events.left_in}
 use Rattle.{mx_base.specs.Fields.AreBytes, mx_base.specs.Sent.Sent, mx_base.specs.declared.names.ClientNo.ClientNo, mx_base.specs.declared.names.LinkId.LinkId}
 use Rattle.{mx_base.specs.declared.tag.Tag.Tag, mx_base.specs.declared.tag.Tag.TheVariants.Reply, mx_wire.specs.Log.Log}
 use Rattle.{mx_wire.specs.declared.entry.Entry.Entry, promises.specs.Closes.was_offered, ready_loop.specs.Drained.MayWait, ready_loop.specs.Machine.Target}
-use Rattle.{router_world.specs.Tables.Tables, router_world.specs.World.tables_after, router_world.specs.declared.seat.Parting.Parting}
+use Rattle.{router_world.specs.Tables.Tables, router_world.specs.World.late_of, router_world.specs.World.tables_after, router_world.specs.World.wakes_at, router_world.specs.declared.seat.Parting.Parting}
 use Rattle.{router_world.specs.declared.seat.Seat.Seat, std.specs.Option.option_and_then, std.specs.Option.option_map, std.specs.Option.option_or}
 use Rattle.std.specs.Prelude.{Bool, List, None, Option, Some, [], false, if◌then◌else◌, is_some, nat_eq, take, true, ℕ, ◌&&◌, ◌||◌, ◌∷◌, ◌≡◌, ◌⊎◌}
 use Rattle.mx_wire.specs.declared.entry.Entry.TheVariants as entry
@@ -38,14 +38,20 @@ seat_reads (Some seat) = is_read seat.session.phase
 abbrev pub reads : Tables → LinkId → Bool
 reads tables link = is_some (tables.lends.links link.0) || seat_reads (seat_on tables link)
 
--- Links are closed before others are opened.
+-- Links are closed before others are opened; and so is that of a client who has no more time for its login.
+
+abbrev pub late_seat : Tables → Option Seat
+late_seat tables = option_and_then (λ (client : ClientNo). tables.seats client.0) (late_of tables.clock)
+
+abbrev pub late_link : Tables → Option LinkId
+late_link tables = option_map (λ (seat : Seat). seat.link) (late_seat tables)
 
 abbrev pub has_some : {X : Type 0} → List X → Bool
 has_some [] = false
 has_some (x ∷ xs) = true
 
 abbrev pub closes : Tables → Bool
-closes tables = has_some tables.parting || has_some tables.lends.closing
+closes tables = has_some tables.parting || has_some tables.lends.closing || is_some (late_link tables)
 
 abbrev pub opens : Setup → Tables → Bool
 opens setup tables = has_server setup && is_waiting tables.lends.waiting
@@ -59,12 +65,13 @@ awaits setup tables = if closes tables then None else if is_waiting tables.lends
     then option_map (λ (at : ServerAt). record { server = at.server; address = at.address }) setup.target else None
 
 -- the link that is to be closed next, and what is offered to it before
-abbrev pub close_of : List Parting → List LinkId → Option LinkId
-close_of [] closing = oldest closing
-close_of (parting ∷ later) closing = Some parting.link
+abbrev pub close_of : List Parting → List LinkId → (late : Option LinkId) → Option LinkId
+close_of [] [] late = late
+close_of [] (link ∷ later) late = Some link
+close_of (parting ∷ others) closing late = Some parting.link
 
 abbrev pub next_close : Tables → Option LinkId
-next_close tables = close_of tables.parting tables.lends.closing
+next_close tables = close_of tables.parting tables.lends.closing (late_link tables)
 
 abbrev pub farewell_of : List Parting → Option Sent
 farewell_of [] = None
@@ -101,8 +108,9 @@ IsOurs setup log (entry.Wrote link tag bytes) =
 IsOurs setup log (entry.Opened server address link) = awaits setup (tables_after setup log) ≡ Some (record { server = server; address = address })
 IsOurs setup log (entry.OpenFailed server address) = awaits setup (tables_after setup log) ≡ Some (record { server = server; address = address })
 IsOurs setup log (entry.Closed link) = IsClosing (tables_after setup log) link log
-IsOurs setup log (entry.Woke until_ms now_ms) = MayWait (reads (tables_after setup log)) (sends (tables_after setup log)) (asks setup (tables_after setup log))
-    log
+IsOurs setup log (entry.Woke until_ms now_ms) =
+    MayWait (reads (tables_after setup log)) (sends (tables_after setup log)) (asks setup (tables_after setup log)) log ×
+    (until_ms ≡ wakes_at (tables_after setup log).clock)
 IsOurs setup log entry.WaitFailed = MayWait (reads (tables_after setup log)) (sends (tables_after setup log)) (asks setup (tables_after setup log)) log
 IsOurs setup log entry.Over = MayWait (reads (tables_after setup log)) (sends (tables_after setup log)) (asks setup (tables_after setup log)) log
 IsOurs setup log _ = Unit {0}

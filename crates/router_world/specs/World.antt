@@ -3,14 +3,15 @@ use Rattle.std.specs.Prelude.{ℕ, ◌-◌, Bool, true, false, nat_eq, nat_lt, i
 use Rattle.mx_base.specs.declared.names.{ClientNo.ClientNo, LinkId.LinkId, Port.Port, Port.TheVariants.Traffic, Port.TheVariants.Admin}
 use Rattle.{mx_wire.specs.Log.Log, mx_wire.specs.declared.entry.Entry.Entry, packet_frame.specs.Packets.spelling, server_side.specs.Account.Account}
 use Rattle.{client_side.specs.Client.counted, client_session.specs.Setups.Setup, client_session.specs.Errors.too_many_connections, promises.specs.Service.Turn}
+use Rattle.{client_session.specs.Arrivals.login_end, router_world.specs.declared.seat.Newcomer.Newcomer}
 use Rattle.{router_world.specs.declared.seat.Parting.Parting, router_world.specs.declared.seat.Seat.Seat, mx_base.specs.Sent.Sent, std.specs.Option.option_map}
-use Rattle.client_talk.specs.{declared.session.Session.Session, Queries.Query, Sessions.new_session, Sessions.account_in, Sessions.is_ending}
+use Rattle.client_talk.specs.{declared.session.Session.Session, Queries.Query, Sessions.new_session, Sessions.account_in, Sessions.is_ending, Sessions.is_entering}
 use Rattle.client_talk.specs.{Sessions.is_finished, Steps.ended, Going.Turned, Going.still, Events.said, Events.answered, Events.taken}
 use Rattle.lend_core.specs.{declared.ask.Answered.Answered, declared.ask.Ask.Ask, Lends.Lends, Lends.Told, Lends.oldest, Changes.taken_on}
 use Rattle.lend_core.specs.{Changes.without_close, Events.asked, Events.opened, Events.open_failed, Events.heard, Events.lost, Events.gone, Lends.set}
 use Rattle.std.specs.{List.cons_option, Option.option_and_then}
 use Rattle.lend_core.specs.{Events.left_in, declared.lent.Lent.Lent}
-use Rattle.router_world.specs.Tables.{Tables, no_tables, with_seat, without_seat, with_number, without_number, with_lends, to_part}
+use Rattle.router_world.specs.Tables.{Clock, Tables, no_tables, with_clock, with_seat, without_seat, with_number, without_number, with_lends, to_part}
 use Rattle.mx_wire.specs.declared.entry.Entry.TheVariants as entry
 
 -- A client comes.
@@ -26,6 +27,49 @@ abbrev pub comes : Port → Setup → LinkId → (salt : List ℕ) → Tables �
 comes Traffic setup link salt tables = (let more : Tables = record tables { came = counted tables.came; here = counted tables.here } in
     if nat_lt tables.here setup.max_clients then admitted (record { 0 = counted tables.came }) link salt setup more else refused link more)
 comes Admin setup link salt tables = to_part (record { link = link; bytes = []; is_client = false }) (record tables { came = counted tables.came })
+
+-- Clients have to log in by a moment. One that is served is the last of the newcomers.
+
+abbrev pub wakes : (now_ms : ℕ) → Tables → Tables
+wakes now_ms tables = with_clock (record tables.clock { moment = now_ms }) tables
+
+abbrev pub newcomer_at : ClientNo → Clock → Newcomer
+newcomer_at client clock = record { client = client; until = login_end clock.moment }
+
+abbrev pub with_newcomer : ClientNo → Clock → Clock
+with_newcomer client clock = record clock { newcomers = clock.newcomers ++ newcomer_at client clock ∷ [] }
+
+abbrev pub welcomes : Port → Setup → Tables → Clock
+welcomes Traffic setup tables = if nat_lt tables.here setup.max_clients then with_newcomer (record { 0 = counted tables.came }) tables.clock else tables.clock
+welcomes Admin setup tables = tables.clock
+
+-- those at the front who are logged in, or gone, are let go of
+abbrev pub enters : Option Seat → Bool
+enters None = false
+enters (Some seat) = is_entering seat.session.phase
+
+abbrev pub still_entering : (ℕ → Option Seat) → List Newcomer → List Newcomer
+still_entering seats [] = []
+still_entering seats (first ∷ later) = if enters (seats first.client.0) then first ∷ later else still_entering seats later
+
+abbrev pub tidied : Tables → Tables
+tidied tables = with_clock (record tables.clock { newcomers = still_entering tables.seats tables.clock.newcomers }) tables
+
+-- the moment at which the first of them has no more time, and the last of all where there is none
+abbrev pub wakes_in : List Newcomer → ℕ
+wakes_in [] = 18446744073709551615
+wakes_in (first ∷ later) = first.until
+
+abbrev pub wakes_at : Clock → ℕ
+wakes_at clock = wakes_in clock.newcomers
+
+-- who has no more time by now
+abbrev pub late_in : (moment : ℕ) → List Newcomer → Option ClientNo
+late_in moment [] = None
+late_in moment (first ∷ later) = if nat_lt moment first.until then None else Some first.client
+
+abbrev pub late_of : Clock → Option ClientNo
+late_of clock = late_in clock.moment clock.newcomers
 
 -- A client's session takes a step in its seat.
 
@@ -90,7 +134,7 @@ told setup news tables = answering setup news.answer (with_lends news.lends tabl
 -- What comes on a link, by whose it is.
 
 abbrev pub got_on : Setup → LinkId → (bytes : List ℕ) → Option ClientNo → Tables → Tables
-got_on setup link bytes (Some client) tables = on_client (said setup bytes) client tables
+got_on setup link bytes (Some client) tables = tidied (on_client (said setup bytes) client tables)
 got_on setup link bytes None tables = told setup (heard link bytes tables.lends) tables
 
 -- one that is offered something before it closes is nobody's any more
@@ -99,11 +143,11 @@ lost_on setup link None tables = tables
 lost_on setup link (Some lent) tables = told setup (lost link tables.lends) tables
 
 abbrev pub ended_on : Setup → LinkId → Option ClientNo → Tables → Tables
-ended_on setup link (Some client) tables = on_client (λ session. still (ended session)) client tables
+ended_on setup link (Some client) tables = tidied (on_client (λ session. still (ended session)) client tables)
 ended_on setup link None tables = lost_on setup link (tables.lends.links link.0) tables
 
 abbrev pub failed_on : Setup → LinkId → Option ClientNo → Tables → Tables
-failed_on setup link (Some client) tables = breaks_off client link tables
+failed_on setup link (Some client) tables = tidied (breaks_off client link tables)
 failed_on setup link None tables = lost_on setup link (tables.lends.links link.0) tables
 
 -- the one write that is offered to a client's link before it closes
@@ -120,16 +164,31 @@ abbrev pub wrote_on : LinkId → (n : ℕ) → (left : Option Sent) → Tables �
 wrote_on link n None tables = client_took link n (tables.numbers link.0) tables
 wrote_on link n (Some left) tables = with_lends (taken_on link n tables.lends) tables
 
--- A link closes: the oldest of those of clients that are to be closed, and where there is none the oldest of those to servers.
+-- A link closes: the oldest of those of clients that are to be closed, where there is none the oldest of those to servers, and where there is none
+-- of these either that of the client who has no more time for its login.
+
+abbrev pub late_leaves : ClientNo → Option Seat → Tables → Tables
+late_leaves client None tables = tables
+late_leaves client (Some seat) tables =
+    tidied (record (without_number seat.link (without_seat client tables)) { here = tables.here - 1 })
+
+abbrev pub late_closes : Option ClientNo → Tables → Tables
+late_closes None tables = tables
+late_closes (Some client) tables = late_leaves client (tables.seats client.0) tables
+
+abbrev pub closes_next : List LinkId → Tables → Tables
+closes_next [] tables = late_closes (late_of tables.clock) tables
+closes_next (link ∷ later) tables = with_lends (without_close tables.lends) tables
 
 abbrev pub closed_by : List Parting → Tables → Tables
-closed_by [] tables = with_lends (without_close tables.lends) tables
+closed_by [] tables = closes_next tables.lends.closing tables
 closed_by (parting ∷ later) tables = record tables { here = if parting.is_client then tables.here - 1 else tables.here; parting = later }
 
 -- Each entry.
 
 abbrev pub step : Setup → Tables → Entry → Tables
-step setup tables (entry.Accepted port link salt) = comes port setup link salt tables
+step setup tables (entry.Woke until_ms now_ms) = wakes now_ms tables
+step setup tables (entry.Accepted port link salt) = with_clock (welcomes port setup tables) (comes port setup link salt tables)
 step setup tables (entry.Opened server address link) = with_lends (opened link tables.lends) tables
 step setup tables (entry.OpenFailed server address) = told setup (open_failed tables.lends) tables
 step setup tables (entry.Got link bytes) = got_on setup link bytes (tables.numbers link.0) tables

@@ -5,4 +5,4 @@ mod laws;
 mod seat;
 
 pub use laws::keeps;
-pub use seat::{Parting, Seat};
+pub use seat::{Newcomer, Parting, Seat};

@@ -1,6 +1,6 @@
 // What is known of a client's link.
 use client_talk::Session;
-use mx_base::{Bytes, LinkId};
+use mx_base::{Bytes, ClientNo, LinkId};
 
 /// A client that is served.
 #[derive(Drop)]
@@ -15,4 +15,11 @@ pub struct Parting {
     pub link: LinkId,
     pub bytes: Bytes,
     pub is_client: bool,
+}
+
+/// A client that came, and the moment at which it has no more time for its login, in milliseconds.
+#[derive(Clone, Copy)]
+pub struct Newcomer {
+    pub client: ClientNo,
+    pub until: u64,
 }

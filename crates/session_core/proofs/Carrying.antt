@@ -1,12 +1,15 @@
 -- The core is carried over what it is told of and what it asks for.
 use Rattle.mx_wire.specs.Log.{AreMarks, Log, is_link, link_of}
-use Rattle.ready_loop.specs.Machine.{Acts, CarriesOver, Closes, HasActed, IsFarewell, IsHeard, IsToldOf, OwesFarewell}
-use Rattle.router_world.specs.World.{closed_by, step, tables_after, wrote_on}
-use Rattle.session_core.specs.Says.{Asked, Becomes, asks, awaits, changed, farewell, next_leaver, on_event, reads, sends}
+use Rattle.std.specs.Option.{option_and_then, option_map}
+use Rattle.ready_loop.specs.Machine.{Acts, CarriesOver, Closes, HasActed, IsAwaited, IsFarewell, IsHeard, IsToldOf, OwesFarewell}
+use Rattle.mx_base.specs.declared.names.ClientNo.{ClientNo}
+use Rattle.router_world.specs.World.{closed_by, closes_next, late_closes, late_leaves, late_of, step, tables_after, wrote_on}
+use Rattle.router_world.specs.declared.seat.Seat.{Seat}
+use Rattle.session_core.specs.Says.{Asked, Becomes, asks, awaits, changed, farewell, next_leaver, on_event, reads, sends, until_of}
 use Rattle.session_core.{proofs.Standing.IsApart, proofs.Standing.acted-after, proofs.Standing.apart-of, proofs.Standing.awaited-after, specs.Stands.Stands}
 use Rattle.session_core.proofs.Standing.{carried, due_in, sends-after, tables-more, waits-after}
 use Rattle.std.proofs.Common.{ap, append-nil, append_assoc, arith, inl, inr, subst, sym, ◌∙◌}
-use Rattle.std.specs.Prelude.{IsSome, List, None, OnOk, Option, Result, Some, [], false, is_some, refl, take, true, ℕ, ◌++◌, ◌∷◌, ◌≡◌}
+use Rattle.std.specs.Prelude.{IfSome, IsSome, List, None, OnOk, Option, Result, Some, [], false, is_some, nat_eq, refl, take, true, ℕ, ◌++◌, ◌∷◌, ◌≡◌}
 use Rattle.mx_base.{specs.Fields.AreBytes, specs.Sent.MayTake, specs.Sent.Sent, specs.declared.names.LinkId.LinkId}
 use Rattle.mx_wire.{specs.Growth.bool_cases, specs.Moments.AllLawful, specs.Moments.lawful-more, specs.Tells.Fits, specs.declared.entry.Entry.Entry}
 use Rattle.promises.{proofs.Moments.one-more, specs.Closes.is_write}
@@ -21,7 +24,7 @@ use Rattle.router_world.specs.Acts as acts
 -- an event is told of an entry of the world's, which is the router's
 pub told_carries : {T E : Type 0} (r : Result T E) (old : Core) (known : Known) (event : Event) (bytes : List ℕ) → AreBytes bytes
     → HasActed (asks old) event → OnOk r (Becomes (on_event old.setup event bytes (tables_of old.known)) old.known known)
-    → OnOk r ((e : Entry) → IsToldOf 18446744073709551615 (awaits old) event bytes e → CarriesOver Stands due_in old (record old { known = known }) e)
+    → OnOk r ((e : Entry) → IsToldOf (until_of old) (awaits old) event bytes e → CarriesOver Stands due_in old (record old { known = known }) e)
 told_carries r old known event bytes are acted is = on_ok_weaker r (λ becomes e told. carried old known e (λ log is_due held.
     grind (arith, common_steps, acted-after, awaited-after, waits-after))) is
 
@@ -78,11 +81,51 @@ runs-marks setup tables log (_ ∷ marks) all runs = absurd all.0
 
 -- A link that is to be closed has nothing else to be written, and what is offered to it changes nothing else.
 
-none-said : (tables : Tables) (log : Log) (link : LinkId) → IsApart tables log link → acts.sends tables link ≡ None
-none-said tables log link apart = grind (arith, common_steps)
+-- the links to servers stay as another closes
+closed-lends : (parting : List Parting) (tables : Tables) (link : LinkId)
+    → (closed_by parting tables).lends.links link.0 ≡ tables.lends.links link.0
+closed-lends [] tables link = next tables.lends.closing where
+  leaves : (client : ClientNo) (o : Option Seat) → (late_leaves client o tables).lends.links link.0 ≡ tables.lends.links link.0
+  leaves client None = refl
+  leaves client (Some seat) = refl
 
-closed-says : (parting : List Parting) (tables : Tables) (link : LinkId) → acts.sends (closed_by parting tables) link ≡ acts.sends tables link
-closed-says h0 tables link = grind (arith, common_steps)
+  late : (o : Option ClientNo) → (late_closes o tables).lends.links link.0 ≡ tables.lends.links link.0
+  late None = refl
+  late (Some client) = leaves client (tables.seats client.0)
+
+  next : (closing : List LinkId) → (closes_next closing tables).lends.links link.0 ≡ tables.lends.links link.0
+  next [] = late (late_of tables.clock)
+  next (other ∷ later) = refl
+closed-lends (parting ∷ later) tables link = refl
+
+-- and of the clients' links no more is to be read or written than was
+closed-seat : (parting : List Parting) (tables : Tables) (link : LinkId) (seat : Seat) → acts.seat_on (closed_by parting tables) link ≡ Some seat
+    → acts.seat_on tables link ≡ Some seat
+closed-seat [] tables link seat is = next tables.lends.closing is where
+  leaves : (client : ClientNo) (o : Option Seat) → acts.seat_on (late_leaves client o tables) link ≡ Some seat → acts.seat_on tables link ≡ Some seat
+  leaves client None is = is
+  leaves client (Some its) is = grind (arith, common_steps, (nat_eq link.0 its.link.0), (tables.numbers link.0))
+
+  late : (o : Option ClientNo) → acts.seat_on (late_closes o tables) link ≡ Some seat → acts.seat_on tables link ≡ Some seat
+  late None is = is
+  late (Some client) is = leaves client (tables.seats client.0) is
+
+  next : (closing : List LinkId) → acts.seat_on (closes_next closing tables) link ≡ Some seat → acts.seat_on tables link ≡ Some seat
+  next [] is = late (late_of tables.clock) is
+  next (other ∷ later) is = is
+closed-seat (parting ∷ later) tables link seat is = is
+
+closed-reads : (parting : List Parting) (tables : Tables) (link : LinkId) → acts.reads (closed_by parting tables) link ≡ true → acts.reads tables link ≡ true
+closed-reads parting tables link is = (let lends = closed-lends parting tables link in let seat = closed-seat parting tables link in
+    grind (arith, common_steps, (acts.seat_on (closed_by parting tables) link)))
+
+closed-sends : (parting : List Parting) (tables : Tables) (link : LinkId) → IsSome (acts.sends (closed_by parting tables) link)
+    → IsSome (acts.sends tables link)
+closed-sends parting tables link is = (let lends = closed-lends parting tables link in let seat = closed-seat parting tables link in
+    grind (arith, common_steps, (acts.seat_on (closed_by parting tables) link)))
+
+none-said : (tables : Tables) (log : Log) (link : LinkId) → IsApart tables log link → acts.sends (closed_by tables.parting tables) link ≡ None
+none-said tables log link apart = (let lends = closed-lends tables.parting tables link in grind (arith, common_steps))
 
 -- what an entry of the offer makes of the tables
 record Offered (setup : Setup) (tables : Tables) (log : Log) (link : LinkId) (e : Entry) : Type 0 where
@@ -113,7 +156,6 @@ module _ (old : Core) (known : Known) (link : LinkId) (next : acts.next_close (t
   said-last log held = grind (
     arith,
     common_steps,
-    (closed-says (tables_of old.known).parting (tables_of old.known) link),
     (none-said (tables_of old.known) log link (apart log held)),
     (lent-of old.known link next),
   )
@@ -158,6 +200,31 @@ module _ (old : Core) (known : Known) (link : LinkId) (next : acts.next_close (t
 
 -- Where no link is to be closed the core knows what it knew.
 
+closes-none : (tables : Tables) → acts.next_close tables ≡ None → closed_by tables.parting tables ≡ tables
+closes-none tables none = by tables.parting none where
+  seated : (client : ClientNo) (o : Option Seat) → option_map (λ (seat : Seat). seat.link) o ≡ None → late_leaves client o tables ≡ tables
+  seated client None none = refl
+  seated client (Some seat) none = cc
+
+  late : (o : Option ClientNo) → option_map (λ (seat : Seat). seat.link) (option_and_then (λ (client : ClientNo). tables.seats client.0) o) ≡ None
+      → late_closes o tables ≡ tables
+  late None none = refl
+  late (Some client) none = seated client (tables.seats client.0) none
+
+  next : (closing : List LinkId) → acts.close_of [] closing (acts.late_link tables) ≡ None → closes_next closing tables ≡ tables
+  next [] none = late (late_of tables.clock) none
+  next (link ∷ later) none = cc
+
+  by : (parting : List Parting) → acts.close_of parting tables.lends.closing (acts.late_link tables) ≡ None → closed_by parting tables ≡ tables
+  by [] none = next tables.lends.closing none
+  by (parting ∷ later) none = cc
+
+-- An open that is asked for is awaited.
+pub acts_awaited : (old new : Core) (result : Option Act) → Asked old new result → IfSome result (IsAwaited (awaits new))
+unfolding tables_of
+acts_awaited old new result asked = (let at = asked.is in let tables = asked.tables in let leaver = asked.leaver in let same = asked.same in
+    let stays = closes-none (tables_of old.known) in grind (arith, common_steps, (acts.next_close (tables_of old.known))))
+
 pub acts_carry : (old new : Core) (result : Option Act) → Asked old new result → Acts Stands due_in sends old new result
 acts_carry old new result asked = subst (λ (c : Core). Acts Stands due_in sends old c result) (sym asked.same) (grind (arith, common_steps, closes))
 
@@ -168,4 +235,4 @@ acts_owe old new result asked =
 -- What the core asks for leaves no more to be read or written.
 
 pub acts_only : (old new : Core) (result : Option Act) → Asked old new result → ChangesOnly changed reads sends old new
-acts_only old new result asked = grind (arith, common_steps, closed-says)
+acts_only old new result asked = grind (arith, common_steps, closed-reads, closed-sends)

@@ -1,5 +1,7 @@
 -- What stands of a core that stands for a log.
-use Rattle.router_world.proofs.{Lawful.ClosesClient, Lawful.ClosesServer, Lawful.closes-next, Stepping.came-unlent, Stepping.unclosing, Promises.stands-all}
+use Rattle.router_world.proofs.{Apart.set-same, Lawful.ClosesClient, Lawful.ClosesLate, Lawful.ClosesServer, Lawful.closes-next, Stepping.came-unlent}
+use Rattle.router_world.proofs.{Promises.stands-all, Stepping.unclosing, Stepping.unlent}
+use Rattle.router_world.specs.World.{closed_by}
 use Rattle.client_session.specs.Setups.{Setup}
 use Rattle.mx_base.{specs.Sent.Sent, specs.declared.names.LinkId.LinkId}
 use Rattle.mx_wire.specs.{Log.Log, Moments.AllLawful, Moments.lawful-more, Tells.Fits, Tells.IsOpen, declared.entry.Entry.Entry}
@@ -9,7 +11,7 @@ use Rattle.router_world.specs.{Acts.IsOurs, Acts.lends, Tables.Tables, Tables.no
 use Rattle.session_core.specs.Says.{asks, awaits, farewell, reads, sends}
 use Rattle.session_core.specs.{Known.tables_of, declared.known.Known.Known, declared.router.Core.Core}
 use Rattle.std.proofs.Common.{ap, arith, inl, subst, sym, ◌∙◌}
-use Rattle.std.specs.Prelude.{IsSome, None, Option, Some, [], false, refl, ◌++◌, ◌∷◌, ◌≡◌}
+use Rattle.std.specs.Prelude.{IsSome, None, Option, Some, [], false, is_some, refl, true, ◌++◌, ◌∷◌, ◌≡◌}
 use Rattle.{session_core.specs.declared.known.Leaver.Leaver, std.proofs.lemmas.Grind.common_steps, std.proofs.lemmas.List.Sums.fold-append}
 use Rattle.{promises.specs.Service.Service, router_world.proofs.Sound.Sound, std.specs.Option.option_or}
 use Rattle.router_world.specs.Acts as acts
@@ -34,22 +36,34 @@ carried old known e goes = record {
   carried = λ log may is_due held. grind (arith, common_steps, tables-more, lawful-more, one-more, goes log is_due held);
 }
 
--- A link that is to be closed is open, and nothing else.
+-- A link that is to be closed is open, and nothing else once its close was asked for; nor was one before that is offered something.
 
 pub record IsApart (tables : Tables) (log : Log) (link : LinkId) : Type 0 where
   pub opened : IsOpen link log
-  pub unnumbered : tables.numbers link.0 ≡ None
   pub unlent : tables.lends.links link.0 ≡ None
+  pub leaves : (closed_by tables.parting tables).numbers link.0 ≡ None
+  pub unnumbered : is_some (acts.farewell_of tables.parting) ≡ true → tables.numbers link.0 ≡ None
 
 apart-sound : {service : Service} {log : Log} {tables : Tables} (link : LinkId) → AllLawful Fits log → Sound service log tables
     → acts.next_close tables ≡ Some link → IsApart tables log link
 apart-sound {log = log} {tables} link told sound is = elim (closes-next link sound is) [
-  | ClosesServer none at ↦ (let stands = sound.lends.closes link at in
-      record { opened = stands.opened; unnumbered = unclosing told sound link at; unlent = stands.unlent })
+  | ClosesServer none at ↦ (let stands = sound.lends.closes link at in record {
+    opened = stands.opened;
+    unlent = stands.unlent;
+    leaves = rw (none, at) (unclosing told sound link at);
+    unnumbered = λ some. unclosing told sound link at;
+  })
+  | ClosesLate none unclosed client seat late there on ↦ (let sits = sound.seated.seats client.0 seat there in record {
+    opened = subst (λ (l : LinkId). IsOpen l log) on sits.stands.opened;
+    unlent = unlent told sound link client (ap (λ (l : LinkId). tables.numbers l.0) (sym on) ∙ sits.numbered);
+    leaves = rw (none, unclosed, late, there, on) (set-same tables.numbers link.0 None);
+    unnumbered = λ some. cc (none, some);
+  })
   | ClosesClient p stands at on ↦ subst (IsApart tables log) on (record {
     opened = stands.parted.opened;
-    unnumbered = stands.unnumbered;
     unlent = came-unlent told sound stands.n p.link stands.parted.is_came stands.parted.on;
+    leaves = rw at stands.unnumbered;
+    unnumbered = λ some. stands.unnumbered;
   })
 ]
 

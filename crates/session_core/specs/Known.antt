@@ -17,6 +17,7 @@ tables_of known = record {
   numbers = λ link. get nat_eq known.numbers link;
   lends = lends_of known.lender;
   parting = parted_by known.leaver;
+  clock = record { moment = known.moment; newcomers = known.newcomers.items };
 }
 
 -- the links that may have something new

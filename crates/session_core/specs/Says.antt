@@ -5,8 +5,8 @@ use Rattle.lend_core.specs.{Events.is_waiting, Events.open_failed, Events.opened
 use Rattle.mx_base.specs.declared.names.Port.TheVariants.{Admin, Traffic}
 use Rattle.mx_base.specs.{Sent.Sent, declared.names.Address.Address, declared.names.ClientNo.ClientNo, declared.names.LinkId.LinkId, declared.names.Port.Port}
 use Rattle.ready_loop.specs.{Changes.ChangesOnly, Machine.Target, declared.machines.Act.Act, declared.machines.Event.Event}
-use Rattle.router_world.specs.World.{closed_by, comes, ended_on, failed_on, got_on, told}
-use Rattle.router_world.specs.{Acts.next_close, Tables.Tables, Tables.with_lends}
+use Rattle.router_world.specs.World.{closed_by, comes, ended_on, failed_on, got_on, told, wakes, wakes_at, welcomes}
+use Rattle.router_world.specs.{Acts.next_close, Tables.Tables, Tables.with_clock, Tables.with_lends}
 use Rattle.session_core.specs.{declared.known.Known.Known, declared.known.Leaver.Leaver, declared.news.News.News, declared.router.Core.Core}
 use Rattle.std.specs.Prelude.{Bool, List, None, Option, Some, if◌then◌else◌, is_some, nat_eq, nat_lt, true, ℕ, ◌+◌, ◌||◌, ◌≡◌}
 use Rattle.{session_core.specs.Known.is_changed, session_core.specs.Known.tables_of, std.specs.Option.option_map, std.specs.Option.option_or}
@@ -52,6 +52,9 @@ asks core = is_some core.known.leaver || acts.asks core.setup (tables_of core.kn
 abbrev pub awaits : Core → Option Target
 awaits core = if is_some core.known.leaver then None else acts.awaits core.setup (tables_of core.known)
 
+abbrev pub until_of : Core → ℕ
+until_of core = wakes_at (tables_of core.known).clock
+
 -- What a client's session makes of what it is told.
 
 abbrev pub turned_by : Setup → News → Session → Turned
@@ -62,8 +65,8 @@ turned_by setup news.Ended = λ session. still (ended session)
 -- What the core makes of what it is told of.
 
 abbrev pub on_event : Setup → Event → (bytes : List ℕ) → Tables → Tables
-on_event setup (event.Woke now_ms) bytes tables = tables
-on_event setup (event.Accepted port link salt) bytes tables = comes port setup link salt tables
+on_event setup (event.Woke now_ms) bytes tables = wakes now_ms tables
+on_event setup (event.Accepted port link salt) bytes tables = with_clock (welcomes port setup tables) (comes port setup link salt tables)
 on_event setup (event.Opened server link) bytes tables = with_lends (opened link tables.lends) tables
 on_event setup (event.OpenFailed server) bytes tables = told setup (open_failed tables.lends) tables
 on_event setup (event.Got link) bytes tables = got_on setup link bytes (tables.numbers link.0) tables

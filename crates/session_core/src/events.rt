@@ -12,8 +12,8 @@ impl Known {
     ghost use Rattle.std.specs.Prelude.{◌≡◌, [], None, OnOk, IfOk};
     ghost use Rattle.mx_base.specs.declared.names.Port.TheVariants.{Traffic, Admin};
     ghost use Rattle.lend_core.specs.Events.{opened, open_failed, heard, lost};
-    ghost use Rattle.router_world.specs.Tables.{with_lends};
-    ghost use Rattle.router_world.specs.World.{admitted, refused, comes, told, got_on, lost_on, ended_on, failed_on};
+    ghost use Rattle.router_world.specs.Tables.{with_clock, with_lends};
+    ghost use Rattle.router_world.specs.World.{admitted, refused, comes, told, got_on, lost_on, ended_on, failed_on, welcomes, with_newcomer};
     ghost use Rattle.mx_base.specs.Fields.{AreBytes};
     ghost use Rattle.session_core.specs.Known.{tables_of};
     ghost use Rattle.session_core.specs.Says.{Becomes, Tells, on_event};
@@ -25,10 +25,11 @@ impl Known {
         salt: [u8; 20],
         setup: &Setup,
     ) -> Result<(), OutOfMemory>
-        ensures { OnOk result (Becomes (admitted client link salt setup.now (tables_of self.old)) self.old self.new) }
+        ensures { OnOk result (Becomes (with_clock (with_newcomer client (tables_of self.old).clock) (admitted client link salt setup.now (tables_of self.old))) self.old self.new) }
     {
         let session = new_session(self.alloc, client, salt, setup, true)?;
-        self.put_seat(client, Seat { link, session })
+        self.put_seat(client, Seat { link, session })?;
+        self.welcome(client)
     }
 
     // A client is told that there is no room for it.
@@ -50,7 +51,7 @@ impl Known {
         setup: &Setup,
     ) -> Result<(), OutOfMemory>
         requires { (tables_of self.old).parting ≡ [] }
-        ensures { OnOk result (Becomes (comes Traffic setup.now link salt (tables_of self.old)) self.old self.new) }
+        ensures { OnOk result (Becomes (with_clock (welcomes Traffic setup.now (tables_of self.old)) (comes Traffic setup.now link salt (tables_of self.old))) self.old self.new) }
     {
         let has_room = self.here < setup.max_clients() as u64;
         let client = self.count_client();
@@ -71,7 +72,7 @@ impl Known {
         setup: &Setup,
     ) -> Result<(), OutOfMemory>
         requires { (tables_of self.old).parting ≡ [] }
-        ensures { OnOk result (Becomes (comes port setup.now link salt (tables_of self.old)) self.old self.new) }
+        ensures { OnOk result (Becomes (with_clock (welcomes port setup.now (tables_of self.old)) (comes port setup.now link salt (tables_of self.old))) self.old self.new) }
     {
         match port {
             Port::Traffic => self.come_client(link, salt, setup),
@@ -121,7 +122,11 @@ impl Known {
         ensures { OnOk result (Becomes (got_on setup.now link bytes.old ((tables_of self.old).numbers link.0) (tables_of self.old)) self.old self.new) }
     {
         match self.number_of(link) {
-            Some(client) => self.turn(client, News::Said(bytes), setup),
+            Some(client) => {
+                self.turn(client, News::Said(bytes), setup)?;
+                self.tidy();
+                Ok(())
+            }
             None => {
                 let answer = self.take_piece(link, bytes)?;
                 self.tell(answer, setup)
@@ -157,7 +162,11 @@ impl Known {
         ensures { OnOk result (Becomes (ended_on setup.now link ((tables_of self.old).numbers link.0) (tables_of self.old)) self.old self.new) }
     {
         match self.number_of(link) {
-            Some(client) => self.turn(client, News::Ended, setup),
+            Some(client) => {
+                self.turn(client, News::Ended, setup)?;
+                self.tidy();
+                Ok(())
+            }
             None => self.lose_on(link, setup),
         }
     }
@@ -168,7 +177,11 @@ impl Known {
         ensures { OnOk result (Becomes (failed_on setup.now link ((tables_of self.old).numbers link.0) (tables_of self.old)) self.old self.new) }
     {
         match self.number_of(link) {
-            Some(client) => self.break_off(client, link),
+            Some(client) => {
+                self.break_off(client, link)?;
+                self.tidy();
+                Ok(())
+            }
             None => self.lose_on(link, setup),
         }
     }
@@ -191,7 +204,10 @@ impl Known {
             Event::Got { link } => self.hear(link, bytes, setup),
             Event::Ended { link } => self.end(link, setup),
             Event::Failed { link } => self.fail(link, setup),
-            Event::Woke { .. } => Ok(()),
+            Event::Woke { now_ms } => {
+                self.wake(now_ms);
+                Ok(())
+            }
         }
     }
 }

@@ -3,12 +3,15 @@ ghost use Rattle.std.specs.Prelude.{◌≡◌, ℕ, None, Some, OnOk, nat_eq};
 ghost use Rattle.std.specs.HashMap.{get};
 ghost use Rattle.client_side.specs.Client.{counted};
 ghost use Rattle.lend_core.specs.Lends.{set};
+ghost use Rattle.router_world.specs.World.{still_entering};
 
+use client_session::login_end;
+use client_talk::is_entering;
 use lend_core::Lender;
 use mx_base::{Bytes, ClientNo, LinkId, OutOfMemory};
-use router_world::{Parting, Seat};
+use router_world::{Newcomer, Parting, Seat};
 use std::alloc::Global;
-use std::collections::HashMap;
+use std::collections::{HashMap, VecDeque};
 
 /// A client's link that is to be closed. It stays here until the next act, so that its bytes can be offered to one write.
 #[derive(Drop)]
@@ -34,6 +37,10 @@ pub struct Known {
     pub lender: Lender,
     /// The client's link that is to be closed. There is one at most, since it is closed before another event is told of.
     pub leaver: Option<Leaver>,
+    /// The moment of the last wake, in milliseconds.
+    pub moment: u64,
+    /// The clients who came, the oldest first, of whom the first isn't logged in.
+    pub newcomers: VecDeque<Newcomer>,
     /// Links that may have something new to be written, or to be read again.
     pub changed: Vec<LinkId>,
 }
@@ -60,11 +67,29 @@ fn remove<Row: Drop>(rows: &mut HashMap<u64, Row>, key: u64)
     let _ = rows.remove(&key);
 }
 
+// Those at the front who are logged in, or gone, are let go of.
+fn let_go(newcomers: &mut VecDeque<Newcomer>, seats: &HashMap<u64, Seat>)
+    ensures { newcomers.new.items ≡ still_entering (λ client. get nat_eq seats.now client) newcomers.old.items }
+{
+    'letting: while let Some(first) = newcomers.front().copied() {
+        let enters = match seats.get(&first.client.0) {
+            Some(seat) => is_entering(&seat.session),
+            None => false,
+        };
+        if enters {
+            return;
+        }
+        newcomers.pop_front();
+    }
+}
+
 // One change of one table at a time.
 impl Known {
     ghost use Rattle.std.specs.Prelude.{◌≡◌, ◌∷◌, [], Some, None, OnOk, true, false, is_some};
     ghost use Rattle.std.specs.Option.{option_copied};
-    ghost use Rattle.router_world.specs.Tables.{no_tables, without_seat, with_seat, with_number, without_number, to_part};
+    ghost use Rattle.router_world.specs.Tables.{no_tables, without_seat, with_clock, with_seat, with_number, without_number, to_part};
+    ghost use Rattle.router_world.specs.Acts.{late_link};
+    ghost use Rattle.router_world.specs.World.{late_closes, late_of, tidied, wakes, wakes_at, with_newcomer};
     ghost use Rattle.session_core.specs.Known.{tables_of, Marked};
     ghost use Rattle.session_core.specs.Says.{Becomes};
 
@@ -82,6 +107,8 @@ impl Known {
             numbers: HashMap::new(alloc),
             lender: Lender::new(alloc),
             leaver: None,
+            moment: 0,
+            newcomers: VecDeque::new(alloc),
             changed: Vec::new(alloc),
         }
     }
@@ -129,6 +156,73 @@ impl Known {
         ensures { Becomes (record (tables_of self.old) { came = counted (tables_of self.old).came }) self.old self.new }
     {
         self.came = counted(self.came);
+    }
+
+    /// The router was woken at this moment.
+    #[tactic(auto, unfolding(crate::specs::Known::tables_of))]
+    pub(crate) fn wake(&mut self, now_ms: u64)
+        ensures { Becomes (wakes now_ms (tables_of self.old)) self.old self.new }
+    {
+        self.moment = now_ms;
+    }
+
+    /// A client that is served comes, and has to log in.
+    #[tactic(auto, unfolding(crate::specs::Known::tables_of))]
+    pub(crate) fn welcome(&mut self, client: ClientNo) -> Result<(), OutOfMemory>
+        ensures { OnOk result (Becomes (with_clock (with_newcomer client (tables_of self.old).clock) (tables_of self.old)) self.old self.new) }
+    {
+        let until = login_end(self.moment);
+        self.newcomers.push_back(Newcomer { client, until })?;
+        Ok(())
+    }
+
+    /// Newcomers who are logged in, or gone, are let go of, up to the first who isn't.
+    #[tactic(auto, unfolding(crate::specs::Known::tables_of))]
+    pub(crate) fn tidy(&mut self)
+        ensures { Becomes (tidied (tables_of self.old)) self.old self.new }
+    {
+        let_go(&mut self.newcomers, &self.seats);
+    }
+
+    /// The moment at which the first newcomer has no more time for its login, the last of all where there is none.
+    #[tactic(auto, unfolding(crate::specs::Known::tables_of))]
+    pub(crate) fn wakes_at(&self) -> u64
+        ensures { result ≡ wakes_at (tables_of self.now).clock }
+    {
+        match self.newcomers.front() {
+            Some(first) => first.until,
+            None => u64::MAX,
+        }
+    }
+
+    /// The first newcomer, where it has no more time by now.
+    #[tactic(auto, unfolding(crate::specs::Known::tables_of))]
+    pub(crate) fn late(&self) -> Option<ClientNo>
+        ensures { result ≡ late_of (tables_of self.now).clock }
+    {
+        let first = self.newcomers.front()?;
+        if self.moment < first.until {
+            None
+        } else {
+            Some(first.client)
+        }
+    }
+
+    /// The link of the first newcomer, where it has no more time by now: its seat is no more, and one client less is connected.
+    #[tactic(auto, unfolding(crate::specs::Known::tables_of))]
+    pub(crate) fn next_late(&mut self) -> Option<LinkId>
+        ensures link { result ≡ late_link (tables_of self.old) }
+        ensures tables { tables_of self.new ≡ late_closes (late_of (tables_of self.old).clock) (tables_of self.old) }
+        ensures leaver { self.new.leaver ≡ self.old.leaver }
+        ensures changed { self.new.changed ≡ self.old.changed }
+    {
+        let client = self.late()?;
+        let link = self.seat_of(client)?.link;
+        remove(&mut self.seats, client.0);
+        remove(&mut self.numbers, link.0);
+        self.here = self.here.saturating_sub(1);
+        let_go(&mut self.newcomers, &self.seats);
+        Some(link)
     }
 
     /// A link is to be closed, and no other of a client's is yet. Nothing is offered to it.

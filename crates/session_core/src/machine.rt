@@ -7,7 +7,7 @@ ghost use Rattle.ready_loop.specs.Changes.{ChangesOnly};
 ghost use Rattle.ready_loop.specs.Machine.{CarriesOver, IsHeard, HasActed, IsToldOf};
 ghost use Rattle.client_session.specs.Setups.{Setup};
 ghost use Rattle.session_core.specs.Stands.{Stands};
-ghost use Rattle.session_core.specs.Says.{reads, sends, asks, awaits, changed, address_of, most_of};
+ghost use Rattle.session_core.specs.Says.{reads, sends, asks, awaits, changed, address_of, most_of, until_of};
 ghost use Rattle.router_world.specs.Acts.{lends};
 
 use crate::router::Core;
@@ -25,7 +25,7 @@ impl Machine for Core {
 
     ghost reads = { reads };
 
-    ghost until = { λ core. 18446744073709551615 };
+    ghost until = { until_of };
 
     ghost awaits = { awaits };
 
@@ -75,7 +75,7 @@ impl Machine for Core {
     }
 
     fn until_ms(&self) -> u64 {
-        u64::MAX
+        self.known.wakes_at()
     }
 
     fn stopped(&self) -> bool {
