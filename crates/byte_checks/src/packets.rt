@@ -34,6 +34,7 @@ pub fn read(fields: &mut Fields<'_>) {
         "check" => password::check(fields),
         "parse" => command::parse(fields),
         "statement_of" => command::statement_of(fields),
+        "has_no_reply" => command::has_no_reply(fields),
         "write_switch" => rewrite::switch(fields),
         "greeted" | "told" => client::serve(fields),
         "backend" => server::log_in(fields),

@@ -16,7 +16,7 @@ use Rattle.client_side.specs.declared.step.ClientStep.{ClientStep}
 use Rattle.client_side.specs.declared.step.ClientStep.TheVariants as step
 use Rattle.client_side.specs.Client.{ClientState, fed, new_client}
 use Rattle.client_side.specs.Laws.{logging-fed, logging-new, logging-next, opening-says-more}
-use Rattle.client_side.specs.Login.{Fails, Opening, Says, Waits, by_message, opening}
+use Rattle.client_side.specs.Login.{Fails, login_limit, Opening, Says, Waits, by_message, opening}
 use Rattle.client_side.specs.Reading.{HasStepped, IsLoggingIn, said, said_to}
 use Rattle.client_side.specs.Steps.{Next, looked, next_of}
 use Rattle.server_side.specs.Account.{Account}
@@ -67,7 +67,7 @@ said-same heard talk of switched =
 
 opening-empty : (limit : ℕ) → opening limit [] ≡ Waits false
 unfolding opening
-opening-empty limit = ap (by_message limit) (first_message-empty limit 1)
+opening-empty limit = ap (by_message limit) (first_message-empty (login_limit limit) 1)
 
 abbrev pub first_heard : Setup → ClientNo → (salt : List ℕ) → Heard
 first_heard setup number salt = record { side = new_client number salt setup.limit setup.version; phase = phase.LoggingIn; messages = []; last = [] }
@@ -113,9 +113,9 @@ reached-nothing heard talk of at messages last s =
     (heard-by heard talk (Waits s.1) s.2 (sym (s.3 ∙ said-same heard talk of s.1)) refl messages last, record { phase = at; login = s.0; messages = messages; last = last })
 
 pub reached-refused : (heard : Heard) (talk : Talk) (first : ℕ) (fault : ClientFault) → IsOf heard talk → heard.messages ≡ [] → heard.last ≡ []
-    → HasStepped (step.Refused first fault) heard.side talk.setup.limit talk.setup.version talk.read heard.side.outgoing → IsOver (ended (spelling first (fault_error talk.setup.limit fault)) heard) talk
+    → HasStepped (step.Refused first fault) heard.side talk.setup.limit talk.setup.version talk.read heard.side.outgoing → IsOver (ended (spelling first (fault_error (login_limit talk.setup.limit) fault)) heard) talk
 reached-refused heard talk first fault of messages last s =
-    let error = spelling first (fault_error talk.setup.limit fault) in
+    let error = spelling first (fault_error (login_limit talk.setup.limit) fault) in
     λ more. heard-by (ended error heard) (heard_more talk more) (Fails s.0 fault first) (s.1 more) (ap (λ o. o ++ error) (sym (s.2 ∙ said-same heard talk of s.0))) refl messages last
 
 -- who the client says it is

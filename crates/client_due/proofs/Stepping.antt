@@ -15,7 +15,7 @@ use Rattle.client_side.specs.declared.step.ClientStep.{ClientStep}
 use Rattle.client_side.specs.declared.step.ClientStep.TheVariants as says
 use Rattle.client_side.specs.Client.{ClientState}
 use Rattle.client_side.specs.Login.{fault_id, needs_switch}
-use Rattle.client_side.specs.Steps.{Next, answer_found, asked, behind, command_found, logs_in, looked, next_of, response_found, response_read}
+use Rattle.client_side.specs.Steps.{Next, answer_found, asked, behind, command_found, logs_in, look_login, looked, next_of, response_found, response_read}
 
 -- a message was found in the bytes of commands
 pub record IsCommand (at : Stage) (old new : ClientState) (first : ℕ) : Type 0 where
@@ -38,8 +38,8 @@ answer-comes response client old (Faulty fault) at = tt
 read-comes : (id : ℕ) (decoded : Result Response HandFault) (client old : ClientState) (at : Stage) → Comes (response_read id decoded client).step at old (response_read id decoded client).client
 read-comes id (Err fault) client old at = tt
 read-comes id (Ok response) client old at = or_not (needs_switch response.plugin) where
-  or_not : (b : Bool) → Comes (cond b (answer_found response (asked response client) (look 3 client.framer)) (logs_in response id client)).step at old (cond b (answer_found response (asked response client) (look 3 client.framer)) (logs_in response id client)).client
-  or_not true = answer-comes response (asked response client) old (look 3 client.framer) at
+  or_not : (b : Bool) → Comes (cond b (answer_found response (asked response client) (look_login 3 client.framer)) (logs_in response id client)).step at old (cond b (answer_found response (asked response client) (look_login 3 client.framer)) (logs_in response id client)).client
+  or_not true = answer-comes response (asked response client) old (look_login 3 client.framer) at
   or_not false = tt
 
 response-comes : (client : ClientState) (found : Found) (at : Stage) → Comes (response_found client found).step at client (response_found client found).client
@@ -53,8 +53,8 @@ command-comes client (Whole message rest) is = record { message = message; rest 
 command-comes client (Faulty fault) is = tt
 
 next-comes : (at : Stage) (client : ClientState) → Comes (next_of at client).step at client (next_of at client).client
-next-comes stage.Response client = response-comes client (look 1 client.framer) stage.Response
-next-comes (stage.Answer response) client = answer-comes response client client (look 3 client.framer) (stage.Answer response)
+next-comes stage.Response client = response-comes client (look_login 1 client.framer) stage.Response
+next-comes (stage.Answer response) client = answer-comes response client client (look_login 3 client.framer) (stage.Answer response)
 next-comes (stage.Login response first) client = tt
 next-comes (stage.Refused first fault) client = tt
 next-comes stage.Commands client = command-comes client (look 0 client.framer) refl

@@ -1,5 +1,5 @@
 -- What each function leaves of a client, by what its calls leave.
-use Rattle.client_side.specs.Login.{fault_id}
+use Rattle.client_side.specs.Login.{fault_id, login_limit}
 use Rattle.packet_frame.specs.Packets.Found.{Nothing, Faulty}
 use Rattle.packet_frame.specs.FramerState.{look}
 use Rattle.std.proofs.Common.{◌≡◌, ℕ, List, Option, Some, None, refl, ◌∙◌, sym, ap, subst, ◌++◌}
@@ -69,11 +69,11 @@ module _ (old inner : Heard) (viewed : inner ≡ old) (what : ClientStep) (side 
         by-account says.0 first new says.2 (account_of setup.users side.salt says.0) known at
 
     pub refused-reached : (setup : Setup) (first : ℕ) (fault : ClientFault) (packets : List ℕ) (new : Heard) → talk.setup ≡ setup → what ≡ step.Refused first fault
-        → packets ≡ spelling first (fault_error setup.limit fault) → new ≡ ended packets mid → HasReached new.phase new talk
+        → packets ≡ spelling first (fault_error (login_limit setup.limit) fault) → new ≡ ended packets mid → HasReached new.phase new talk
     refused-reached setup first fault packets new by it spelt leaves =
         let over = reached-refused mid talk first fault (of_mid talk of) inner_logging.messages inner_logging.last
         (stepped inner talk (step.Refused first fault) side inner_of inner_logging (at_step (step.Refused first fault) it)) in
-        let same_packets : spelling first (fault_error talk.setup.limit fault) ≡ packets = ap (λ (s : Setup). spelling first (fault_error s.limit fault)) by ∙ sym spelt in
+        let same_packets : spelling first (fault_error (login_limit talk.setup.limit) fault) ≡ packets = ap (λ (s : Setup). spelling first (fault_error (login_limit s.limit) fault)) by ∙ sym spelt in
         subst (λ (h : Heard). HasReached h.phase h talk) (sym leaves)
         (subst (λ bytes. HasReached phase.Over (ended bytes mid) talk) same_packets over)
 

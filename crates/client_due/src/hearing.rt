@@ -7,7 +7,7 @@ use crate::heard::Heard;
 use crate::message::Message;
 use crate::phase::Phase;
 use client_session::{Refusal, Setup, account_of, write_denied, write_own_ok, write_refusal};
-use client_side::{ClientFault, ClientStep};
+use client_side::{ClientFault, ClientStep, login_limit};
 use mx_base::{Bytes, OutOfMemory};
 use std::alloc::Global;
 
@@ -61,7 +61,7 @@ impl Heard {
             ClientStep::Message { .. } => Ok(()),
             ClientStep::Login { first } => self.judge(alloc, setup, first),
             ClientStep::Refused { first, fault } => {
-                let refusal = refusal_of(fault, setup.limit());
+                let refusal = refusal_of(fault, login_limit(setup.limit()));
                 let mut packet = Vec::new(alloc);
                 write_refusal(alloc, &mut packet, first, refusal)?;
                 self.end_with(&packet)

@@ -2,6 +2,7 @@
 #![tactic(auto)]
 
 mod door;
+mod keepalive;
 mod salt;
 mod socket;
 mod sockets;

@@ -1,5 +1,6 @@
 // The ports, and the links with those that the last wake named.
 use crate::door::{Came, Door};
+use crate::keepalive::keep_alive;
 use crate::socket::Socket;
 use mio::event::Event;
 use mio::net::TcpStream;
@@ -206,6 +207,7 @@ impl Sockets {
         };
         let both_ways = Interest::READABLE | Interest::WRITABLE;
         stream.set_nodelay(true)?;
+        keep_alive(&stream)?;
         self.poll
             .registry()
             .register(&mut stream, Token(number as usize), both_ways)?;

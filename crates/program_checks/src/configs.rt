@@ -44,6 +44,17 @@ host = \"127.0.0.1\"
 port = 3307
 ";
 
+/// A key that no rule has, in the second rule.
+pub const UNKNOWN_RULE_KEY: &str = "[[users]]
+name = \"u\"
+password = \"\"
+[[rules]]
+rule_id = 1
+[[rules]]
+rule_id = 2
+colour = 1
+";
+
 /// A key that no user has, and one that no server has.
 pub const UNKNOWN_KEYS: &str = "[[users]]
 name = \"u\"

@@ -1,5 +1,5 @@
 -- How a run ends, with its statuses and their causes.
-use Rattle.std.specs.Prelude.{◌≡◌, ◌⊎◌, ℕ, ◌<◌, ◌==◌, if◌then◌else◌, List, ◌++◌, codes, Option, Some, None}
+use Rattle.std.specs.Prelude.{◌≡◌, ◌⊎◌, ℕ, ◌<◌, ◌==◌, if◌then◌else◌, List, [], ◌++◌, codes, Option, Some, None}
 use Rattle.std.specs.Fmt.{decimal}
 use Rattle.mx_wire.specs.Log.{Log}
 use Rattle.mx_wire.specs.Outside.{Takes, TakesFront}
@@ -8,7 +8,7 @@ use Rattle.mx_config.specs.declared.fault.ConfigFault.{ConfigFault}
 use Rattle.proxy_run.specs.declared.stop.Stop.{Stop}
 use Rattle.proxy_run.specs.declared.stop.Stop.TheVariants as stop
 use Rattle.ready_loop.specs.Serving.{EndsWith, IsOver, IsPortFault}
-use Rattle.proxy_run.specs.Words.{Named, replay_words, serve_words}
+use Rattle.proxy_run.specs.Words.{Named, replay_words, serve_words, text_words}
 use Rattle.proxy_run.specs.Replay.{Held, IsMisconfigured, Replayed, ReplayedInPart, IsUnconfigured, IsRefused, RanOut, IsUnread}
 use Rattle.proxy_run.specs.Serve.{Served, IsWornOut}
 
@@ -33,10 +33,15 @@ table_name table =
     if table == 1 then codes "proxy"
     else if table == 2 then codes "users"
     else if table == 3 then codes "servers"
+    else if table == 4 then codes "rules"
     else codes "file"
 
 unfoldable pub config_line : ConfigFault → List ℕ
 config_line fault = codes "config: " ++ (decimal fault.kind ++ (codes " " ++ (table_name fault.table ++ (codes " " ++ (decimal fault.row ++ (codes " " ++ (fault.key ++ codes "\n")))))))
+
+-- a wire that tells its log tells of no call
+pub record IsUntouched (told : Option Log) : Type 0 where
+  pub empty : (log : Log) → told ≡ Some log → log ≡ []
 
 -- nothing is said
 pub record Silent (old : Option (List ℕ)) (before : ℕ) (new : Option (List ℕ)) (now : ℕ) : Type 0 where
@@ -83,5 +88,14 @@ abbrev pub OutcomeOf : Option (List ℕ) → List (List ℕ) → Held → (read_
 OutcomeOf (Some name) words held read_before read_now told ports_before ports_now old before new now status = ServeOutcome name held read_before read_now told ports_before ports_now old before new now status
 OutcomeOf None words held read_before read_now told ports_before ports_now old before new now status = ReplayOutcome words held read_before read_now old before new now status
 
+-- A text that was asked for is put, and the wire isn't touched.
+pub data TextOutcome (text : List ℕ) (told : Option Log) (old : Option (List ℕ)) (before : ℕ) (new : Option (List ℕ)) (now : ℕ) : ℕ → Type 0 where
+  Put : Takes old text new → IsUntouched told → TextOutcome text told old before new now 0
+  NotPut : FailsAt text old before new now → IsUntouched told → TextOutcome text told old before new now 4
+
+abbrev pub OutcomeBy : Option (List ℕ) → List (List ℕ) → Held → (read_before read_now : ℕ) → Option Log → (ports_before ports_now : ℕ) → Option (List ℕ) → ℕ → Option (List ℕ) → ℕ → ℕ → Type 0
+OutcomeBy (Some text) words held read_before read_now told ports_before ports_now old before new now status = TextOutcome text told old before new now status
+OutcomeBy None words held read_before read_now told ports_before ports_now old before new now status = OutcomeOf (serve_words words) words held read_before read_now told ports_before ports_now old before new now status
+
 abbrev pub Outcome : List (List ℕ) → Held → (read_before read_now : ℕ) → Option Log → (ports_before ports_now : ℕ) → Option (List ℕ) → ℕ → Option (List ℕ) → ℕ → ℕ → Type 0
-Outcome words held read_before read_now told ports_before ports_now old before new now status = OutcomeOf (serve_words words) words held read_before read_now told ports_before ports_now old before new now status
+Outcome words held read_before read_now told ports_before ports_now old before new now status = OutcomeBy (text_words words) words held read_before read_now told ports_before ports_now old before new now status

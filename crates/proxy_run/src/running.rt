@@ -1,8 +1,9 @@
 // The call that `main` makes.
-ghost use Rattle.std.specs.Prelude.{◌≡◌, ◌≢◌, ◌↔◌, [], Some, None, IfOk};
+ghost use Rattle.std.specs.Prelude.{◌≡◌, ◌≢◌, ◌↔◌, [], Option, Some, None, IfOk};
 ghost use Rattle.mx_wire.specs.Log.{Log};
-ghost use Rattle.proxy_run.specs.Words.{texts, replay_words, IsNoCommand};
-ghost use Rattle.proxy_run.specs.Run.{Says, Told, ServeOutcome, ReplayOutcome, Outcome, table_name, config_line};
+ghost use Rattle.std.specs.Option.{option_map};
+ghost use Rattle.proxy_run.specs.Words.{texts, replay_words, serve_words, text_words, IsNoCommand, IsUnknown};
+ghost use Rattle.proxy_run.specs.Run.{Says, Told, IsUntouched, TextOutcome, ServeOutcome, ReplayOutcome, Outcome, OutcomeOf, table_name, config_line};
 
 use crate::replay::replay;
 use crate::serving::serve_by;
@@ -22,6 +23,40 @@ pub struct Status(pub u8);
 const USAGE: &[u8] =
     b"usage: mx_proxy serve <config> or replay <config> <recording> or load <start> <clients> <statements> or audit <config> <lines> <workers>\n";
 
+const VERSION: &[u8] = b"mx_proxy 0.1.0\n";
+
+const HELP: &[u8] = b"mx_proxy, a MySQL router
+
+mx_proxy serve <config>                serves by the configuration
+mx_proxy replay <config> <recording>   replays a recording, and prints what was written
+mx_proxy --help                        prints this
+mx_proxy --version                     prints the version
+
+It ends with 0, or with 1 where the configuration is refused, 2 where the words are none of these, 3 where a file can't be read,
+4 where the output can't be written, 5 for want of memory, 6 where a port can't be had, 7 where the recording is refused.
+";
+
+// The text that the words ask for: `--help` or `--version`.
+fn text_words(words: &[String]) -> Option<&'static [u8]>
+    ensures { option_map (λ text. text.now) result ≡ text_words (texts words.now) }
+{
+    match words {
+        [word] if word.as_str() == "--help" => Some(HELP),
+        [word] if word.as_str() == "--version" => Some(VERSION),
+        _ => None,
+    }
+}
+
+// Puts a text that was asked for.
+fn put_text<O: Sink>(out: &mut O, text: &[u8]) -> Status
+    ensures { (told : Option Log) → IsUntouched told → TextOutcome text.now told (O.taken out.old) (O.faults out.old) (O.taken out.new) (O.faults out.new) result.0 }
+{
+    match out.put(text) {
+        Ok(()) => Status(0),
+        Err(_) => Status(4),
+    }
+}
+
 // Puts a line. A sink that fails leaves the status.
 fn say<O: Sink>(out: &mut O, line: &[u8], status: u8) -> Status
     ensures status { result.0 ≡ status }
@@ -39,6 +74,7 @@ fn table_name(table: u8) -> &'static str
         1 => "proxy",
         2 => "users",
         3 => "servers",
+        4 => "rules",
         _ => "file",
     }
 }
@@ -131,17 +167,35 @@ fn run_replay<F: Files, O: Sink>(
     }
 }
 
+// Serves, or replays.
+fn run_command<W: Wire, F: Files, O: Sink>(
+    alloc: Global,
+    words: &[String],
+    files: &mut F,
+    wire: &mut W,
+    out: &mut O,
+) -> Status
+    requires fresh { (log : Log) → W.told wire.old ≡ Some log → log ≡ [] }
+    ensures outcome { OutcomeOf (serve_words (texts words.now)) (texts words.now) (F.held files.old) (F.faults files.old) (F.faults files.new) (W.told wire.new) (W.port_faults wire.old) (W.port_faults wire.new) (O.taken out.old) (O.faults out.old) (O.taken out.new) (O.faults out.new) result.0 }
+    ensures usage { (result.0 ≡ 2) ↔ IsUnknown (texts words.now) }
+{
+    match serve_words(words) {
+        Some(name) => run_serve(alloc, name, files, wire, out),
+        None => run_replay(alloc, words, files, out),
+    }
+}
+
 /// Does what the words after the program's name ask for, and puts what that prints. `serve <config>` judges a configuration and
 /// serves by it over the wire, until that has nothing more. `replay <config> <recording>` judges a configuration, then replays a
-/// recording over a wire of its own, and puts the transcript of its log.
+/// recording over a wire of its own, and puts the transcript of its log. `--help` and `--version` put these texts, and touch nothing else.
 ///
 /// | Status | Comes | Line |
 /// |---|---|---|
-/// | 0 | the wire had nothing more; of a replay the transcript was put | none |
+/// | 0 | the wire had nothing more; of a replay the transcript was put; the text that was asked for was put | none |
 /// | 1 | only where the configuration is refused | `config: <kind> <table name> <row> <key>` |
 /// | 2 | exactly where the words are no command | the usage |
 /// | 3 | only where a read failed | `read fault` |
-/// | 4 | only where the sink failed, in a replay | none |
+/// | 4 | only where the sink failed, in a replay or with a text that was asked for | none |
 /// | 5 | memory was refused | `out of memory` |
 /// | 6 | only where a port or a wait failed, in `serve` | `listen fault` |
 /// | 7 | only where the recording is refused | `recording: line <line> kind <kind>` |
@@ -158,8 +212,8 @@ pub fn run<R: Threads + Sync, W: Wire, F: Files, O: Sink>(
     ensures outcome { Outcome (texts words.now) (F.held files.old) (F.faults files.old) (F.faults files.new) (W.told wire.new) (W.port_faults wire.old) (W.port_faults wire.new) (O.taken out.old) (O.faults out.old) (O.taken out.new) (O.faults out.new) result.0 }
     ensures usage { (result.0 ≡ 2) ↔ IsNoCommand (texts words.now) }
 {
-    match serve_words(words) {
-        Some(name) => run_serve(alloc, name, files, wire, out),
-        None => run_replay(alloc, words, files, out),
+    match text_words(words) {
+        Some(text) => put_text(out, text),
+        None => run_command(alloc, words, files, wire, out),
     }
 }

@@ -57,3 +57,9 @@ pub fn statement_of(fields: &mut Fields<'_>) {
     let payload = fields.rest_bytes();
     fields.answer.debug(command_parse::statement_of(&payload));
 }
+
+/// `has_no_reply <byte>`: whether nothing answers a command of this byte.
+pub fn has_no_reply(fields: &mut Fields<'_>) {
+    let byte = fields.number();
+    fields.answer.debug(command_parse::has_no_reply(byte));
+}

@@ -2,7 +2,7 @@
 use crate::scripts::copied;
 use check_lines::Answer;
 use client_session::{Refusal, write_own_ok, write_refusal};
-use command_parse::{Command, parse};
+use command_parse::{Command, has_no_reply, parse};
 use server_rule::ReplyList;
 
 // How many bytes stand before the body of a packet (client/server protocol, "MySQL Packets").
@@ -17,13 +17,14 @@ pub enum Own {
 }
 
 impl Own {
-    /// What it answers to a message as it takes it up, None where it goes to a server: an OK to a PING, nothing to a QUIT, an error to
-    /// what it doesn't take and to what is no command.
+    /// What it answers to a message as it takes it up, None where it goes to a server: an OK to a PING, nothing to a QUIT, to a
+    /// part of a parameter and to the close of a statement, an error to what it doesn't take and to what is no command.
     pub fn to(packet: &[u8]) -> Option<Own> {
         match parse(packet.get(HEADER..).unwrap_or(b""), None) {
             Ok(Command::Query { .. } | Command::InitDb { .. } | Command::FieldList { .. }) => None,
             Ok(Command::Ping) => Some(Own::Ok),
             Ok(Command::Quit) => Some(Own::Nothing),
+            Ok(Command::Refused(byte)) if has_no_reply(byte) => Some(Own::Nothing),
             Ok(_) => Some(Own::Refused(Refusal::UnknownCommand)),
             Err(_) => Some(Own::Refused(Refusal::MalformedCommand)),
         }
