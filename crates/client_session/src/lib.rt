@@ -9,5 +9,6 @@ mod setup;
 
 pub use arrival::login_end;
 pub use account::account_of;
+pub use arrival::login_end;
 pub use refusal::{Refusal, write_denied, write_own_ok, write_refusal};
 pub use setup::{ServerAt, Setup, User};

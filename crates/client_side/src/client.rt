@@ -18,7 +18,11 @@ const MOST_LOGIN: u64 = 65_536;
 pub fn login_limit(limit: u64) -> u64
     ensures { result ≡ login_limit limit }
 {
-    if limit < MOST_LOGIN { limit } else { MOST_LOGIN }
+    if limit < MOST_LOGIN {
+        limit
+    } else {
+        MOST_LOGIN
+    }
 }
 
 /// The link of a client (client/server protocol, "Connection Lifecycle"): what was read of it and isn't answered, and

@@ -1,7 +1,9 @@
 // Connections whose other end vanished.
 ghost use Rattle.libc.specs.Net.{SockOption};
 
-use libc::net::{self, IPPROTO_TCP, SO_KEEPALIVE, SOL_SOCKET, TCP_KEEPCNT, TCP_KEEPIDLE, TCP_KEEPINTVL};
+use libc::net::{
+    self, IPPROTO_TCP, SO_KEEPALIVE, SOL_SOCKET, TCP_KEEPCNT, TCP_KEEPIDLE, TCP_KEEPINTVL,
+};
 use mio::net::TcpStream;
 use std::io::{self, ErrorKind};
 use std::os::fd::AsRawFd;
@@ -12,6 +14,7 @@ const SILENT_S: i32 = 60;
 
 /// How long each sign is waited for, in seconds, and how many are missed before the connection has failed.
 const TRY_S: i32 = 10;
+
 const TRIES: i32 = 6;
 
 // Sets an option of a socket to a number.

@@ -90,7 +90,7 @@ module _ (service : Service) (log : Log) (e : Entry) (fits : Fits log e) where
   enters-by (suc k) came enters = elim (arrived log e fits k came enters.is_came) [
     | inl was ↦ Did (
         let here = and-true (is_open came.link (log ++ e ∷ [])) (not (was_lost came.link (log ++ e ∷ [])))
-            (ap (λ o. is_here_as o (log ++ e ∷ [])) (sym enters.is_came) ∙ enters.here) in
+        (ap (λ o. is_here_as o (log ++ e ∷ [])) (sym enters.is_came) ∙ enters.here) in
         let unlost : was_lost came.link (log ++ e ∷ []) ≡ false = grind (arith, common_steps, here) in
         let before = here-before (suc k) came was here.0 unlost in
         record {

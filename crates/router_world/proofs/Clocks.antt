@@ -22,7 +22,7 @@ use Rattle.client_session.specs.Setups.{Setup}
 use Rattle.router_world.proofs.Apart.{one-or-other, set-other, set-same}
 use Rattle.router_world.proofs.Sound.{Clients, Closes, Happens, NoneParts, OneParts, Parts, Servers, Sound}
 use Rattle.router_world.specs.{Acts.late_link, Seats.PhaseAt, Tables.Clock, Tables.Tables, Tables.no_tables, Tables.with_clock, Tables.with_lends, Tables.without_seat}
-use Rattle.router_world.specs.{ declared.seat.Newcomer.Newcomer, declared.seat.Parting.Parting}
+use Rattle.router_world.specs.{declared.seat.Newcomer.Newcomer, declared.seat.Parting.Parting}
 use Rattle.router_world.specs.World.{asked_at, asked_for, on_client}
 use Rattle.router_world.specs.World.{admitted, answering, client_took, closed_by, closes_next, ended_on, enters, failed_on, got_on, late_closes, late_in}
 use Rattle.router_world.specs.World.{late_leaves, late_of, lost_on, newcomer_at, parts, refused, settled, settled_by, step, stepped_at, still_entering}
@@ -166,7 +166,7 @@ module _ {service : Service} {log : Log} {tables : Tables} (told : AllLawful Fit
           let mine = client-same stands.n stands.parted.came stands.parted.is_came (stands.parted.on ∙ ap (λ (q : Parting). q.link) same ∙ on) in
           let it : stands.parted.came ≡ came = some-same _ _ (sym stands.parted.is_came ∙ ap (λ k. arrival_of k log) mine ∙ must.is_came) in
           parts-not other.bytes stands.parted.came it
-              (subst (λ k. PartAt service log k stands.parted.came other.bytes) mine stands.parted.at))
+          (subst (λ k. PartAt service log k stands.parted.came other.bytes) mine stands.parted.at))
     ] refl)
   ] where
     here : (is_open came.link log ≡ true) × (not (was_lost came.link log) ≡ true)
@@ -200,15 +200,18 @@ module _ {service : Service} {log : Log} {tables : Tables} (told : AllLawful Fit
   seat-enters n is = by (tables.seats n) refl is where
     by : (o : Option Seat) → tables.seats n ≡ o → enters o ≡ true → (came : Arrival) × MustLogIn service n came log
     by None at not = absurd (let no : false ≡ true = not in cc)
-    by (Some seat) at entering = (let stands = (sound.seated.seats n seat at).stands in (stands.came, elim stands.state [
-      | inr went ↦ absurd (let ends = went.ends in grind (arith, common_steps))
-      | inl heard ↦ record {
-        is_came = stands.is_came;
-        served = stands.served;
-        here = cc (stands.is_came, stands.link, stands.opened, heard.unlost);
-        lacks = lacking-by seat.session.phase _ _ _ _ heard.at.at entering;
-      }
-    ]))
+    by (Some seat) at entering = (let stands = (sound.seated.seats n seat at).stands in (
+      stands.came,
+      elim stands.state [
+        | inr went ↦ absurd (let ends = went.ends in grind (arith, common_steps))
+        | inl heard ↦ record {
+          is_came = stands.is_came;
+          served = stands.served;
+          here = cc (stands.is_came, stands.link, stands.opened, heard.unlost);
+          lacks = lacking-by seat.session.phase _ _ _ _ heard.at.at entering;
+        }
+      ],
+    ))
 
 -- What an entry leaves of the seats of those who aren't logged in, and of the clock.
 
@@ -485,12 +488,16 @@ module _ {service : Service} {log : Log} {tables : Tables} (told : AllLawful Fit
     by [] queued all first = record { least = λ n came must. absurd (all n came must); is_one = inl refl }
     by (x ∷ later) queued all first = record {
       least = λ n came must. first-least log tables.clock.moment n (x ∷ later) must.is_came queued (all n came must);
-      is_one = inr (let must = seat-enters told sound x.client.0 first in (x.client.0, must.0, must.1,
-          queued.0.until ∙ ap login_until (some-same _ _ (sym queued.0.is_came ∙ must.1.is_came))));
+      is_one = inr (let must = seat-enters told sound x.client.0 first in (
+        x.client.0,
+        must.0,
+        must.1,
+        queued.0.until ∙ ap login_until (some-same _ _ (sym queued.0.is_came ∙ must.1.is_came)),
+      ));
     }
 
   late-first : (x : Newcomer) (later : List Newcomer) (client : ClientNo) → late_in tables.clock.moment (x ∷ later) ≡ Some client
-        → (x.client ≡ client) × (x.until ≤ tables.clock.moment)
+      → (x.client ≡ client) × (x.until ≤ tables.clock.moment)
   late-first x later client gone = grind (arith, common_steps, some-same, (nat_lt tables.clock.moment x.until))
 
   -- one who has none may go

@@ -339,8 +339,10 @@ module _ {service : Service} {log : Log} {tables : Tables} (told : AllLawful Fit
 -- it waits at rest, and to be woken in time
 rests-entry : {service : Service} {log : Log} → AllLawful Fits log → Sound service log (tables_after service.setup log)
     → ClockStands service log (tables_after service.setup log) → (e : Entry) → IsOurs service.setup log e → RestsAt service log e
-rests-entry {service} {log} told sound clock (entry.Woke until_ms now_ms) ours = (rests-at told sound ours.0 clock,
-    subst (λ until. WakesAt service until log) (sym ours.1) (wakes-so told sound clock))
+rests-entry {service} {log} told sound clock (entry.Woke until_ms now_ms) ours = (
+  rests-at told sound ours.0 clock,
+  subst (λ until. WakesAt service until log) (sym ours.1) (wakes-so told sound clock),
+)
 rests-entry told sound clock entry.WaitFailed ours = rests-at told sound ours clock
 rests-entry told sound clock entry.Over ours = rests-at told sound ours clock
 rests-entry told sound clock _ ours = tt

@@ -1,6 +1,7 @@
 -- The core is carried over what it is told of and what it asks for.
 use Rattle.mx_wire.specs.Log.{AreMarks, Log, is_link, link_of}
-use Rattle.ready_loop.specs.Machine.{Acts, CarriesOver, Closes, HasActed, IsFarewell, IsHeard, IsToldOf, OwesFarewell}
+use Rattle.std.specs.Option.{option_and_then, option_map}
+use Rattle.ready_loop.specs.Machine.{Acts, CarriesOver, Closes, HasActed, IsAwaited, IsFarewell, IsHeard, IsToldOf, OwesFarewell}
 use Rattle.mx_base.specs.declared.names.ClientNo.{ClientNo}
 use Rattle.router_world.specs.World.{closed_by, closes_next, late_closes, late_leaves, late_of, step, tables_after, wrote_on}
 use Rattle.router_world.specs.declared.seat.Seat.{Seat}
@@ -8,7 +9,7 @@ use Rattle.session_core.specs.Says.{Asked, Becomes, asks, awaits, changed, farew
 use Rattle.session_core.{proofs.Standing.IsApart, proofs.Standing.acted-after, proofs.Standing.apart-of, proofs.Standing.awaited-after, specs.Stands.Stands}
 use Rattle.session_core.proofs.Standing.{carried, due_in, sends-after, tables-more, waits-after}
 use Rattle.std.proofs.Common.{ap, append-nil, append_assoc, arith, inl, inr, subst, sym, ◌∙◌}
-use Rattle.std.specs.Prelude.{IsSome, List, None, OnOk, Option, Result, Some, [], false, is_some, nat_eq, refl, take, true, ℕ, ◌++◌, ◌∷◌, ◌≡◌}
+use Rattle.std.specs.Prelude.{IfSome, IsSome, List, None, OnOk, Option, Result, Some, [], false, is_some, nat_eq, refl, take, true, ℕ, ◌++◌, ◌∷◌, ◌≡◌}
 use Rattle.mx_base.{specs.Fields.AreBytes, specs.Sent.MayTake, specs.Sent.Sent, specs.declared.names.LinkId.LinkId}
 use Rattle.mx_wire.{specs.Growth.bool_cases, specs.Moments.AllLawful, specs.Moments.lawful-more, specs.Tells.Fits, specs.declared.entry.Entry.Entry}
 use Rattle.promises.{proofs.Moments.one-more, specs.Closes.is_write}
@@ -198,6 +199,31 @@ module _ (old : Core) (known : Known) (link : LinkId) (next : acts.next_close (t
   }
 
 -- Where no link is to be closed the core knows what it knew.
+
+closes-none : (tables : Tables) → acts.next_close tables ≡ None → closed_by tables.parting tables ≡ tables
+closes-none tables none = by tables.parting none where
+  seated : (client : ClientNo) (o : Option Seat) → option_map (λ (seat : Seat). seat.link) o ≡ None → late_leaves client o tables ≡ tables
+  seated client None none = refl
+  seated client (Some seat) none = cc
+
+  late : (o : Option ClientNo) → option_map (λ (seat : Seat). seat.link) (option_and_then (λ (client : ClientNo). tables.seats client.0) o) ≡ None
+      → late_closes o tables ≡ tables
+  late None none = refl
+  late (Some client) none = seated client (tables.seats client.0) none
+
+  next : (closing : List LinkId) → acts.close_of [] closing (acts.late_link tables) ≡ None → closes_next closing tables ≡ tables
+  next [] none = late (late_of tables.clock) none
+  next (link ∷ later) none = cc
+
+  by : (parting : List Parting) → acts.close_of parting tables.lends.closing (acts.late_link tables) ≡ None → closed_by parting tables ≡ tables
+  by [] none = next tables.lends.closing none
+  by (parting ∷ later) none = cc
+
+-- An open that is asked for is awaited.
+pub acts_awaited : (old new : Core) (result : Option Act) → Asked old new result → IfSome result (IsAwaited (awaits new))
+unfolding tables_of
+acts_awaited old new result asked = (let at = asked.is in let tables = asked.tables in let leaver = asked.leaver in let same = asked.same in
+    let stays = closes-none (tables_of old.known) in grind (arith, common_steps, (acts.next_close (tables_of old.known))))
 
 pub acts_carry : (old new : Core) (result : Option Act) → Asked old new result → Acts Stands due_in sends old new result
 acts_carry old new result asked = subst (λ (c : Core). Acts Stands due_in sends old c result) (sym asked.same) (grind (arith, common_steps, closes))

@@ -1,12 +1,13 @@
 -- What changes of what the router knows, and which links may have something new.
+use Rattle.lend_core.specs.{Changes.without_close, Lends.oldest, Lends.others}
 use Rattle.lend_core.specs.{Changes.taken_on, Events.asked, Events.gone, declared.ask.Answered.Answered, declared.ask.Ask.Ask, declared.lender.Lender.Lender}
 use Rattle.lend_core.specs.{Events.heard, Events.left_in, Events.lost, Events.open_failed, Events.opened, Lends.Lends, Lends.Told, Lends.lends_of, Lends.set}
 use Rattle.mx_base.specs.{Sent.MayTake, declared.names.ClientNo.ClientNo, declared.names.LinkId.LinkId}
 use Rattle.router_world.specs.{Tables.Tables, Tables.to_part, Tables.with_lends, World.stepped_at}
 use Rattle.router_world.specs.{declared.seat.Parting.Parting, declared.seat.Seat.Seat}
-use Rattle.router_world.specs.{Tables.without_number, Tables.without_seat, World.still_entering, World.tidied, declared.seat.Newcomer.Newcomer}
+use Rattle.router_world.specs.{Tables.without_number, Tables.without_seat, World.closed_by, World.closes_next, World.late_closes, World.late_of, World.still_entering, World.tidied, declared.seat.Newcomer.Newcomer}
 use Rattle.session_core.specs.Says.{Becomes, Tells, known_reads, known_sends}
-use Rattle.session_core.specs.{Known.Marked, Known.is_at, Known.is_changed, Known.tables_of, declared.known.Known.Known}
+use Rattle.session_core.specs.{Known.Marked, Known.parted_by, Known.is_at, Known.is_changed, Known.tables_of, declared.known.Known.Known}
 use Rattle.std.proofs.{Common.ap, Common.arith, Common.sym, Common.◌∙◌, lemmas.Grind.common_steps, lemmas.Result.on_ok_weaker}
 use Rattle.std.specs.Prelude.{IsSome, List, None, OnOk, Option, Result, Some, [], false, nat_eq, refl, true, ℕ, ◌++◌, ◌-◌, ◌||◌, ◌∷◌, ◌≡◌}
 use Rattle.client_talk.specs.{declared.session.Session.Session}
@@ -34,6 +35,39 @@ pub late_left : (old new : Known) (client : ClientNo) (link : LinkId) → ((k : 
 unfolding tables_of
 late_left old new client link seats numbers left same = ap tables_of same ∙ one _ _ refl refl seats numbers refl refl
     (ap (λ (xs : List Newcomer). record { moment = old.moment; newcomers = xs }) (left ∙ λ i. still_entering (λ k. seats k i) old.newcomers.items))
+
+-- None of the links to servers is to be closed: that of the client is next who has no more time for its login.
+
+oldest-none : {X : Type 0} (xs : List X) → oldest xs ≡ None → xs ≡ []
+oldest-none [] none = refl
+oldest-none (x ∷ xs) none = cc
+
+pub closes_late : (old : Known) (lender : Lender) (new : Known) → old.leaver ≡ None → oldest (lends_of old.lender).closing ≡ None
+    → lends_of lender ≡ without_close (lends_of old.lender)
+    → tables_of new ≡ late_closes (late_of (tables_of (record old { lender = lender })).clock) (tables_of (record old { lender = lender }))
+    → tables_of new ≡ closed_by (tables_of old).parting (tables_of old)
+unfolding tables_of
+closes_late old lender new parted none same is = is ∙ ap (λ (t : Tables). late_closes (late_of t.clock) t) unchanged
+    ∙ sym (ap (λ p. closed_by (parted_by p) was) parted ∙ ap (λ c. closes_next c was) empty) where
+      was : Tables
+      was = tables_of old
+
+      empty : (lends_of old.lender).closing ≡ []
+      empty = oldest-none (lends_of old.lender).closing none
+
+      unlent : lends_of lender ≡ lends_of old.lender
+      unlent = same ∙ ap (λ xs. record (lends_of old.lender) { closing = others xs }) empty
+          ∙ sym (ap (λ xs. record (lends_of old.lender) { closing = xs }) empty)
+
+      unchanged : tables_of (record old { lender = lender }) ≡ tables_of old
+      unchanged = ap (λ (l : Lends). record was { lends = l }) unlent
+
+-- a leaver whose close was asked for is nothing that is to be closed
+pub same_closed : (old mid : Known) → parted_by old.leaver ≡ [] → mid ≡ record old { leaver = None }
+    → closed_by (tables_of mid).parting (tables_of mid) ≡ closed_by (tables_of old).parting (tables_of old)
+unfolding tables_of
+same_closed old mid parted is = ap (λ (k : Known). closed_by (tables_of k).parting (tables_of k)) is
+    ∙ ap (λ (p : List Parting). closed_by p (record (tables_of old) { parting = p })) (sym parted)
 
 -- no more is said of the others than was
 pub record Fewer (old new : Known) (link : LinkId) : Type 0 where

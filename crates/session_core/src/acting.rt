@@ -5,11 +5,26 @@ use mx_base::LinkId;
 use ready_loop::Act;
 
 impl Known {
-    ghost use Rattle.std.specs.Prelude.{◌≡◌, true, Some};
+    ghost use Rattle.std.specs.Prelude.{◌≡◌, true, None, Some};
     ghost use Rattle.router_world.specs.World.{closed_by};
     ghost use Rattle.router_world.specs.Acts.{next_close};
     ghost use Rattle.session_core.specs.Known.{tables_of};
     ghost use Rattle.session_core.specs.Says.{next_leaver};
+
+    // The next link to a server that is to be closed, or else that of a client who has no more time for its login.
+    #[tactic(auto, unfolding(crate::specs::Known::tables_of))]
+    fn next_other(&mut self) -> Option<LinkId>
+        requires { self.old.leaver ≡ None }
+        ensures link { result ≡ next_close (tables_of self.old) }
+        ensures tables { tables_of self.new ≡ closed_by (tables_of self.old).parting (tables_of self.old) }
+        ensures leaver { self.new.leaver ≡ None }
+        ensures changed { self.new.changed ≡ self.old.changed }
+    {
+        match self.lender.next_close() {
+            Some(link) => Some(link),
+            None => self.next_late(),
+        }
+    }
 
     /// The link that is to be closed next, a client's first. The close is asked for once. Where there is none it is that of a client who has
     /// no more time for its login.
@@ -30,10 +45,7 @@ impl Known {
             }
         }
         self.leaver = None;
-        match self.lender.next_close() {
-            Some(link) => Some(link),
-            None => self.next_late(),
-        }
+        self.next_other()
     }
 }
 

@@ -5,10 +5,10 @@ ghost use Rattle.client_side.specs.Client.{counted};
 ghost use Rattle.lend_core.specs.Lends.{set};
 ghost use Rattle.router_world.specs.World.{still_entering};
 
-use lend_core::Lender;
-use mx_base::{Bytes, ClientNo, LinkId, OutOfMemory};
 use client_session::login_end;
 use client_talk::is_entering;
+use lend_core::Lender;
+use mx_base::{Bytes, ClientNo, LinkId, OutOfMemory};
 use router_world::{Newcomer, Parting, Seat};
 use std::alloc::Global;
 use std::collections::{HashMap, VecDeque};
