@@ -8,6 +8,6 @@ mod refusal;
 mod setup;
 
 pub use account::account_of;
-pub use arrival::{login_end, login_end};
+pub use arrival::login_end;
 pub use refusal::{Refusal, write_denied, write_own_ok, write_refusal};
 pub use setup::{ServerAt, Setup, User};
