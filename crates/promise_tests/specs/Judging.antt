@@ -21,7 +21,7 @@ use Rattle.private_model.specs.View.{Carried, Nobody}
 use Rattle.log_story.specs.Plan.{Alone, Asks, Closes, LastWord, OwnAnswer, Resets, Route, StepText, WordPlace, is_by_now, is_now, own_at}
 use Rattle.log_story.specs.Servers.{may_begin}
 use Rattle.log_story.specs.Tale.{Client, is_to_server}
-use Rattle.router_promises.specs.Closes.{is_full, is_in_the_way, is_joined, is_just_heard, is_past_reset, is_spoilt, is_starved_by, is_unlent, others_vacant, was_amiss, was_refused}
+use Rattle.router_promises.specs.Closes.{is_full, is_in_the_way, is_joined, is_past_reset, is_spare, is_spoilt, is_starved_by, is_unlent, others_vacant, was_amiss, was_refused}
 use Rattle.router_promises.specs.Due.{due_to, served, turned_away}
 use Rattle.router_promises.specs.Ends.{buffers_word, is_accepted, is_at, is_measured, is_too_much, is_unheard, is_write, may_end, moment_in, must_end, was_answered}
 use Rattle.router_promises.specs.Errors.{no_connection, out_of_memory, replay_refused, server_offline}
@@ -90,7 +90,7 @@ may_drop terms log now link =
     || ((is_unlent (setup_in terms) now link
     && (is_in_the_way terms now (key_of terms now link) && is_full terms.router log now (key_of terms now link)))
     || (list_any (is_starved_by terms log now link) now.tale.clients
-    || (is_just_heard link log
+    || (is_spare terms log link
     && (is_nobodys (link_now (setup_in terms) now link).carries && is_needless terms log now link (key_of terms now link))))))))))
 
 abbrev pub closes_right : Terms → Log → Now → Entry → Bool

@@ -1,5 +1,5 @@
 -- Why links to servers close.
-use Rattle.std.specs.Prelude.{◌≡◌, ℕ, suc, ◌+◌, ◌≤◌, Bool, true, false, not, ◌&&◌, ◌||◌, bytes_eq, nat_eq, nat_lt, List, [], ◌∷◌, count_by, drop, Option, Some, None}
+use Rattle.std.specs.Prelude.{◌≡◌, ℕ, suc, ◌+◌, ◌-◌, ◌≤◌, Bool, true, false, not, ◌&&◌, ◌||◌, bytes_eq, nat_eq, nat_lt, List, [], ◌∷◌, count_by, drop, take, Option, Some, None}
 use Rattle.std.specs.Prelude.{if◌then◌else◌}
 use Rattle.std.specs.List.{list_all, list_any}
 use Rattle.std.specs.Option.{option_map_or}
@@ -127,7 +127,7 @@ abbrev pub is_past_reset : Setup → Now → LinkId → Bool
 is_past_reset setup now link = is_past_reset_by setup now link (link_now setup now link).carries
 
 -- Memory was refused as the link was opened, or in the last read on it: by that a client was told so; or the link is nobody's, and
--- as many others are.
+-- was so before, and as many others are.
 
 abbrev pub is_event_on : LinkId → Entry → Bool
 is_event_on link (Opened server address other) = is_link_id link other
@@ -172,6 +172,13 @@ is_quiet_since link _ = false
 abbrev pub is_just_heard : LinkId → Log → Bool
 is_just_heard link log = nat_lt 0 (last_event link log) && list_all (is_quiet_since link) (drop (last_event link log) log)
 
+-- And it carried nobody before that: so a link isn't closed behind the reply that it was lent for.
+abbrev pub was_nobodys : Terms → Log → LinkId → Bool
+was_nobodys terms log link = is_nobodys (link_now (setup_in terms) (now_at terms (take (last_event link log - 1) log)) link).carries
+
+abbrev pub is_spare : Terms → Log → LinkId → Bool
+is_spare terms log link = is_just_heard link log && was_nobodys terms log link
+
 -- the other links of the key that are nobody's
 abbrev pub others_vacant : Terms → Log → Now → LinkId → LinkKey → ℕ
 others_vacant terms log now link key =
@@ -191,7 +198,7 @@ pub data MayDrop (terms : Terms) (log : Log) (now : Now) (link : LinkId) : Type 
   MakesRoom : is_unlent (setup_in terms) now link ≡ true → is_in_the_way terms now (key_of terms now link) ≡ true
       → is_full terms.router log now (key_of terms now link) ≡ true → MayDrop terms log now link
   Starved : list_any (is_starved_by terms log now link) now.tale.clients ≡ true → MayDrop terms log now link
-  Needless : is_just_heard link log ≡ true → is_nobodys (link_now (setup_in terms) now link).carries ≡ true
+  Needless : is_spare terms log link ≡ true → is_nobodys (link_now (setup_in terms) now link).carries ≡ true
       → IsNeedless terms log now link (key_of terms now link) → MayDrop terms log now link
 
 abbrev pub ClosesBy : Terms → Log → Now → Entry → Type 0

@@ -6,7 +6,7 @@ use Rattle.mx_wire.specs.Log.{Log}
 use Rattle.mx_wire.specs.declared.entry.Entry.{Entry}
 use Rattle.mx_wire.specs.declared.entry.Entry.TheVariants.{Woke, WaitFailed, Over}
 use Rattle.private_model.specs.Story.{Happening, Story}
-use Rattle.router_promises.specs.Closes.{is_in_the_way, is_just_heard, is_past_reset, is_spoilt, is_starved_by, was_amiss, was_refused}
+use Rattle.router_promises.specs.Closes.{is_in_the_way, is_past_reset, is_spare, is_spoilt, is_starved_by, was_amiss, was_refused}
 use Rattle.router_promises.specs.Headline.{Keeps}
 use Rattle.router_promises.specs.Keys.{key_of}
 use Rattle.router_promises.specs.Now.{Now, wire_now}
@@ -41,4 +41,4 @@ pub record HasNoCause (terms : Terms) (log : Log) (now : Now) (link : LinkId) : 
   pub young : now.clock < (now.uses link).used + terms.router.proxy.idle_ms
   pub alone : is_in_the_way terms now (key_of terms now link) ≡ false
   pub fed : list_any (is_starved_by terms log now link) now.tale.clients ≡ false
-  pub quiet : is_just_heard link log ≡ false
+  pub quiet : is_spare terms log link ≡ false
