@@ -140,8 +140,9 @@ kept_by terms client _ = client.read
 abbrev pub kept : Terms → Client → List ℕ
 kept terms client = kept_by terms client (opening_of (talk_of (plan_in terms) client))
 
+-- one that ended at an earlier entry has none
 abbrev pub kept_bytes : Terms → Now → Client → ℕ
-kept_bytes terms now client = if is_by_now now.tale.moment ((plan_in terms).ends client.number) then 0 else length (kept terms client)
+kept_bytes terms now client = if option_map_or (λ entry. nat_lt entry now.tale.moment) ((plan_in terms).ends client.number) false then 0 else length (kept terms client)
 
 abbrev pub kept_in_all : Terms → Now → ℕ
 kept_in_all terms now = sum_by (kept_bytes terms now) now.tale.clients
