@@ -112,15 +112,9 @@ is_full router log now (Some key) = not (has_room_in router log now key.hostgrou
 
 -- it carries a session that was left, and in which a statement ran of which no reset takes back what it does
 
-abbrev pub outlasts : Setup → LinkId → SessionName → Story → Bool
-outlasts setup link n [] = false
-outlasts setup link n (Sent other (Statement who due) ∷ past) =
-    (is_link_id link other && (is_name who n && (class_of setup.reads due.command).outlasts_reset)) || outlasts setup link n past
-outlasts setup link n (e ∷ past) = outlasts setup link n past
-
 abbrev pub is_past_reset_by : Setup → Now → LinkId → Carried → Bool
 is_past_reset_by setup now link (Joined n) =
-    not (is_name n (present (view_now setup now) n.client n.hostgroup)) && outlasts setup link n now.tale.story
+    not (is_name n (present (view_now setup now) n.client n.hostgroup)) && (view_now setup now).lasting n
 is_past_reset_by setup now link _ = false
 
 abbrev pub is_past_reset : Setup → Now → LinkId → Bool

@@ -257,7 +257,8 @@ set_by class tx (Tracked changes) same is =
     let c = and_parts (not class.deep) _ b.1 in
     let d = and_parts (not (takes class)) _ c.1 in
     let e = and_parts (not class.next_tx) _ d.1 in
-    let f = and_parts (not class.savepoint) (not (sets_autocommit changes) || not tx) e.1 in
+    let f = and_parts (not class.savepoint) _ e.1 in
+    let g = and_parts (not class.outlasts_reset) (not (sets_autocommit changes) || not tx) f.1 in
     record {
       changes = changes;
       effect = same;
@@ -267,7 +268,8 @@ set_by class tx (Tracked changes) same is =
       no_locks = not-true (takes class) d.0;
       next_tx = not-true class.next_tx e.0;
       savepoint = not-true class.savepoint f.0;
-      calm = λ sets. not-true tx (marked_so (sets_autocommit changes) (not tx) f.1 sets);
+      resets = not-true class.outlasts_reset g.0;
+      calm = λ sets. not-true tx (marked_so (sets_autocommit changes) (not tx) g.1 sets);
     }
 set_by class tx (Uses schema) same is = isnt is
 set_by class tx Neither same is = isnt is
@@ -319,11 +321,13 @@ fits_so setup view link (Own command) of_view is =
     }
 fits_so setup view link (End n) of_view is =
     let a = and_parts (is_joined n link.carries) _ is in
-    let b = and_parts (not (is_name n (present view n.client n.hostgroup))) (needs_reset (view.held n).pin) a.1 in
+    let b = and_parts (not (is_name n (present view n.client n.hostgroup))) _ a.1 in
+    let c = and_parts (needs_reset (view.held n).pin) (not (view.lasting n)) b.1 in
     record {
       carries = joined_so n link.carries a.0;
       left = left_so n (present view n.client n.hostgroup) (not-true (is_name n (present view n.client n.hostgroup)) b.0);
-      needed = b.1;
+      needed = c.0;
+      resets = not-true (view.lasting n) c.1;
     }
 fits_so setup view link (Capture n) of_view is =
     let a = and_parts (is_joined n link.carries) _ is in

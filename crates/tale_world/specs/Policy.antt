@@ -70,7 +70,7 @@ for_session texts fits setup view link n =
     then if is_pinned (view.held n).pin
     then option_map_or (λ due. Some (question_for texts fits setup n due (Sync n) link (view.held n))) (view.dues n) None
     else if is_some (view.held n).id then None else Some (Capture n)
-    else if needs_reset (view.held n).pin then Some (End n) else None
+    else if needs_reset (view.held n).pin && not (view.lasting n) then Some (End n) else None
 
 abbrev pub next_question : Texts → (fits : ℕ → Option Number) → Setup → View → Link → Option Readied → Option Question
 next_question texts fits setup view link readied = if not (is_quiet link.stage && link.usable) then None else by_carried link.carries where

@@ -125,7 +125,8 @@ abbrev pub is_set_by : Class → (tx : Bool) → Effect → Bool
 is_set_by class tx (Tracked changes) =
     not class.marks_id
     && (not class.reads_diag
-    && (not class.deep && (not (takes class) && (not class.next_tx && (not class.savepoint && (not (sets_autocommit changes) || not tx))))))
+    && (not class.deep
+    && (not (takes class) && (not class.next_tx && (not class.savepoint && (not class.outlasts_reset && (not (sets_autocommit changes) || not tx)))))))
 is_set_by class tx _ = false
 
 abbrev pub is_set : Class → (tx : Bool) → Bool
@@ -150,7 +151,9 @@ fits setup view link (Prep n key text) = may_prepare setup n key text link (view
 fits setup view link (Sync n command) =
     is_joined n link.carries && (is_pinned (view.held n).pin && is_step_of setup.reads command (view.held n).pin (view.held n).id)
 fits setup view link (Own command) = (is_nobody link.carries || is_lent link.carries) && is_own_step setup.reads command
-fits setup view link (End n) = is_joined n link.carries && (not (is_name n (present view n.client n.hostgroup)) && needs_reset (view.held n).pin)
+fits setup view link (End n) =
+    is_joined n link.carries
+    && (not (is_name n (present view n.client n.hostgroup)) && (needs_reset (view.held n).pin && not (view.lasting n)))
 fits setup view link (Capture n) = is_joined n link.carries && (not (is_pinned (view.held n).pin) && not (is_some (view.held n).id))
 
 abbrev pub may_begin_question : Setup → View → Link → Question → Bool
