@@ -325,21 +325,22 @@ step_so (Some (Asks command)) written so = tt
 step_so None written so = tt
 
 abbrev plain_ok : List ℕ
-plain_ok = 0 ∷ 0 ∷ 0 ∷ 0 ∷ 0 ∷ 0 ∷ 0 ∷ []
+plain_ok = 0 ∷ 0 ∷ 0 ∷ 2 ∷ 0 ∷ 0 ∷ 0 ∷ []
 
-plain_is_ok : OkEnds plain_ok (ok_end 0 0 0)
+plain_is_ok : OkEnds plain_ok (ok_end 2 0 0)
 plain_is_ok =
     let zero_so : IsNumber (0 ∷ []) 0 = record { first = 0; others = []; is = refl; sized = refl; value = refl } in
     let two_so : IsTwo 0 0 0 = record { low = lit< tt; high = lit< tt; is = refl } in
+    let flags_so : IsTwo 2 0 2 = record { low = lit< tt; high = lit< tt; is = refl } in
     record {
-      flags = 0;
+      flags = 2;
       warnings = 0;
       insert_id = 0;
       ok = record {
         rows = 0 ∷ [];
         affected = 0;
         insert = 0 ∷ [];
-        f = 0;
+        f = 2;
         g = 0;
         w = 0;
         v = 0;
@@ -347,7 +348,7 @@ plain_is_ok =
         is = refl;
         affected_rows = zero_so;
         last_insert_id = zero_so;
-        status_flags = two_so;
+        status_flags = flags_so;
         warning_count = two_so;
       };
       is = refl;
@@ -362,7 +363,7 @@ reset_so wire so =
     record {
       written = step_so wire.step wire.written both.0;
       answer = plain_ok;
-      end = ok_end 0 0 0;
+      end = ok_end 2 0 0;
       ok = plain_is_ok;
       last = refl;
       front = front_so wire.unread (spelling (reply_id wire) plain_ok) both.1;

@@ -88,10 +88,14 @@ abbrev pub OutcomeOf : Option (List ℕ) → List (List ℕ) → Held → (read_
 OutcomeOf (Some name) words held read_before read_now told ports_before ports_now old before new now status = ServeOutcome name held read_before read_now told ports_before ports_now old before new now status
 OutcomeOf None words held read_before read_now told ports_before ports_now old before new now status = ReplayOutcome words held read_before read_now old before new now status
 
--- A text that was asked for is put, and the wire isn't touched.
-pub data TextOutcome (text : List ℕ) (told : Option Log) (old : Option (List ℕ)) (before : ℕ) (new : Option (List ℕ)) (now : ℕ) : ℕ → Type 0 where
-  Put : Takes old text new → IsUntouched told → TextOutcome text told old before new now 0
-  NotPut : FailsAt text old before new now → IsUntouched told → TextOutcome text told old before new now 4
+-- A text that was asked for is put, or a front of it where the sink failed.
+pub record TextPut (text : List ℕ) (old : Option (List ℕ)) (before : ℕ) (new : Option (List ℕ)) (now : ℕ) (status : ℕ) : Type 0 where
+  pub either : ((status ≡ 0) × Takes old text new) ⊎ ((status ≡ 4) × FailsAt text old before new now)
+
+-- and the wire isn't touched
+pub record TextOutcome (text : List ℕ) (told : Option Log) (old : Option (List ℕ)) (before : ℕ) (new : Option (List ℕ)) (now : ℕ) (status : ℕ) : Type 0 where
+  pub put : TextPut text old before new now status
+  pub untouched : IsUntouched told
 
 abbrev pub OutcomeBy : Option (List ℕ) → List (List ℕ) → Held → (read_before read_now : ℕ) → Option Log → (ports_before ports_now : ℕ) → Option (List ℕ) → ℕ → Option (List ℕ) → ℕ → ℕ → Type 0
 OutcomeBy (Some text) words held read_before read_now told ports_before ports_now old before new now status = TextOutcome text told old before new now status

@@ -23,16 +23,19 @@ serve_words _ = None
 
 -- the text that is asked for
 abbrev pub help_text : List ℕ
-help_text = codes "mx_proxy, a MySQL router\n\nmx_proxy serve <config>                serves by the configuration\nmx_proxy replay <config> <recording>   replays a recording, and prints what was written\nmx_proxy --help                        prints this\nmx_proxy --version                     prints the version\n\nIt ends with 0, or with 1 where the configuration is refused, 2 where the words are none of these, 3 where a file can't be read,\n4 where the output can't be written, 5 for want of memory, 6 where a port can't be had, 7 where the recording is refused.\n"
+help_text = codes "mx_proxy serve <config>\nmx_proxy replay <config> <recording>\nmx_proxy --help\nmx_proxy --version\nREADME.md says what each does.\n"
 
 abbrev pub version_text : List ℕ
 version_text = codes "mx_proxy 0.1.0\n"
 
-abbrev pub text_words : List (List ℕ) → Option (List ℕ)
-text_words (word ∷ []) =
+abbrev pub text_word : List ℕ → Option (List ℕ)
+text_word word =
     if bytes_eq word (codes "--help") then Some help_text
     else if bytes_eq word (codes "--version") then Some version_text
     else None
+
+abbrev pub text_words : List (List ℕ) → Option (List ℕ)
+text_words (word ∷ []) = text_word word
 text_words _ = None
 
 -- neither serving nor a replay is asked for

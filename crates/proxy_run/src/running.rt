@@ -2,8 +2,8 @@
 ghost use Rattle.std.specs.Prelude.{◌≡◌, ◌≢◌, ◌↔◌, [], Option, Some, None, IfOk};
 ghost use Rattle.mx_wire.specs.Log.{Log};
 ghost use Rattle.std.specs.Option.{option_map};
-ghost use Rattle.proxy_run.specs.Words.{texts, replay_words, serve_words, text_words, IsNoCommand, IsUnknown};
-ghost use Rattle.proxy_run.specs.Run.{Says, Told, IsUntouched, TextOutcome, ServeOutcome, ReplayOutcome, Outcome, OutcomeOf, table_name, config_line};
+ghost use Rattle.proxy_run.specs.Words.{texts, replay_words, serve_words, text_word, text_words, IsNoCommand, IsUnknown};
+ghost use Rattle.proxy_run.specs.Run.{Says, Told, TextPut, ServeOutcome, ReplayOutcome, Outcome, OutcomeOf, table_name, config_line};
 
 use crate::replay::replay;
 use crate::serving::serve_by;
@@ -25,31 +25,40 @@ const USAGE: &[u8] =
 
 const VERSION: &[u8] = b"mx_proxy 0.1.0\n";
 
-const HELP: &[u8] = b"mx_proxy, a MySQL router
-
-mx_proxy serve <config>                serves by the configuration
-mx_proxy replay <config> <recording>   replays a recording, and prints what was written
-mx_proxy --help                        prints this
-mx_proxy --version                     prints the version
-
-It ends with 0, or with 1 where the configuration is refused, 2 where the words are none of these, 3 where a file can't be read,
-4 where the output can't be written, 5 for want of memory, 6 where a port can't be had, 7 where the recording is refused.
+const HELP: &[u8] = b"mx_proxy serve <config>
+mx_proxy replay <config> <recording>
+mx_proxy --help
+mx_proxy --version
+README.md says what each does.
 ";
 
-// The text that the words ask for: `--help` or `--version`.
+// The text that the word asks for: `--help` or `--version`.
+fn text_word(word: &str) -> Option<&'static [u8]>
+    ensures { option_map (λ text. text.now) result ≡ text_word word.now }
+{
+    if word == "--help" {
+        return Some(HELP);
+    }
+    if word == "--version" {
+        return Some(VERSION);
+    }
+    None
+}
+
+// The text that the words ask for.
 fn text_words(words: &[String]) -> Option<&'static [u8]>
     ensures { option_map (λ text. text.now) result ≡ text_words (texts words.now) }
 {
     match words {
-        [word] if word.as_str() == "--help" => Some(HELP),
-        [word] if word.as_str() == "--version" => Some(VERSION),
+        [word] => text_word(word.as_str()),
         _ => None,
     }
 }
 
 // Puts a text that was asked for.
 fn put_text<O: Sink>(out: &mut O, text: &[u8]) -> Status
-    ensures { (told : Option Log) → IsUntouched told → TextOutcome text.now told (O.taken out.old) (O.faults out.old) (O.taken out.new) (O.faults out.new) result.0 }
+    ensures put { TextPut text.now (O.taken out.old) (O.faults out.old) (O.taken out.new) (O.faults out.new) result.0 }
+    ensures usage { result.0 ≢ 2 }
 {
     match out.put(text) {
         Ok(()) => Status(0),

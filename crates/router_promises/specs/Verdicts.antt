@@ -212,6 +212,7 @@ unless_gone terms servers taking class wanted =
 abbrev pub unless_refused : Terms → List Server → Taking → Class → Option Refusal → Wanted → Verdict
 unless_refused terms servers taking class (Some refusal.SetsServer) wanted = tells_one error.sets_server
 unless_refused terms servers taking class (Some refusal.NamesConnection) wanted = tells_one error.names_connection
+unless_refused terms servers taking class (Some refusal.ReadsLast) wanted = tells_one error.diagnostics_gone
 unless_refused terms servers taking class None wanted =
     if is_connection_id class.shape then tells_one error.names_connection else unless_gone terms servers taking class wanted
 
