@@ -46,7 +46,7 @@ asks = spelling 0 (3 ∷ begin)
 
 -- an OK in a transaction
 abbrev pub begun_ok : List ℕ
-begun_ok = spellings 1 ((0 ∷ 0 ∷ 0 ∷ 1 ∷ 0 ∷ 0 ∷ 0 ∷ []) ∷ [])
+begun_ok = spellings 1 ((0 ∷ 0 ∷ 0 ∷ 3 ∷ 0 ∷ 0 ∷ 0 ∷ []) ∷ [])
 
 abbrev pub log : Log
 log =
@@ -68,6 +68,6 @@ due = record { ordinal = 1; place = place; anew = true; command = Query begin; k
 abbrev pub story : Story
 story =
     Gone (link 3) ∷ Freed (link 3) ∷ heard (ok_with 0) ∷ Ran (link 3) ∷ Sent (link 3) (End (session 1)) ∷ Left (client 1) ∷ Left (client 1)
-    ∷ heard ((0 ∷ 0 ∷ 0 ∷ 1 ∷ 0 ∷ 0 ∷ 0 ∷ []) ∷ []) ∷ Ran (link 3) ∷ Sent (link 3) (Statement (session 1) due)
+    ∷ heard ((0 ∷ 0 ∷ 0 ∷ 3 ∷ 0 ∷ 0 ∷ 0 ∷ []) ∷ []) ∷ Ran (link 3) ∷ Sent (link 3) (Statement (session 1) due)
     ∷ heard (ok_with 0) ∷ Ran (link 3) ∷ Sent (link 3) (Own (Query names_text)) ∷ LoggedIn (link 3) server anybody
     ∷ BecameDue (client 1) group 1 0 (Query begin) None ∷ []

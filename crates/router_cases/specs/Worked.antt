@@ -193,11 +193,11 @@ abbrev pub greeting : Greeting
 greeting = record { version = codes "8"; connection = 7; salt = salt; capabilities = 958991; collation = 45; status = 2; plugin = native_password }
 
 abbrev pub ok_with : (id : ℕ) → List (List ℕ)
-ok_with id = (0 ∷ 0 ∷ id ∷ 0 ∷ 0 ∷ 0 ∷ 0 ∷ []) ∷ []
+ok_with id = (0 ∷ 0 ∷ id ∷ 2 ∷ 0 ∷ 0 ∷ 0 ∷ []) ∷ []
 
 -- a column count, a column, an EOF, a row with the digit 1, an EOF
 abbrev pub row : List (List ℕ)
-row = (1 ∷ []) ∷ (3 ∷ []) ∷ (254 ∷ 0 ∷ 0 ∷ 0 ∷ 0 ∷ []) ∷ (1 ∷ 49 ∷ []) ∷ (254 ∷ 0 ∷ 0 ∷ 0 ∷ 0 ∷ []) ∷ []
+row = (1 ∷ []) ∷ (3 ∷ []) ∷ (254 ∷ 0 ∷ 0 ∷ 0 ∷ 0 ∷ []) ∷ (1 ∷ 49 ∷ []) ∷ (254 ∷ 0 ∷ 0 ∷ 2 ∷ 0 ∷ []) ∷ []
 
 -- The log.
 
