@@ -25,7 +25,7 @@ use Rattle.log_story.proofs.Keeping.{honesty, lawful_before, running_keeps, step
 -- the law of private worlds, of one server
 abbrev pub Law : Setup → Step → Type 0
 Law setup server = (story : Story) → IsLawful setup story → IsHonest setup (runs server) story
-    → MeetsPrivate setup.reads (view_after setup story) (real_after setup (runs server) story) (private_after setup (runs server) story)
+    → MeetsPrivate setup.reads tests (view_after setup story) (real_after setup (runs server) story) (private_after setup (runs server) story)
 
 moment : (setup : Setup) (plan : Plan) (server : Step) (tale : Tale) → Law setup server → IsLawful setup tale.story → IsHonest setup (runs server) tale.story
     → IsPrivateMoment setup plan server tale

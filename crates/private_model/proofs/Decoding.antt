@@ -30,7 +30,7 @@ if_matched false setup live deep there here x = x.usual
 module _ (setup : Setup) (tests : Tests) (step : Step) (tame : Tame setup.reads tests step) (view : View) (real : Real) (private : Private) (stands : Stands setup tests view real private) (are : AreTabled setup view.links real.peers view.held private.tables) (number : LinkId) where
   -- what a live key has on the link is what the session has
   matched_there : (m : SessionName) (due : Due) → (real.peers number).alive ≡ true → (view.links number).stage ≡ Asked (Statement m due) → AreMatched setup (view.links number).live (view.held m).pin.deep (real.peers number).table (private.tables m)
-  matched_there m due alive is = elim (statement_name setup number (view.links number).carries (view.links number) (real.peers number) view.held private.sessions (stands.links number) m due is) [
+  matched_there m due alive is = elim (statement_name setup tests number (view.links number).carries (view.links number) (real.peers number) view.held private.sessions (stands.links number) m due is) [
     | inl lent ↦ let both = alive_lent setup tests view real private stands are number m alive (Statement m due) is lent in matched_of setup (view.links number).live (view.held m).pin.deep (real.peers number).table (private.tables m) both.0 both.1
     | inr joined ↦ alive_joined setup tests view real private stands are number m alive (Statement m due) is joined
   ]
@@ -173,20 +173,20 @@ module _ (setup : Setup) (tests : Tests) (step : Step) (tame : Tame setup.reads 
 
   ran_by_table : (alive : Bool) (stage : Stage) → (real.peers number).alive ≡ alive → (view.links number).stage ≡ stage → IsTrueRun step real number (view.links number).live stage (view.links number).server → RanTabled alive stage
   ran_by_table true (Asked (Statement m due)) alive is fresh = ran_statement_table m due alive is fresh
-  ran_by_table true (Asked (Prep m key text)) alive is fresh = ran_prep_table m key text alive is (prep_name setup number (view.links number).carries (view.links number) (real.peers number) view.held private.sessions (stands.links number) m key text is) fresh
+  ran_by_table true (Asked (Prep m key text)) alive is fresh = ran_prep_table m key text alive is (prep_name setup tests number (view.links number).carries (view.links number) (real.peers number) view.held private.sessions (stands.links number) m key text is) fresh
   ran_by_table true (Asked (Own c)) alive is fresh = ran_own_table c alive is (view.links number).carries refl
   ran_by_table true (Asked (Sync m c)) alive is fresh =
       let l = view.links number in
-      let carries : l.carries ≡ Joined m = sync_name setup number l.carries l (real.peers number) view.held private.sessions (stands.links number) m c is in
+      let carries : l.carries ≡ Joined m = sync_name setup tests number l.carries l (real.peers number) view.held private.sessions (stands.links number) m c is in
       ran_joined_table m (Sync m c) (ran_by setup.reads (Asked (Sync m c)) l) (step (real.stored l.server) (real.peers number).session c) alive is carries carries
       (λ x. if_matched (not (is_quit c)) setup l.live (view.held m).pin.deep (real.peers number).table (private.tables m) x)
   ran_by_table true (Asked (Capture m)) alive is fresh =
       let l = view.links number in
-      let carries : l.carries ≡ Joined m = capture_name setup number l.carries l (real.peers number) view.held private.sessions (stands.links number) m is in
+      let carries : l.carries ≡ Joined m = capture_name setup tests number l.carries l (real.peers number) view.held private.sessions (stands.links number) m is in
       ran_joined_table m (Capture m) (ran_by setup.reads (Asked (Capture m)) l) (step (real.stored l.server) (real.peers number).session ReadId) alive is carries carries (λ x. x)
   ran_by_table true (Asked (End m)) alive is fresh =
       let l = view.links number in
-      let carries : l.carries ≡ Joined m = end_name setup number l.carries l (real.peers number) view.held private.sessions (stands.links number) m is in
+      let carries : l.carries ≡ Joined m = end_name setup tests number l.carries l (real.peers number) view.held private.sessions (stands.links number) m is in
       ran_table m (ran_by setup.reads (Asked (End m)) l) (peer_by true (λ n. None) (step (real.stored l.server) (real.peers number).session Reset)) (λ key. None) (stands_at setup tests view real private stands are number (Joined m) carries).home carries
       (record { match = λ key n e. cc; kept = λ e. record { kept = λ key n f. cc }; usual = λ e. record { usual = λ key place f. cc } })
   ran_by_table false (Asked question) alive is fresh = dead_runs alive fresh.alive

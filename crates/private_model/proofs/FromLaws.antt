@@ -6,14 +6,15 @@ use Rattle.session_state.specs.Classes.{Effect, Tracked, Uses, Neither, effect_o
 use Rattle.session_state.specs.Endings as ending
 use Rattle.server_rule.specs.Classes.{Reads}
 use Rattle.server_rule.specs.Laws.{IsTame}
+use Rattle.server_rule.specs.Laws as laws
 use Rattle.server_rule.specs.Replies.{reply_end}
 use Rattle.server_rule.specs.Servers.{Accepts, Tests, is_brief, is_some_of, with_diag, with_id}
 use Rattle.server_rule.specs.Servers as server
 use Rattle.server_rule.specs.declared.command.Cmd.TheVariants as cmd
 use Rattle.server_rule.specs.declared.session.Session.{Session}
 use Rattle.server_rule.proofs.Ends.{Shows, nothing_shows, shown_end}
-use Rattle.private_model.specs.Commands.{Command, Query, InitDb, FieldList, SetId, ReadId, Number, Prepare, Run, Reset, Quit, Outcome, class_of, cmd_of, end_of, hides_of, is_err, is_ok, outcome_of, runs}
-use Rattle.private_model.proofs.Tame.{ResetLaw, Tame, is_flagged, is_text, account_of, brings_id, flags, outcome_with_id}
+use Rattle.private_model.specs.Commands.{Command, Query, InitDb, FieldList, SetId, ReadId, Number, Prepare, Run, Reset, Quit, Outcome, class_of, cmd_of, end_of, hides_of, is_err, is_ok, is_prepare, outcome_of, runs}
+use Rattle.private_model.proofs.Tame.{IsBlind, IsBlindBy, ResetLaw, SeesSame, Tame, is_flagged, is_text, account_of, brings_id, flags, outcome_with_id}
 use Rattle.private_model.proofs.Sessions.{apart, bool_cases}
 
 neither_tracked : {A : Type 0} {changes : List Change} → Neither ≡ Tracked changes → A
@@ -157,10 +158,28 @@ module _ (reads : Reads) (tests : Tests) (rule : server.Step) (tame : IsTame rea
   ended_after stored s ok (InitDb schema) shallow there over brief = still_open (InitDb schema) stored s (ap (λ (x : Session). x.tx) (uses_law stored s ok (InitDb schema) schema refl).1) there over
   ended_after stored s ok c shallow there over brief = still_open c stored s (left (λ (x : Session). x.tx) (λ n d x. refl) stored s ok c refl shallow) there over
 
-  diag_law : (stored : List ℕ) (s : Session) → Accepts tests stored s → (c : Command) (diag : List ℕ) → Accepts tests stored (with_diag diag s) → (class_of reads c).reads_diag ≡ false → step stored (with_diag diag s) c ≡ step stored s c
-  diag_law stored s ok (SetId n) diag there e = ap (outcome_of (SetId n)) (tame.insert_id.set_blind stored s ok n.value n.fits diag there)
-  diag_law stored s ok ReadId diag there e = ap (outcome_of ReadId) (tame.insert_id.read_blind stored s ok diag there)
-  diag_law stored s ok c diag there e = ap (outcome_of c) (tame.blind.diag stored s ok (cmd_of c) diag there e)
+  blind_of : (c : Command) (own_diag own_found : Bool) (diag diag' : List ℕ) (there here : server.Outcome) → laws.IsBlind tests own_diag own_found diag diag' there here
+      → IsBlind tests own_diag own_found diag diag' (outcome_of c there) (outcome_of c here)
+  blind_of c own_diag own_found diag diag' there here is = record {
+    stored = is.stored;
+    reply = ap (λ x. record { to_prepare = is_prepare c; payloads = x }) is.reply;
+    session = is.session;
+    warnings = is.warnings;
+    found = is.found;
+  }
+
+  diag_law : (stored : List ℕ) (s : Session) → Accepts tests stored s → (c : Command) (diag : List ℕ) → Accepts tests stored (with_diag diag s) → SeesSame reads tests c diag s.diag
+      → IsBlindBy reads tests c diag s.diag (step stored (with_diag diag s) c) (step stored s c)
+  diag_law stored s ok (SetId n) diag there sees = blind_of (SetId n) _ _ diag s.diag _ _ (tame.insert_id.set_blind stored s ok n.value n.fits diag there)
+  diag_law stored s ok ReadId diag there sees = blind_of ReadId _ _ diag s.diag _ _ (tame.insert_id.read_blind stored s ok diag there)
+  diag_law stored s ok (Query text) diag there sees = blind_of (Query text) _ _ diag s.diag _ _ (tame.blind.diag stored s ok (cmd.Query text) diag there sees)
+  diag_law stored s ok (InitDb schema) diag there sees = blind_of (InitDb schema) _ _ diag s.diag _ _ (tame.blind.diag stored s ok (cmd.InitDb schema) diag there sees)
+  diag_law stored s ok (FieldList rest) diag there sees = blind_of (FieldList rest) _ _ diag s.diag _ _ (tame.blind.diag stored s ok (cmd.FieldList rest) diag there sees)
+  diag_law stored s ok (Prepare text) diag there sees = blind_of (Prepare text) _ _ diag s.diag _ _ (tame.blind.diag stored s ok (cmd.Prepare text) diag there sees)
+  diag_law stored s ok (Run text schema settings args) diag there sees =
+      blind_of (Run text schema settings args) _ _ diag s.diag _ _ (tame.blind.diag stored s ok (cmd_of (Run text schema settings args)) diag there sees)
+  diag_law stored s ok Reset diag there sees = blind_of Reset _ _ diag s.diag _ _ (tame.blind.diag stored s ok cmd.Reset diag there sees)
+  diag_law stored s ok Quit diag there sees = blind_of Quit _ _ diag s.diag _ _ (tame.blind.diag stored s ok cmd.Close diag there sees)
 
   id_law : (stored : List ℕ) (s : Session) → Accepts tests stored s → (c : Command) (n : ℕ) → (class_of reads c).marks_id ≡ false → step stored (with_id n s) c ≡ outcome_with_id n (step stored s c)
   id_law stored s ok (SetId k) n e = apart refl e

@@ -117,17 +117,17 @@ module _ (setup : Setup) (tests : Tests) (step : Step) (tame : Tame setup.reads 
 
   ending_home : (l : LinkId) (n : SessionName) → (view.links l).stage ≡ Asked (End n) → (view.held n).home ≡ Some l
   ending_home l n at =
-      let carries = end_name setup l (view.links l).carries (view.links l) (real.peers l) view.held private.sessions (stands.links l) n at in
-      (subst (λ c. IsAtBy setup c l (view.links l) (real.peers l) view.held private.sessions) carries (stands.links l)).home
+      let carries = end_name setup tests l (view.links l).carries (view.links l) (real.peers l) view.held private.sessions (stands.links l) n at in
+      (subst (λ c. IsAtBy setup tests c l (view.links l) (real.peers l) view.held private.sessions) carries (stands.links l)).home
 
   no_end_elsewhere : (n : SessionName) (due : Due) → BeginsThere setup n due (view.links number) (view.held n) ⊎ GoesOnThere setup n due (view.links number) (view.held n)
       → (l : LinkId) → is_link_id l number ≡ false → (view.links l).stage ≡ Asked (End n) → ⊥
   no_end_elsewhere n due how l other at = elim how [
     | inl begins ↦ elim begins.lends [
       | inl vacant ↦ no_home (view.held n).home vacant.homeless l (ending_home l n at)
-      | inr lent ↦ no_other (view.held n).home number (subst (λ c. IsAtBy setup c number (view.links number) (real.peers number) view.held private.sessions) lent (stands.links number)).home l other (ending_home l n at)
+      | inr lent ↦ no_other (view.held n).home number (subst (λ c. IsAtBy setup tests c number (view.links number) (real.peers number) view.held private.sessions) lent (stands.links number)).home l other (ending_home l n at)
     ]
-    | inr goes_on ↦ no_other (view.held n).home number (subst (λ c. IsAtBy setup c number (view.links number) (real.peers number) view.held private.sessions) goes_on.carries (stands.links number)).home l other (ending_home l n at)
+    | inr goes_on ↦ no_other (view.held n).home number (subst (λ c. IsAtBy setup tests c number (view.links number) (real.peers number) view.held private.sessions) goes_on.carries (stands.links number)).home l other (ending_home l n at)
   ]
 
   pub sent_lasting : (question : Question) → MaySend setup view (view.links number) question → Next (view_step setup view (Sent number question)) private.sessions
@@ -200,7 +200,7 @@ module _ (setup : Setup) (tests : Tests) (step : Step) (tame : Tame setup.reads 
   ran_by_stage are_decoded true (Asked (Statement n due)) alive is honest = with_session (Asked (Statement n due)) is n _ (statement_runs are_decoded n due alive is)
   ran_by_stage are_decoded true (Asked (Prep n key text)) alive is honest = prep_run n key text is (is_pinned (view.held n).pin)
   ran_by_stage are_decoded true (Asked (Sync n c)) alive is honest =
-      let carries = sync_name setup number (view.links number).carries (view.links number) (real.peers number) view.held private.sessions (stands.links number) n c is in
+      let carries = sync_name setup tests number (view.links number).carries (view.links number) (real.peers number) view.held private.sessions (stands.links number) n c is in
       with_session (Asked (Sync n c)) is n _ (runs_plain n c (step_plain c (view.held n).pin (view.held n).id (asks setup tests step tame view real private stands number n (Sync n c) carries is).fits))
   ran_by_stage are_decoded true (Asked (Own c)) alive is honest = linked (Asked (Own c)) is
   ran_by_stage are_decoded true (Asked (End n)) alive is honest = with_session (Asked (End n)) is n _ (runs_plain n Reset refl)

@@ -216,7 +216,7 @@ always setup tests step (e ∷ past) tame accepted lawful honest =
       answer = answers_next setup tests step tame (view_after setup past) (real_after setup step past) (private_after setup step past) e before.stands before.tabled before.answer lawful.1 honest.1;
     }
 
-meets : (setup : Setup) (tests : Tests) (step : Step) → Tame setup.reads tests step → (view : View) (real : Real) (private : Private) → Stands setup tests view real private → Answer view real private → MeetsPrivate setup.reads view real private
+meets : (setup : Setup) (tests : Tests) (step : Step) → Tame setup.reads tests step → (view : View) (real : Real) (private : Private) → Stands setup tests view real private → Answer view real private → MeetsPrivate setup.reads tests view real private
 meets setup tests step tame view real private stands answer = record {
   stored = stands.stored;
   sessions = λ link n due alive asked.
@@ -228,7 +228,7 @@ meets setup tests step tame view real private stands answer = record {
 }
 
 pub private_law : (setup : Setup) (tests : Tests) (step : Step) (story : Story) → Tame setup.reads tests step → IsAccepted setup tests → IsLawful setup story → IsHonest setup step story
-    → MeetsPrivate setup.reads (view_after setup story) (real_after setup step story) (private_after setup step story)
+    → MeetsPrivate setup.reads tests (view_after setup story) (real_after setup step story) (private_after setup step story)
 private_law setup tests step story tame accepted lawful honest =
     let at = always setup tests step story tame accepted lawful honest in
     meets setup tests step tame (view_after setup story) (real_after setup step story) (private_after setup step story) at.stands at.answer

@@ -113,16 +113,16 @@ module _ (setup : Setup) (key : SessionName) (held : SessionName → Held) (sess
       go true e = absurd (not_key (subst (λ x. (held x).home ≡ Some j) (name_of n key e) home))
       go false e = e
 
-  frame_by : (carried : Carried) (j : LinkId) (link : Link) (peer : Peer) → ((held key).home ≡ Some j → ⊥) → IsAtBy setup carried j link peer held sessions → IsAtBy setup carried j link peer held' sessions'
+  frame_by : (carried : Carried) (j : LinkId) (link : Link) (peer : Peer) → ((held key).home ≡ Some j → ⊥) → IsAtBy setup tests carried j link peer held sessions → IsAtBy setup tests carried j link peer held' sessions'
   frame_by Nobody j link peer not_key at = at
   frame_by (Lent n) j link peer not_key at =
       let e : is_name n key ≡ false = apart_home j n at.home not_key in
       subst (λ h. IsLentLink setup j n link peer h (sessions' n)) (sym (elsewhere.keeps_held n e)) (subst (λ s. IsLentLink setup j n link peer (held n) s) (sym (elsewhere.keeps_session n e)) at)
   frame_by (Joined n) j link peer not_key at =
       let e : is_name n key ≡ false = apart_home j n at.home not_key in
-      subst (λ h. IsJoinedLink setup j n link peer h (sessions' n)) (sym (elsewhere.keeps_held n e)) (subst (λ s. IsJoinedLink setup j n link peer (held n) s) (sym (elsewhere.keeps_session n e)) at)
+      subst (λ h. IsJoinedLink setup tests j n link peer h (sessions' n)) (sym (elsewhere.keeps_held n e)) (subst (λ s. IsJoinedLink setup tests j n link peer (held n) s) (sym (elsewhere.keeps_session n e)) at)
 
-  pub frame : (j : LinkId) (link : Link) (peer : Peer) → ((held key).home ≡ Some j → ⊥) → IsAt setup j link peer held sessions → IsAt setup j link peer held' sessions'
+  pub frame : (j : LinkId) (link : Link) (peer : Peer) → ((held key).home ≡ Some j → ⊥) → IsAt setup tests j link peer held sessions → IsAt setup tests j link peer held' sessions'
   frame j link peer not_key at = frame_by link.carries j link peer not_key at
 
   pub still_resting : ((n : SessionName) → (held n).home ≡ None → IsResting (held n) (sessions n)) → ((held' key).home ≡ None → IsResting (held' key) (sessions' key)) → (n : SessionName) → (held' n).home ≡ None → IsResting (held' n) (sessions' n)

@@ -1,21 +1,22 @@
 -- A session on a link and the private one that it is for: what one more command leaves of it.
-use Rattle.std.specs.Prelude.{◌≡◌, ◌⊎◌, ℕ, Bool, true, false, not, ◌||◌, ◌&&◌, if◌then◌else◌, List, [], Option, Some, None}
+use Rattle.std.specs.Prelude.{◌≡◌, ◌⊎◌, ℕ, Bool, true, false, not, ◌||◌, ◌&&◌, if◌then◌else◌, nat_lt, List, [], Option, Some, None}
 use Rattle.std.proofs.Common.{refl, sym, ap, ◌∙◌, subst, inl, inr}
 use Rattle.pin_classifier.specs.declared.class.Class.{Class}
 use Rattle.private_model.proofs.Pairs.{IsAlikeAfter, alike_after, alike_set, reset_session}
 use Rattle.private_model.proofs.Sessions.{apart, follows_after, follows_reset, is_empty, knows_after, or_left, or_right, plain_suits, read_knows, refused_reply, suits_after, suits_reset, suits_step, unpinned_harmless}
 use Rattle.private_model.proofs.Stands.{Follows, IfAlive, IsFree, IsJoined, IsPlain, IsTogether, Knows, Suits}
-use Rattle.private_model.proofs.Tame.{Tame, account_of, brings_id, flags}
+use Rattle.private_model.proofs.Tame.{SeesSame, Tame, account_of, brings_id, flags}
 use Rattle.private_model.specs.Commands.{Number, Account, Args, Command, FieldList, InitDb, Prepare, Query, Quit, ReadId, Reply, Reset, Run, SetId, Step, class_of, end_of, id_after, is_err, is_marked, is_ok, pin_statement}
 use Rattle.private_model.specs.Lawful.{Begins, GoesOn, IsOwnStep, IsStepOf, is_statement}
 use Rattle.private_model.specs.Story.{Due}
 use Rattle.private_model.specs.View.{Setup, is_quit, is_reset, told_after}
 use Rattle.private_model.specs.Worlds.{placed, readied}
 use Rattle.server_rule.specs.Classes.{Reads, core}
-use Rattle.server_rule.specs.Servers.{Accepts, Tests, is_some_of, with_diag, with_id}
+use Rattle.server_rule.specs.Servers.{Accepts, AgreeWhere, Tests, is_some_of, with_diag, with_id}
 use Rattle.server_rule.specs.declared.session.Session.{Session}
-use Rattle.session_state.specs.Classes.{frees, sets_autocommit, takes}
-use Rattle.session_state.specs.Pins.{deep_after, diag_after, is_pinned, no_pin, pin_answered, shows_none, tx_after}
+use Rattle.session_state.specs.Classes.{frees, leaves_diag, leaves_found, sets_autocommit, takes}
+use Rattle.session_state.specs.Endings.{warns}
+use Rattle.session_state.specs.Pins.{deep_after, is_pinned, no_pin, pin_answered, pin_prepared, shows_none, tx_after}
 use Rattle.session_state.specs.declared.names.SessionName.{SessionName}
 use Rattle.session_state.specs.declared.pin.Pin.{Pin}
 use Rattle.session_state.specs.declared.place.Told.{Told}
@@ -82,10 +83,11 @@ mark_of reads Quit e = e
 mark_of reads _ e = e
 
 -- A statement meets the session of its own.
-pub record IsMet (reads : Reads) (c : Command) (user : Account) (marked : Bool) (told : Told) (link_id : Option ℕ) (pin : Pin) (id : Option ℕ) (s p : Session) : Type 0 where
+pub record IsMet (tests : Tests) (reads : Reads) (c : Command) (user : Account) (marked : Bool) (told : Told) (link_id : Option ℕ) (pin : Pin) (id : Option ℕ) (s p : Session) : Type 0 where
   pub account : account_of s ≡ user
   pub rest : p ≡ with_diag p.diag (with_id p.last_id s)
-  pub diag : (class_of reads c).reads_diag ≡ true → p.diag ≡ s.diag
+  pub diag : SeesSame reads tests c p.diag s.diag
+  pub own : is_pinned pin ≡ true → AgreeWhere tests pin.own_diag pin.own_found p.diag s.diag
   pub marks : is_marked reads c ≡ true → p.last_id ≡ s.last_id
   pub last_id : marked ≡ true → p.last_id ≡ s.last_id
   pub follows : pin.deep ≡ false → Follows told s
@@ -98,15 +100,15 @@ agreed : (link_id id : Option ℕ) (n : ℕ) (s p : Session) → Knows link_id s
 agreed link_id id n s p a b link session = b.is n session ∙ sym (a.is n link)
 
 -- on a link that was lent to it
-pub met_lent : (setup : Setup) (n : SessionName) (due : Due) (user : Account) (told : Told) (link_id : Option ℕ) (live : ℕ → Option ℕ) (pin : Pin) (id : Option ℕ) (s p : Session)
+pub met_lent : (setup : Setup) (tests : Tests) (n : SessionName) (due : Due) (user : Account) (told : Told) (link_id : Option ℕ) (live : ℕ → Option ℕ) (pin : Pin) (id : Option ℕ) (s p : Session)
     → Begins setup n due user told link_id live pin id → IsFree user told link_id s → account_of p ≡ setup.accounts n.client → IsPlain p → Knows id p
-    → IsMet setup.reads due.command user false told link_id pin id s (readied due p)
-met_lent setup n due user told link_id live pin id s p begins free owner plain knows =
+    → IsMet tests setup.reads due.command user false told link_id pin id s (readied due p)
+met_lent setup tests n due user told link_id live pin id s p begins free owner plain knows =
     let place = due.place in
     let same_account : account_of p ≡ account_of s = owner ∙ sym begins.account ∙ sym free.account in
     let q = placed place p in
     let ready : readied due p ≡ q = ap (λ b. if b then placed place p else p) begins.anew in
-    subst (λ x. IsMet setup.reads due.command user false told link_id pin id s x) (sym ready) (record {
+    subst (λ x. IsMet tests setup.reads due.command user false told link_id pin id s x) (sym ready) (record {
       account = free.account;
       rest = session_by q (with_diag q.diag (with_id q.last_id s))
           (ap (λ (a : Account). a.user) same_account)
@@ -118,7 +120,8 @@ met_lent setup n due user told link_id live pin id s p begins free owner plain k
           (plain.locks ∙ sym free.plain.locks)
           (plain.deep ∙ sym free.plain.deep)
           refl;
-      diag = λ looks. apart looks begins.blind;
+      diag = record { warnings = λ looks. apart looks begins.blind; found = λ looks. apart looks begins.blind_found };
+      own = λ pinned. apart pinned begins.unpinned;
       marks = λ marking. knows.is begins.known begins.no_capture ∙ sym (free.knows.is begins.known (begins.marks marking ∙ begins.no_capture));
       last_id = λ e. apart e refl;
       follows = λ e. free.follows;
@@ -129,15 +132,19 @@ met_lent setup n due user told link_id live pin id s p begins free owner plain k
     })
 
 -- on the link that carries it
-pub met_joined : (setup : Setup) (due : Due) (user : Account) (marked : Bool) (told : Told) (link_id : Option ℕ) (live : ℕ → Option ℕ) (pin : Pin) (id : Option ℕ) (s p : Session)
-    → GoesOn setup due marked told link_id live pin id → IsTogether user marked told link_id pin s p → Knows id p → (id ≡ None → marked ≡ true)
-    → IsMet setup.reads due.command user marked told link_id pin id s (readied due p)
-met_joined setup due user marked told link_id live pin id s p goes_on together knows unknown =
+pub met_joined : (setup : Setup) (tests : Tests) (due : Due) (user : Account) (marked : Bool) (told : Told) (link_id : Option ℕ) (live : ℕ → Option ℕ) (pin : Pin) (id : Option ℕ) (s p : Session)
+    → GoesOn setup due marked told link_id live pin id → IsTogether tests user marked told link_id pin s p → Knows id p → (id ≡ None → marked ≡ true)
+    → IsMet tests setup.reads due.command user marked told link_id pin id s (readied due p)
+met_joined setup tests due user marked told link_id live pin id s p goes_on together knows unknown =
     let ready : readied due p ≡ p = ap (λ b. if b then placed due.place p else p) goes_on.anew in
-    subst (λ x. IsMet setup.reads due.command user marked told link_id pin id s x) (sym ready) (record {
+    subst (λ x. IsMet tests setup.reads due.command user marked told link_id pin id s x) (sym ready) (record {
       account = together.account;
       rest = together.rest;
-      diag = λ looks. together.diag goes_on.pinned;
+      diag = record {
+        warnings = λ looks. (together.diag goes_on.pinned).warnings (goes_on.reads.diag looks);
+        found = λ looks. (together.diag goes_on.pinned).found (goes_on.reads.found looks);
+      };
+      own = together.diag;
       marks = λ marking. elim (goes_on.marks marking) [
         | inl was ↦ together.last_id was
         | inr agree ↦ agreed link_id id agree.id s p together.knows knows agree.link agree.session
@@ -149,6 +156,29 @@ met_joined setup due user marked told link_id live pin id s p goes_on together k
       of_session = knows;
       unknown = unknown;
     })
+
+own_split : (leaves pinned own : Bool) → (leaves || (pinned && own)) ≡ true → (leaves ≡ true) ⊎ ((pinned ≡ true) × (own ≡ true))
+own_split true pinned own e = inl refl
+own_split false true own e = inr (refl, e)
+own_split false false own e = apart e refl
+
+-- the answer to a STMT_PREPARE
+
+prepared_diag : (class : Class) (multiplex : Option Bool) (reply : Reply) (pin : Pin) (err : Bool) → is_err reply ≡ err → (if err then pin_answered class multiplex (end_of reply) pin else pin_prepared class (end_of reply) pin).own_diag ≡ true
+    → (warns (end_of reply) ≡ true) ⊎ ((is_pinned pin ≡ true) × (pin.own_diag ≡ true))
+prepared_diag class multiplex reply pin true is e = inl (ap (λ b. b || nat_lt 0 (end_of reply).warnings) is)
+prepared_diag class multiplex reply pin false is e = own_split (warns (end_of reply)) (is_pinned pin) pin.own_diag e
+
+none_found : (keeps err : Bool) → err ≡ true → (not keeps && not err) ≡ false
+none_found true err is = refl
+none_found false true is = refl
+none_found false false is = sym is
+
+prepared_found : (class : Class) (multiplex : Option Bool) (reply : Reply) (pin : Pin) (err : Bool) → is_err reply ≡ err → (if err then pin_answered class multiplex (end_of reply) pin else pin_prepared class (end_of reply) pin).own_found ≡ true
+    → (false ≡ true) ⊎ ((is_pinned pin ≡ true) × (pin.own_found ≡ true))
+prepared_found class multiplex reply pin true is e =
+    own_split false (is_pinned pin) pin.own_found (sym (ap (λ b. b || (is_pinned pin && pin.own_found)) (none_found class.keeps_found (is_err reply) is)) ∙ e)
+prepared_found class multiplex reply pin false is e = own_split false (is_pinned pin) pin.own_found e
 
 or_marked : (marks marked : Bool) → (marks || marked) ≡ true → (marks ≡ true) ⊎ (marked ≡ true)
 or_marked true marked e = inl refl
@@ -217,10 +247,10 @@ module _ (reads : Reads) (step : Step) (tests : Tests) (tame : Tame reads tests 
       }
 
   suits_prepared : (text : List ℕ) (class : Class) (multiplex : Option Bool) (reply : Reply) (pin : Pin) → Suits pin p → (err : Bool) → is_err reply ≡ err
-      → Suits (if err then pin_answered class multiplex (end_of reply) pin else record pin { diag = diag_after class (end_of reply) pin }) (step stored p (Prepare text)).session
+      → Suits (if err then pin_answered class multiplex (end_of reply) pin else pin_prepared class (end_of reply) pin) (step stored p (Prepare text)).session
   suits_prepared text class multiplex reply pin suits true is = subst (λ x. Suits (pin_answered class multiplex (end_of reply) pin) x) (sym (tame.prepare.session stored p ok_p text))
       (let same = suits_refused class multiplex pin suits reply is in record { tx = same.tx; locks = same.locks; brief = same.brief; none = same.none; ended = same.ended })
-  suits_prepared text class multiplex reply pin suits false is = subst (λ x. Suits (record pin { diag = diag_after class (end_of reply) pin }) x) (sym (tame.prepare.session stored p ok_p text))
+  suits_prepared text class multiplex reply pin suits false is = subst (λ x. Suits (pin_prepared class (end_of reply) pin) x) (sym (tame.prepare.session stored p ok_p text))
       (record { tx = suits.tx; locks = suits.locks; brief = suits.brief; none = suits.none; ended = suits.ended })
 
   suits_statement : (c : Command) (multiplex : Option Bool) (pin : Pin) → Suits pin p → Suits (pin_statement reads c multiplex (step stored p c).reply pin) (step stored p c).session
@@ -237,7 +267,7 @@ module _ (reads : Reads) (step : Step) (tests : Tests) (tame : Tame reads tests 
   shallow_after : (class : Class) (pin : Pin) → deep_after class pin ≡ false → (pin.deep ≡ false) × (class.deep ≡ false)
   shallow_after class pin e = (or_left pin.deep _ e, or_left class.deep _ (or_right pin.deep _ e))
 
-  shallow_prepared : (class : Class) (multiplex : Option Bool) (reply : Reply) (pin : Pin) (err : Bool) → (if err then pin_answered class multiplex (end_of reply) pin else record pin { diag = diag_after class (end_of reply) pin }).deep ≡ false → (pin.deep ≡ false) × (false ≡ false)
+  shallow_prepared : (class : Class) (multiplex : Option Bool) (reply : Reply) (pin : Pin) (err : Bool) → (if err then pin_answered class multiplex (end_of reply) pin else pin_prepared class (end_of reply) pin).deep ≡ false → (pin.deep ≡ false) × (false ≡ false)
   shallow_prepared class multiplex reply pin true e = (or_left pin.deep _ e, refl)
   shallow_prepared class multiplex reply pin false e = (e, refl)
 
@@ -252,47 +282,82 @@ module _ (reads : Reads) (step : Step) (tests : Tests) (tame : Tame reads tests 
   shallow_before Reset multiplex reply pin e = shallow_after (class_of reads Reset) pin e
   shallow_before Quit multiplex reply pin e = shallow_after (class_of reads Quit) pin e
 
-  pub met_alike : (c : Command) (user : Account) (marked : Bool) (told : Told) (link_id : Option ℕ) (pin : Pin) (id : Option ℕ) → IsMet reads c user marked told link_id pin id s p → IsAlikeAfter (p.last_id ≡ s.last_id) (step stored p c) (step stored s c)
+  pub met_alike : (c : Command) (user : Account) (marked : Bool) (told : Told) (link_id : Option ℕ) (pin : Pin) (id : Option ℕ) → IsMet tests reads c user marked told link_id pin id s p → IsAlikeAfter reads tests c p s (step stored p c) (step stored s c)
   met_alike c user marked told link_id pin id met = alike_after reads step tests tame stored s p ok ok_p met.rest c met.diag (λ e. met.marks (mark_of reads c e))
+
+  -- what is its session's own behind it is its own, or was the session's before
+
+  pub own_diag_by : (c : Command) (multiplex : Option Bool) (reply : Reply) (pin : Pin) → (pin_statement reads c multiplex reply pin).own_diag ≡ true
+      → (leaves_diag (class_of reads c) (end_of reply) ≡ true) ⊎ ((is_pinned pin ≡ true) × (pin.own_diag ≡ true))
+  own_diag_by (Prepare text) multiplex reply pin e = prepared_diag (reads.class text) multiplex reply pin (is_err reply) refl e
+  own_diag_by (Query text) multiplex reply pin e = own_split (leaves_diag (class_of reads (Query text)) (end_of reply)) (is_pinned pin) pin.own_diag e
+  own_diag_by (InitDb schema) multiplex reply pin e = own_split (leaves_diag (class_of reads (InitDb schema)) (end_of reply)) (is_pinned pin) pin.own_diag e
+  own_diag_by (FieldList rest) multiplex reply pin e = own_split (leaves_diag (class_of reads (FieldList rest)) (end_of reply)) (is_pinned pin) pin.own_diag e
+  own_diag_by (SetId n) multiplex reply pin e = own_split (leaves_diag (class_of reads (SetId n)) (end_of reply)) (is_pinned pin) pin.own_diag e
+  own_diag_by ReadId multiplex reply pin e = own_split (leaves_diag (class_of reads ReadId) (end_of reply)) (is_pinned pin) pin.own_diag e
+  own_diag_by (Run text schema settings args) multiplex reply pin e = own_split (leaves_diag (class_of reads (Run text schema settings args)) (end_of reply)) (is_pinned pin) pin.own_diag e
+  own_diag_by Reset multiplex reply pin e = own_split (leaves_diag (class_of reads Reset) (end_of reply)) (is_pinned pin) pin.own_diag e
+  own_diag_by Quit multiplex reply pin e = own_split (leaves_diag (class_of reads Quit) (end_of reply)) (is_pinned pin) pin.own_diag e
+
+  pub own_found_by : (c : Command) (multiplex : Option Bool) (reply : Reply) (pin : Pin) → (pin_statement reads c multiplex reply pin).own_found ≡ true
+      → (leaves_found (class_of reads c) (end_of reply) ≡ true) ⊎ ((is_pinned pin ≡ true) × (pin.own_found ≡ true))
+  own_found_by (Prepare text) multiplex reply pin e = prepared_found (reads.class text) multiplex reply pin (is_err reply) refl e
+  own_found_by (Query text) multiplex reply pin e = own_split (leaves_found (class_of reads (Query text)) (end_of reply)) (is_pinned pin) pin.own_found e
+  own_found_by (InitDb schema) multiplex reply pin e = own_split (leaves_found (class_of reads (InitDb schema)) (end_of reply)) (is_pinned pin) pin.own_found e
+  own_found_by (FieldList rest) multiplex reply pin e = own_split (leaves_found (class_of reads (FieldList rest)) (end_of reply)) (is_pinned pin) pin.own_found e
+  own_found_by (SetId n) multiplex reply pin e = own_split (leaves_found (class_of reads (SetId n)) (end_of reply)) (is_pinned pin) pin.own_found e
+  own_found_by ReadId multiplex reply pin e = own_split (leaves_found (class_of reads ReadId) (end_of reply)) (is_pinned pin) pin.own_found e
+  own_found_by (Run text schema settings args) multiplex reply pin e = own_split (leaves_found (class_of reads (Run text schema settings args)) (end_of reply)) (is_pinned pin) pin.own_found e
+  own_found_by Reset multiplex reply pin e = own_split (leaves_found (class_of reads Reset) (end_of reply)) (is_pinned pin) pin.own_found e
+  own_found_by Quit multiplex reply pin e = own_split (leaves_found (class_of reads Quit) (end_of reply)) (is_pinned pin) pin.own_found e
 
   -- and leaves the two together
   pub met_after : (c : Command) (multiplex : Option Bool) (user : Account) (marked : Bool) (told : Told) (link_id : Option ℕ) (pin : Pin) (id : Option ℕ) → is_statement c ≡ true
-      → IsMet reads c user marked told link_id pin id s p
-      → IsJoined (not (is_quit c)) user (is_marked reads c || marked) (told_after reads c (step stored s c).reply told) (id_after reads c (step stored s c).reply link_id)
+      → IsMet tests reads c user marked told link_id pin id s p
+      → IsJoined tests (not (is_quit c)) user (is_marked reads c || marked) (told_after reads c (step stored s c).reply told) (id_after reads c (step stored s c).reply link_id)
       (pin_statement reads c multiplex (step stored s c).reply pin) (id_after reads c (step stored s c).reply id) (step stored s c).session (step stored p c).session
   met_after c multiplex user marked told link_id pin id statement met =
       let class = class_of reads c in
       let after = met_alike c user marked told link_id pin id met in
       let reply = (step stored s c).reply in
-      let together : IsTogether user (is_marked reads c || marked) (told_after reads c reply told) (id_after reads c reply link_id) (pin_statement reads c multiplex reply pin) (step stored s c).session (step stored p c).session =
+      let together : IsTogether tests user (is_marked reads c || marked) (told_after reads c reply told) (id_after reads c reply link_id) (pin_statement reads c multiplex reply pin) (step stored s c).session (step stored p c).session =
       record {
         account = tame.account stored s ok c ∙ met.account;
         rest = after.alike.rest;
-        diag = λ e. after.alike.diag;
+        diag = λ e. record {
+          warnings = λ own. elim (own_diag_by c multiplex reply pin own) [
+            | inl leaves ↦ after.warnings (λ none. apart leaves none)
+            | inr was ↦ after.warnings (λ none. (met.own was.0).warnings was.1)
+          ];
+          found = λ own. elim (own_found_by c multiplex reply pin own) [
+            | inl leaves ↦ after.found (λ none. apart leaves none)
+            | inr was ↦ after.found (λ none. (met.own was.0).found was.1)
+          ];
+        };
         last_id = λ e. after.last_id (elim (or_marked (is_marked reads c) marked e) [ inl marking ↦ met.marks marking | inr was ↦ met.last_id was ]);
         follows = λ e. let was = shallow_before c multiplex reply pin e in follows_after reads step tests tame stored s ok c told (no_reset c statement) was.1 (met.follows was.0);
         knows = knows_after reads step tests tame stored s ok c link_id met.knows;
         suits = subst (λ r. Suits (pin_statement reads c multiplex r pin) (step stored p c).session) after.alike.reply (suits_statement c multiplex pin met.suits);
       } in
       record {
-        session = subst (λ b. IfAlive b (IsTogether user (is_marked reads c || marked) (told_after reads c reply told) (id_after reads c reply link_id) (pin_statement reads c multiplex reply pin) (step stored s c).session (step stored p c).session) (IsPlain (step stored p c).session)) (sym (no_quit c statement)) together;
+        session = subst (λ b. IfAlive b (IsTogether tests user (is_marked reads c || marked) (told_after reads c reply told) (id_after reads c reply link_id) (pin_statement reads c multiplex reply pin) (step stored s c).session (step stored p c).session) (IsPlain (step stored p c).session)) (sym (no_quit c statement)) together;
         knows = subst (λ r. Knows (id_after reads c r id) (step stored p c).session) after.alike.reply (knows_after reads step tests tame stored p ok_p c id met.of_session);
         unknown = unknown_after c statement reply marked id met.unknown;
       }
 
   -- A step in a session.
 
-  step_joined : (c : Command) (user : Account) (marked : Bool) (told : Told) (link_id : Option ℕ) (pin : Pin) (id : Option ℕ) → IsTogether user marked told link_id pin s p → Knows id p
-      → IsAlikeAfter (p.last_id ≡ s.last_id) (step stored p c) (step stored s c) → is_reset c ≡ false
+  step_joined : (c : Command) (user : Account) (marked : Bool) (told : Told) (link_id : Option ℕ) (pin : Pin) (id : Option ℕ) → is_pinned pin ≡ true → IsTogether tests user marked told link_id pin s p → Knows id p
+      → IsAlikeAfter reads tests c p s (step stored p c) (step stored s c) → is_reset c ≡ false
       → (class_of reads c).deep ≡ false → takes (class_of reads c) ≡ false → (class_of reads c).next_tx ≡ false → (class_of reads c).savepoint ≡ false → (pin.after_err ≡ false → (step stored p c).session.tx ≡ p.tx)
       → (id_after reads c (step stored s c).reply id ≡ None → marked ≡ true)
-      → IsJoined true user marked (told_after reads c (step stored s c).reply told) (id_after reads c (step stored s c).reply link_id)
+      → IsJoined tests true user marked (told_after reads c (step stored s c).reply told) (id_after reads c (step stored s c).reply link_id)
       (record pin { after_err = pin.after_err || is_err (step stored s c).reply }) (id_after reads c (step stored s c).reply id) (step stored s c).session (step stored p c).session
-  step_joined c user marked told link_id pin id together knows after no_reset shallow takes next savepoint calm unknown = record {
+  step_joined c user marked told link_id pin id pinned together knows after no_reset shallow takes next savepoint calm unknown = record {
     session = record {
       account = tame.account stored s ok c ∙ together.account;
       rest = after.alike.rest;
-      diag = λ e. after.alike.diag;
+      diag = λ e. record { warnings = λ own. after.warnings (λ none. (together.diag pinned).warnings own); found = λ own. after.found (λ none. (together.diag pinned).found own) };
       last_id = λ e. after.last_id (together.last_id e);
       follows = λ was. follows_after reads step tests tame stored s ok c told no_reset shallow (together.follows was);
       knows = knows_after reads step tests tame stored s ok c link_id together.knows;
@@ -314,43 +379,43 @@ module _ (reads : Reads) (step : Step) (tests : Tests) (tame : Tame reads tests 
   set_unknown k true id known marked e = cc
   set_unknown k false id known marked e = cc
 
-  pub step_after : (c : Command) (user : Account) (marked : Bool) (told : Told) (link_id : Option ℕ) (pin : Pin) (id : Option ℕ) → IsStepOf reads c pin id → IsTogether user marked told link_id pin s p → Knows id p → (id ≡ None → marked ≡ true)
-      → IsAlikeAfter (p.last_id ≡ s.last_id) (step stored p c) (step stored s c)
-      × IsJoined (not (is_quit c)) user marked (told_after reads c (step stored s c).reply told) (id_after reads c (step stored s c).reply link_id)
+  pub step_after : (c : Command) (user : Account) (marked : Bool) (told : Told) (link_id : Option ℕ) (pin : Pin) (id : Option ℕ) → is_pinned pin ≡ true → IsStepOf reads c pin id → IsTogether tests user marked told link_id pin s p → Knows id p → (id ≡ None → marked ≡ true)
+      → IsAlikeAfter reads tests c p s (step stored p c) (step stored s c)
+      × IsJoined tests (not (is_quit c)) user marked (told_after reads c (step stored s c).reply told) (id_after reads c (step stored s c).reply link_id)
       (record pin { after_err = pin.after_err || is_err (step stored s c).reply }) (id_after reads c (step stored s c).reply id) (step stored s c).session (step stored p c).session
-  step_after (InitDb schema) user marked told link_id pin id fits together knows unknown =
+  step_after (InitDb schema) user marked told link_id pin id pinned fits together knows unknown =
       let c = InitDb schema in
-      let after = alike_after reads step tests tame stored s p ok ok_p together.rest c (λ e. apart e refl) (λ e. apart e refl) in
-      (after, step_joined c user marked told link_id pin id together knows after refl refl refl refl refl (λ fine. ap (λ (x : Session). x.tx) (tame.uses.session stored p ok_p c schema refl)) unknown)
-  step_after (SetId k) user marked told link_id pin id fits together knows unknown =
+      let after = alike_after reads step tests tame stored s p ok ok_p together.rest c (record { warnings = λ e. apart e refl; found = λ e. apart e refl }) (λ e. apart e refl) in
+      (after, step_joined c user marked told link_id pin id pinned together knows after refl refl refl refl refl (λ fine. ap (λ (x : Session). x.tx) (tame.uses.session stored p ok_p c schema refl)) unknown)
+  step_after (SetId k) user marked told link_id pin id pinned fits together knows unknown =
       let c = SetId k in
       let after = alike_set reads step tests tame stored s p ok ok_p together.rest k in
-      (after, step_joined c user marked told link_id pin id together knows after refl refl refl refl refl (λ fine. set_tx k _ refl) (set_unknown k (is_ok (step stored s c).reply) id fits marked))
-  step_after (Query text) user marked told link_id pin id fits together knows unknown =
+      (after, step_joined c user marked told link_id pin id pinned together knows after refl refl refl refl refl (λ fine. set_tx k _ refl) (set_unknown k (is_ok (step stored s c).reply) id fits marked))
+  step_after (Query text) user marked told link_id pin id pinned fits together knows unknown =
       let c = Query text in
-      let after = alike_after reads step tests tame stored s p ok ok_p together.rest c (λ e. apart e fits.blind) (λ e. apart e fits.unmarked) in (
+      let after = alike_after reads step tests tame stored s p ok ok_p together.rest c (record { warnings = λ e. apart e fits.blind; found = λ e. apart e fits.blind_found }) (λ e. apart e fits.unmarked) in (
         after,
-        step_joined c user marked told link_id pin id together knows after refl fits.shallow fits.no_locks fits.next_tx fits.savepoint
+        step_joined c user marked told link_id pin id pinned together knows after refl fits.shallow fits.no_locks fits.next_tx fits.savepoint
             (λ fine. tame.tracked.calm_tx stored p ok_p c fits.changes fits.effect (calm_by pin (sets_autocommit fits.changes) together.suits fits.calm fine))
             (λ e. unknown (sym (ap (λ b. if (b && ((reads.class text).deep || (reads.hides_id text || brings_id (step stored s c).reply))) then None else id) fits.unmarked) ∙ e)),
       )
-  step_after _ user marked told link_id pin id fits together knows unknown = absurd fits
+  step_after _ user marked told link_id pin id pinned fits together knows unknown = absurd fits
 
   -- A preparation in a session, and on a link on the way to a statement.
 
-  pub prep_after : (text : List ℕ) (user : Account) (marked : Bool) (told : Told) (link_id : Option ℕ) (pin : Pin) (id : Option ℕ) → is_pinned pin ≡ true → IsTogether user marked told link_id pin s p → Knows id p → (id ≡ None → marked ≡ true)
-      → IsAlikeAfter (p.last_id ≡ s.last_id) (step stored p (Prepare text)) (step stored s (Prepare text))
-      × IsJoined true user marked (told_after reads (Prepare text) (step stored s (Prepare text)).reply told) link_id
+  pub prep_after : (text : List ℕ) (user : Account) (marked : Bool) (told : Told) (link_id : Option ℕ) (pin : Pin) (id : Option ℕ) → is_pinned pin ≡ true → IsTogether tests user marked told link_id pin s p → Knows id p → (id ≡ None → marked ≡ true)
+      → IsAlikeAfter reads tests (Prepare text) p s (step stored p (Prepare text)) (step stored s (Prepare text))
+      × IsJoined tests true user marked (told_after reads (Prepare text) (step stored s (Prepare text)).reply told) link_id
       (if is_pinned pin then record pin { after_err = pin.after_err || is_err (step stored s (Prepare text)).reply } else pin) id (step stored s (Prepare text)).session (step stored p (Prepare text)).session
   prep_after text user marked told link_id pin id pinned together knows unknown =
       let c = Prepare text in
       let reply = (step stored s c).reply in
-      let after = alike_after reads step tests tame stored s p ok ok_p together.rest c (λ e. together.diag pinned) (λ e. apart e refl) in
-      let joined : IsJoined true user marked (told_after reads c reply told) link_id (record pin { after_err = pin.after_err || is_err reply }) id (step stored s c).session (step stored p c).session = record {
+      let after = alike_after reads step tests tame stored s p ok ok_p together.rest c (record { warnings = λ e. apart e refl; found = λ e. apart e refl }) (λ e. apart e refl) in
+      let joined : IsJoined tests true user marked (told_after reads c reply told) link_id (record pin { after_err = pin.after_err || is_err reply }) id (step stored s c).session (step stored p c).session = record {
         session = record {
           account = tame.account stored s ok c ∙ together.account;
           rest = after.alike.rest;
-          diag = λ e. after.alike.diag;
+          diag = λ e. record { warnings = λ own. after.warnings (λ none. (together.diag pinned).warnings own); found = λ own. after.found (λ none. (together.diag pinned).found own) };
           last_id = λ e. after.last_id (together.last_id e);
           follows = λ was. follows_after reads step tests tame stored s ok c told refl refl (together.follows was);
           knows = record { is = λ n e. ap (λ (x : Session). x.last_id) (tame.prepare.session stored s ok text) ∙ together.knows.is n e };
@@ -360,12 +425,12 @@ module _ (reads : Reads) (step : Step) (tests : Tests) (tame : Tame reads tests 
         knows = record { is = λ n e. ap (λ (x : Session). x.last_id) (tame.prepare.session stored p ok_p text) ∙ knows.is n e };
         unknown = unknown;
       } in
-      (after, subst (λ b. IsJoined true user marked (told_after reads c reply told) link_id (if b then record pin { after_err = pin.after_err || is_err reply } else pin) id (step stored s c).session (step stored p c).session) (sym pinned) joined)
+      (after, subst (λ b. IsJoined tests true user marked (told_after reads c reply told) link_id (if b then record pin { after_err = pin.after_err || is_err reply } else pin) id (step stored s c).session (step stored p c).session) (sym pinned) joined)
 
   -- The end of a session.
 
-  pub end_after : (user : Account) (marked : Bool) (told : Told) (link_id : Option ℕ) (pin : Pin) (id : Option ℕ) → tests.lasts p.deep ≡ false → IsTogether user marked told link_id pin s p
-      → IsJoined true user marked (told_after reads Reset (step stored s Reset).reply told) (id_after reads Reset (step stored s Reset).reply link_id) no_pin (id_after reads Reset (step stored s Reset).reply id) (step stored s Reset).session (step stored p Reset).session
+  pub end_after : (user : Account) (marked : Bool) (told : Told) (link_id : Option ℕ) (pin : Pin) (id : Option ℕ) → tests.lasts p.deep ≡ false → IsTogether tests user marked told link_id pin s p
+      → IsJoined tests true user marked (told_after reads Reset (step stored s Reset).reply told) (id_after reads Reset (step stored s Reset).reply link_id) no_pin (id_after reads Reset (step stored s Reset).reply id) (step stored s Reset).session (step stored p Reset).session
   end_after user marked told link_id pin id lasts together =
       let mine : (step stored p Reset).session.deep ≡ [] = tame.reset.deep stored p ok_p lasts in
       let there : (step stored s Reset).session.deep ≡ [] = tame.reset.deep stored s ok (subst (λ d. tests.lasts d ≡ false) (ap (λ (x : Session). x.deep) together.rest) lasts) in
@@ -374,7 +439,7 @@ module _ (reads : Reads) (step : Step) (tests : Tests) (tame : Tame reads tests 
         session = record {
           account = tame.account stored s ok Reset ∙ together.account;
           rest = subst (λ x. x ≡ with_diag x.diag (with_id x.last_id (step stored s Reset).session)) (sym same) refl;
-          diag = λ e. ap (λ (x : Session). x.diag) same;
+          diag = λ e. record { warnings = λ own. ap (λ (x : Session). tests.warnings x.diag) same; found = λ own. ap (λ (x : Session). tests.found x.diag) same };
           last_id = λ e. ap (λ (x : Session). x.last_id) same;
           follows = λ e. follows_reset reads step tests tame stored s ok;
           knows = record { is = λ n e. ap (λ (x : Session). x.last_id) (tame.reset.session stored s ok) ∙ zero_is n e };
@@ -389,8 +454,8 @@ module _ (reads : Reads) (step : Step) (tests : Tests) (tame : Tame reads tests 
 
   -- The question for the insert id is asked of the link alone.
 
-  pub capture_after : (user : Account) (marked : Bool) (told : Told) (link_id : Option ℕ) (pin : Pin) (id : Option ℕ) → is_pinned pin ≡ false → id ≡ None → IsTogether user marked told link_id pin s p → (id ≡ None → marked ≡ true)
-      → IsJoined true user marked (told_after reads ReadId (step stored s ReadId).reply told) (id_after reads ReadId (step stored s ReadId).reply link_id) pin (id_after reads ReadId (step stored s ReadId).reply id) (step stored s ReadId).session p
+  pub capture_after : (user : Account) (marked : Bool) (told : Told) (link_id : Option ℕ) (pin : Pin) (id : Option ℕ) → is_pinned pin ≡ false → id ≡ None → IsTogether tests user marked told link_id pin s p → (id ≡ None → marked ≡ true)
+      → IsJoined tests true user marked (told_after reads ReadId (step stored s ReadId).reply told) (id_after reads ReadId (step stored s ReadId).reply link_id) pin (id_after reads ReadId (step stored s ReadId).reply id) (step stored s ReadId).session p
   capture_after user marked told link_id pin id unpinned none together unknown =
       let s' = (step stored s ReadId).session in
       let read : s' ≡ with_diag s'.diag s = tame.id.read_session stored s ok in

@@ -44,8 +44,8 @@ module _ (setup : Setup) (tests : Tests) (view : View) (real : Real) (private : 
   pub tabled_at : (carried : Carried) → (view.links number).carries ≡ carried → AreTabledBy setup carried (view.links number) (real.peers number) view.held private.tables
   tabled_at carried is = subst (λ c. AreTabledBy setup c (view.links number) (real.peers number) view.held private.tables) is (are.on number)
 
-  pub stands_at : (carried : Carried) → (view.links number).carries ≡ carried → IsAtBy setup carried number (view.links number) (real.peers number) view.held private.sessions
-  stands_at carried is = subst (λ c. IsAtBy setup c number (view.links number) (real.peers number) view.held private.sessions) is (stands.links number)
+  pub stands_at : (carried : Carried) → (view.links number).carries ≡ carried → IsAtBy setup tests carried number (view.links number) (real.peers number) view.held private.sessions
+  stands_at carried is = subst (λ c. IsAtBy setup tests c number (view.links number) (real.peers number) view.held private.sessions) is (stands.links number)
 
   pub others_held : (key : SessionName) (h : Held) → ((j : LinkId) → is_link_id j number ≡ false → (view.held key).home ≡ Some j → ⊥)
       → (j : LinkId) → is_link_id j number ≡ false → AreTabledBy setup (view.links j).carries (view.links j) (real.peers j) (put is_name view.held key h) private.tables
@@ -158,7 +158,7 @@ module _ (setup : Setup) (tests : Tests) (view : View) (real : Real) (private : 
       (heard_named n question (Joined n) carries (stands_at (Joined n) carries).home
       (subst (λ x. IfAlive (real.peers number).alive (AreMatched setup (soon_live (quieted l.stage) a (soon_live l.stage a l.live)) (soon_pin setup.reads (quieted l.stage) a x.pin).deep t (private.tables n)) ((soon_pin setup.reads (quieted l.stage) a x.pin).deep ≡ false → IsUsual setup (private.tables n))) (sym (put-same names view.held n h)) next))
 
-  heard_tabled : (question : Question) → (view.links number).stage ≡ Answered question → (carried : Carried) → (view.links number).carries ≡ carried → IsAtBy setup carried number (view.links number) (real.peers number) view.held private.sessions
+  heard_tabled : (question : Question) → (view.links number).stage ≡ Answered question → (carried : Carried) → (view.links number).carries ≡ carried → IsAtBy setup tests carried number (view.links number) (real.peers number) view.held private.sessions
       → AreTabled setup (put is_link_id view.links number (heard setup.reads (real.peers number).answer (view.links number))) real.peers (held_by setup.reads question (real.peers number).answer view.held) private.tables
   heard_tabled (Own c) ran Nobody carries at = heard_still Nobody carries (heard_kept (Own c) ran (tabled_at Nobody carries))
   heard_tabled _ ran Nobody carries at = absurd (subst (IsAskedFree setup.reads) ran at.asked)

@@ -25,20 +25,20 @@ sessions_elsewhere : (key : SessionName) (held : SessionName → Held) (sessions
 sessions_elsewhere key held sessions s = record { keeps_held = λ n e. refl; keeps_session = λ n e. put-other names sessions key s n e }
 
 -- A statement that is to run meets its session.
-pub record IsMetThere (setup : Setup) (number : LinkId) (due : Due) (link : Link) (held : Held) (s p : Session) : Type 0 where
+pub record IsMetThere (setup : Setup) (tests : Tests) (number : LinkId) (due : Due) (link : Link) (held : Held) (s p : Session) : Type 0 where
   pub home : held.home ≡ Some number
   pub statement : is_statement due.command ≡ true
   pub keyed : IsKeyed setup due.command due.key link.told link.live
   pub placed : IsPlaced link.told due.place
-  pub met : IsMet setup.reads due.command link.account link.marked link.told link.id held.pin held.id s (readied due p)
+  pub met : IsMet tests setup.reads due.command link.account link.marked link.told link.id held.pin held.id s (readied due p)
 
 -- nothing runs on a link that was dropped
 pub dead_runs : {A : Type 0} {b : Bool} → b ≡ false → b ≡ true → A
 dead_runs dead lives = absurd (cc)
 
-met_of_lent : (setup : Setup) (number : LinkId) (n : SessionName) (due : Due) (link : Link) (peer : Peer) (held : Held) (p : Session) → IsLentLink setup number n link peer held p → peer.alive ≡ true → link.stage ≡ Asked (Statement n due) → account_of p ≡ setup.accounts n.client
-    → IsMetThere setup number due link held peer.session p
-met_of_lent setup number n due link peer held p lent alive ran owner =
+met_of_lent : (setup : Setup) (tests : Tests) (number : LinkId) (n : SessionName) (due : Due) (link : Link) (peer : Peer) (held : Held) (p : Session) → IsLentLink setup number n link peer held p → peer.alive ≡ true → link.stage ≡ Asked (Statement n due) → account_of p ≡ setup.accounts n.client
+    → IsMetThere setup tests number due link held peer.session p
+met_of_lent setup tests number n due link peer held p lent alive ran owner =
     let begins = (subst (λ st. IsAskedLent setup n st link.account link.told link.id link.live held) ran lent.asked).begins in
     let free = subst (λ b. IfAlive b (IsFree link.account link.told link.id peer.session) (Unit {0})) alive
     (subst (λ st. IfAlive peer.alive (IsFree link.account (soon_told setup.reads st peer.answer link.told) (soon_id setup.reads st peer.answer link.id) peer.session) (Unit {0})) ran lent.session) in
@@ -47,61 +47,61 @@ met_of_lent setup number n due link peer held p lent alive ran owner =
       statement = begins.statement;
       keyed = begins.keyed;
       placed = begins.placed;
-      met = subst (λ b. IsMet setup.reads due.command link.account b link.told link.id held.pin held.id peer.session (readied due p)) (sym lent.unmarked)
-          (met_lent setup n due link.account link.told link.id link.live held.pin held.id peer.session p begins free owner lent.plain lent.id);
+      met = subst (λ b. IsMet tests setup.reads due.command link.account b link.told link.id held.pin held.id peer.session (readied due p)) (sym lent.unmarked)
+          (met_lent setup tests n due link.account link.told link.id link.live held.pin held.id peer.session p begins free owner lent.plain lent.id);
     }
 
 -- what is known of a joined link where nothing is foreseen
-asked_joined : (reads : Reads) (link : Link) (there : Bool) (answer : Reply) (pin : Pin) (id : Option ℕ) (s p : Session) (question : Question) → there ≡ true → link.stage ≡ Asked question
-    → IsJoined there link.account link.marked (soon_told reads link.stage answer link.told) (soon_id reads link.stage answer link.id) (soon_pin reads link.stage answer pin) (soon_id reads link.stage answer id) s p
-    → IsJoined true link.account link.marked link.told link.id pin id s p
-asked_joined reads link there answer pin id s p question alive ran joined =
-    subst (λ b. IsJoined b link.account link.marked link.told link.id pin id s p) alive
-    (subst (λ st. IsJoined there link.account link.marked (soon_told reads st answer link.told) (soon_id reads st answer link.id) (soon_pin reads st answer pin) (soon_id reads st answer id) s p) ran joined)
+asked_joined : (tests : Tests) (reads : Reads) (link : Link) (there : Bool) (answer : Reply) (pin : Pin) (id : Option ℕ) (s p : Session) (question : Question) → there ≡ true → link.stage ≡ Asked question
+    → IsJoined tests there link.account link.marked (soon_told reads link.stage answer link.told) (soon_id reads link.stage answer link.id) (soon_pin reads link.stage answer pin) (soon_id reads link.stage answer id) s p
+    → IsJoined tests true link.account link.marked link.told link.id pin id s p
+asked_joined tests reads link there answer pin id s p question alive ran joined =
+    subst (λ b. IsJoined tests b link.account link.marked link.told link.id pin id s p) alive
+    (subst (λ st. IsJoined tests there link.account link.marked (soon_told reads st answer link.told) (soon_id reads st answer link.id) (soon_pin reads st answer pin) (soon_id reads st answer id) s p) ran joined)
 
-met_of_joined : (setup : Setup) (number : LinkId) (n : SessionName) (due : Due) (link : Link) (peer : Peer) (held : Held) (p : Session) → IsJoinedLink setup number n link peer held p → peer.alive ≡ true → link.stage ≡ Asked (Statement n due)
-    → IsMetThere setup number due link held peer.session p
-met_of_joined setup number n due link peer held p is alive ran =
+met_of_joined : (setup : Setup) (tests : Tests) (number : LinkId) (n : SessionName) (due : Due) (link : Link) (peer : Peer) (held : Held) (p : Session) → IsJoinedLink setup tests number n link peer held p → peer.alive ≡ true → link.stage ≡ Asked (Statement n due)
+    → IsMetThere setup tests number due link held peer.session p
+met_of_joined setup tests number n due link peer held p is alive ran =
     let going = subst (λ st. IsAskedJoined setup n st link.marked link.told link.id link.live held) ran is.asked in
-    let joined = asked_joined setup.reads link peer.alive peer.answer held.pin held.id peer.session p (Statement n due) alive ran is.joined in
+    let joined = asked_joined tests setup.reads link peer.alive peer.answer held.pin held.id peer.session p (Statement n due) alive ran is.joined in
     record {
       home = is.home;
       statement = going.goes_on.statement;
       keyed = going.goes_on.keyed;
       placed = going.goes_on.placed;
-      met = met_joined setup due link.account link.marked link.told link.id link.live held.pin held.id peer.session p going.goes_on joined.session joined.knows joined.unknown;
+      met = met_joined setup tests due link.account link.marked link.told link.id link.live held.pin held.id peer.session p going.goes_on joined.session joined.knows joined.unknown;
     }
 
 -- Of what is asked on a link: a statement is of the session that it carries, and so is every other command but the router's own.
-pub statement_name : (setup : Setup) (number : LinkId) (carried : Carried) (link : Link) (peer : Peer) (held : SessionName → Held) (sessions : SessionName → Session) → IsAtBy setup carried number link peer held sessions → (m : SessionName) (due : Due) → link.stage ≡ Asked (Statement m due)
+pub statement_name : (setup : Setup) (tests : Tests) (number : LinkId) (carried : Carried) (link : Link) (peer : Peer) (held : SessionName → Held) (sessions : SessionName → Session) → IsAtBy setup tests carried number link peer held sessions → (m : SessionName) (due : Due) → link.stage ≡ Asked (Statement m due)
     → (carried ≡ Lent m) ⊎ (carried ≡ Joined m)
-statement_name setup number Nobody link peer held sessions is m due ran = absurd (subst (IsAskedFree setup.reads) ran is.asked)
-statement_name setup number (Lent n) link peer held sessions is m due ran = let there = subst (λ st. IsAskedLent setup n st link.account link.told link.id link.live (held n)) ran is.asked in inl (ap Lent (sym there.same))
-statement_name setup number (Joined n) link peer held sessions is m due ran = let there = subst (λ st. IsAskedJoined setup n st link.marked link.told link.id link.live (held n)) ran is.asked in inr (ap Joined (sym there.same))
+statement_name setup tests number Nobody link peer held sessions is m due ran = absurd (subst (IsAskedFree setup.reads) ran is.asked)
+statement_name setup tests number (Lent n) link peer held sessions is m due ran = let there = subst (λ st. IsAskedLent setup n st link.account link.told link.id link.live (held n)) ran is.asked in inl (ap Lent (sym there.same))
+statement_name setup tests number (Joined n) link peer held sessions is m due ran = let there = subst (λ st. IsAskedJoined setup n st link.marked link.told link.id link.live (held n)) ran is.asked in inr (ap Joined (sym there.same))
 
-pub prep_name : (setup : Setup) (number : LinkId) (carried : Carried) (link : Link) (peer : Peer) (held : SessionName → Held) (sessions : SessionName → Session) → IsAtBy setup carried number link peer held sessions → (m : SessionName) (key : ℕ) (text : List ℕ) → link.stage ≡ Asked (Prep m key text)
+pub prep_name : (setup : Setup) (tests : Tests) (number : LinkId) (carried : Carried) (link : Link) (peer : Peer) (held : SessionName → Held) (sessions : SessionName → Session) → IsAtBy setup tests carried number link peer held sessions → (m : SessionName) (key : ℕ) (text : List ℕ) → link.stage ≡ Asked (Prep m key text)
     → (carried ≡ Lent m) ⊎ (carried ≡ Joined m)
-prep_name setup number Nobody link peer held sessions is m key text ran = absurd (subst (IsAskedFree setup.reads) ran is.asked)
-prep_name setup number (Lent n) link peer held sessions is m key text ran = let there = subst (λ st. IsAskedLent setup n st link.account link.told link.id link.live (held n)) ran is.asked in inl (ap Lent (sym there.same))
-prep_name setup number (Joined n) link peer held sessions is m key text ran = let there = subst (λ st. IsAskedJoined setup n st link.marked link.told link.id link.live (held n)) ran is.asked in inr (ap Joined (sym there.same))
+prep_name setup tests number Nobody link peer held sessions is m key text ran = absurd (subst (IsAskedFree setup.reads) ran is.asked)
+prep_name setup tests number (Lent n) link peer held sessions is m key text ran = let there = subst (λ st. IsAskedLent setup n st link.account link.told link.id link.live (held n)) ran is.asked in inl (ap Lent (sym there.same))
+prep_name setup tests number (Joined n) link peer held sessions is m key text ran = let there = subst (λ st. IsAskedJoined setup n st link.marked link.told link.id link.live (held n)) ran is.asked in inr (ap Joined (sym there.same))
 
-pub sync_name : (setup : Setup) (number : LinkId) (carried : Carried) (link : Link) (peer : Peer) (held : SessionName → Held) (sessions : SessionName → Session) → IsAtBy setup carried number link peer held sessions → (m : SessionName) (command : Command) → link.stage ≡ Asked (Sync m command)
+pub sync_name : (setup : Setup) (tests : Tests) (number : LinkId) (carried : Carried) (link : Link) (peer : Peer) (held : SessionName → Held) (sessions : SessionName → Session) → IsAtBy setup tests carried number link peer held sessions → (m : SessionName) (command : Command) → link.stage ≡ Asked (Sync m command)
     → carried ≡ Joined m
-sync_name setup number Nobody link peer held sessions is m command ran = absurd (subst (IsAskedFree setup.reads) ran is.asked)
-sync_name setup number (Lent n) link peer held sessions is m command ran = absurd (subst (λ st. IsAskedLent setup n st link.account link.told link.id link.live (held n)) ran is.asked)
-sync_name setup number (Joined n) link peer held sessions is m command ran = let there = subst (λ st. IsAskedJoined setup n st link.marked link.told link.id link.live (held n)) ran is.asked in ap Joined (sym there.same)
+sync_name setup tests number Nobody link peer held sessions is m command ran = absurd (subst (IsAskedFree setup.reads) ran is.asked)
+sync_name setup tests number (Lent n) link peer held sessions is m command ran = absurd (subst (λ st. IsAskedLent setup n st link.account link.told link.id link.live (held n)) ran is.asked)
+sync_name setup tests number (Joined n) link peer held sessions is m command ran = let there = subst (λ st. IsAskedJoined setup n st link.marked link.told link.id link.live (held n)) ran is.asked in ap Joined (sym there.same)
 
-pub end_name : (setup : Setup) (number : LinkId) (carried : Carried) (link : Link) (peer : Peer) (held : SessionName → Held) (sessions : SessionName → Session) → IsAtBy setup carried number link peer held sessions → (m : SessionName) → link.stage ≡ Asked (End m)
+pub end_name : (setup : Setup) (tests : Tests) (number : LinkId) (carried : Carried) (link : Link) (peer : Peer) (held : SessionName → Held) (sessions : SessionName → Session) → IsAtBy setup tests carried number link peer held sessions → (m : SessionName) → link.stage ≡ Asked (End m)
     → carried ≡ Joined m
-end_name setup number Nobody link peer held sessions is m ran = absurd (subst (IsAskedFree setup.reads) ran is.asked)
-end_name setup number (Lent n) link peer held sessions is m ran = absurd (subst (λ st. IsAskedLent setup n st link.account link.told link.id link.live (held n)) ran is.asked)
-end_name setup number (Joined n) link peer held sessions is m ran = let there : m ≡ n = subst (λ st. IsAskedJoined setup n st link.marked link.told link.id link.live (held n)) ran is.asked in ap Joined (sym there)
+end_name setup tests number Nobody link peer held sessions is m ran = absurd (subst (IsAskedFree setup.reads) ran is.asked)
+end_name setup tests number (Lent n) link peer held sessions is m ran = absurd (subst (λ st. IsAskedLent setup n st link.account link.told link.id link.live (held n)) ran is.asked)
+end_name setup tests number (Joined n) link peer held sessions is m ran = let there : m ≡ n = subst (λ st. IsAskedJoined setup n st link.marked link.told link.id link.live (held n)) ran is.asked in ap Joined (sym there)
 
-pub capture_name : (setup : Setup) (number : LinkId) (carried : Carried) (link : Link) (peer : Peer) (held : SessionName → Held) (sessions : SessionName → Session) → IsAtBy setup carried number link peer held sessions → (m : SessionName) → link.stage ≡ Asked (Capture m)
+pub capture_name : (setup : Setup) (tests : Tests) (number : LinkId) (carried : Carried) (link : Link) (peer : Peer) (held : SessionName → Held) (sessions : SessionName → Session) → IsAtBy setup tests carried number link peer held sessions → (m : SessionName) → link.stage ≡ Asked (Capture m)
     → carried ≡ Joined m
-capture_name setup number Nobody link peer held sessions is m ran = absurd (subst (IsAskedFree setup.reads) ran is.asked)
-capture_name setup number (Lent n) link peer held sessions is m ran = absurd (subst (λ st. IsAskedLent setup n st link.account link.told link.id link.live (held n)) ran is.asked)
-capture_name setup number (Joined n) link peer held sessions is m ran = let there = subst (λ st. IsAskedJoined setup n st link.marked link.told link.id link.live (held n)) ran is.asked in ap Joined (sym there.same)
+capture_name setup tests number Nobody link peer held sessions is m ran = absurd (subst (IsAskedFree setup.reads) ran is.asked)
+capture_name setup tests number (Lent n) link peer held sessions is m ran = absurd (subst (λ st. IsAskedLent setup n st link.account link.told link.id link.live (held n)) ran is.asked)
+capture_name setup tests number (Joined n) link peer held sessions is m ran = let there = subst (λ st. IsAskedJoined setup n st link.marked link.told link.id link.live (held n)) ran is.asked in ap Joined (sym there.same)
 
 module _ (setup : Setup) (tests : Tests) (step : Step) (tame : Tame setup.reads tests step) (view : View) (real : Real) (private : Private) (stands : Stands setup tests view real private) (number : LinkId) where
   -- One link and what is there change, and the private session of one name.
@@ -111,7 +111,7 @@ module _ (setup : Setup) (tests : Tests) (step : Step) (tame : Tame setup.reads 
       → account_of session ≡ setup.accounts n.client
       → ((view.held n).home ≡ None → IsResting (view.held n) session)
       → ((j : LinkId) → is_link_id j number ≡ false → (view.held n).home ≡ Some j → ⊥)
-      → IsAt setup number link peer view.held (put is_name private.sessions n session)
+      → IsAt setup tests number link peer view.held (put is_name private.sessions n session)
       → Stands setup tests (record to { links = put is_link_id view.links number link; held = view.held })
       (record { stored = real_stored; peers = put is_link_id real.peers number peer })
       (record { stored = private_stored; sessions = put is_name private.sessions n session; tables = tables; answers = answers })
@@ -124,11 +124,11 @@ module _ (setup : Setup) (tests : Tests) (step : Step) (tame : Tame setup.reads 
         owners = at_each names (λ m. account_of (sessions m) ≡ setup.accounts m.client) n (ap account_of (put-same names private.sessions n session) ∙ owner)
             (λ m e. ap account_of (put-other names private.sessions n session m e) ∙ stands.owners m);
         resting = still_resting setup n view.held private.sessions view.held sessions elsewhere stands.resting (subst (λ x. (view.held n).home ≡ None → IsResting (view.held n) x) (sym (put-same names private.sessions n session)) resting);
-        links = at_each link_ids (λ j. IsAt setup j (put is_link_id view.links number link j) (put is_link_id real.peers number peer j) view.held sessions) number
-            (subst (λ l. IsAt setup number l (put is_link_id real.peers number peer number) view.held sessions) (sym (put-same link_ids view.links number link))
-            (subst (λ x. IsAt setup number link x view.held sessions) (sym (put-same link_ids real.peers number peer)) here))
-            (λ j e. subst (λ l. IsAt setup j l (put is_link_id real.peers number peer j) view.held sessions) (sym (put-other link_ids view.links number link j e))
-            (subst (λ x. IsAt setup j (view.links j) x view.held sessions) (sym (put-other link_ids real.peers number peer j e))
+        links = at_each link_ids (λ j. IsAt setup tests j (put is_link_id view.links number link j) (put is_link_id real.peers number peer j) view.held sessions) number
+            (subst (λ l. IsAt setup tests number l (put is_link_id real.peers number peer number) view.held sessions) (sym (put-same link_ids view.links number link))
+            (subst (λ x. IsAt setup tests number link x view.held sessions) (sym (put-same link_ids real.peers number peer)) here))
+            (λ j e. subst (λ l. IsAt setup tests j l (put is_link_id real.peers number peer j) view.held sessions) (sym (put-other link_ids view.links number link j e))
+            (subst (λ x. IsAt setup tests j (view.links j) x view.held sessions) (sym (put-other link_ids real.peers number peer j e))
             (frame setup n view.held private.sessions view.held sessions elsewhere j (view.links j) (real.peers j) (not_key j e) (stands.links j))));
       }
 
@@ -136,32 +136,32 @@ module _ (setup : Setup) (tests : Tests) (step : Step) (tame : Tame setup.reads 
   pub ran_alone : (to : View) (link : Link) (peer : Peer) (real_stored : ServerId → List ℕ)
       → ((server : ServerId) → tests.is_data (real_stored server) ≡ true) → IsGood tests peer.session
       → ((server : ServerId) → private.stored server ≡ real_stored server)
-      → IsAt setup number link peer view.held private.sessions
+      → IsAt setup tests number link peer view.held private.sessions
       → Stands setup tests (record to { links = put is_link_id view.links number link; held = view.held }) (record { stored = real_stored; peers = put is_link_id real.peers number peer }) private
   ran_alone to link peer real_stored good_data good_peer stored here = record {
     accepted = record { data_of = good_data; peers = put_all link_ids (λ x. IsGood tests x.session) real.peers number peer good_peer stands.accepted.peers; sessions = stands.accepted.sessions };
     stored = stored;
     owners = stands.owners;
     resting = stands.resting;
-    links = at_each link_ids (λ j. IsAt setup j (put is_link_id view.links number link j) (put is_link_id real.peers number peer j) view.held private.sessions) number
-        (subst (λ l. IsAt setup number l (put is_link_id real.peers number peer number) view.held private.sessions) (sym (put-same link_ids view.links number link))
-        (subst (λ x. IsAt setup number link x view.held private.sessions) (sym (put-same link_ids real.peers number peer)) here))
-        (λ j e. subst (λ l. IsAt setup j l (put is_link_id real.peers number peer j) view.held private.sessions) (sym (put-other link_ids view.links number link j e))
-        (subst (λ x. IsAt setup j (view.links j) x view.held private.sessions) (sym (put-other link_ids real.peers number peer j e)) (stands.links j)));
+    links = at_each link_ids (λ j. IsAt setup tests j (put is_link_id view.links number link j) (put is_link_id real.peers number peer j) view.held private.sessions) number
+        (subst (λ l. IsAt setup tests number l (put is_link_id real.peers number peer number) view.held private.sessions) (sym (put-same link_ids view.links number link))
+        (subst (λ x. IsAt setup tests number link x view.held private.sessions) (sym (put-same link_ids real.peers number peer)) here))
+        (λ j e. subst (λ l. IsAt setup tests j l (put is_link_id real.peers number peer j) view.held private.sessions) (sym (put-other link_ids view.links number link j e))
+        (subst (λ x. IsAt setup tests j (view.links j) x view.held private.sessions) (sym (put-other link_ids real.peers number peer j e)) (stands.links j)));
   }
 
   -- The same where nothing happens at the server.
   pub linked : (to : View) (link : Link)
-      → IsAt setup number link (real.peers number) view.held private.sessions
+      → IsAt setup tests number link (real.peers number) view.held private.sessions
       → Stands setup tests (record to { links = put is_link_id view.links number link; held = view.held }) real private
   linked to link here = record {
     accepted = stands.accepted;
     stored = stands.stored;
     owners = stands.owners;
     resting = stands.resting;
-    links = at_each link_ids (λ j. IsAt setup j (put is_link_id view.links number link j) (real.peers j) view.held private.sessions) number
-        (subst (λ l. IsAt setup number l (real.peers number) view.held private.sessions) (sym (put-same link_ids view.links number link)) here)
-        (λ j e. subst (λ l. IsAt setup j l (real.peers j) view.held private.sessions) (sym (put-other link_ids view.links number link j e)) (stands.links j));
+    links = at_each link_ids (λ j. IsAt setup tests j (put is_link_id view.links number link j) (real.peers j) view.held private.sessions) number
+        (subst (λ l. IsAt setup tests number l (real.peers number) view.held private.sessions) (sym (put-same link_ids view.links number link)) here)
+        (λ j e. subst (λ l. IsAt setup tests j l (real.peers j) view.held private.sessions) (sym (put-other link_ids view.links number link j e)) (stands.links j));
   }
 
   -- What holds of the link, by whom it carries.
@@ -169,15 +169,15 @@ module _ (setup : Setup) (tests : Tests) (step : Step) (tame : Tame setup.reads 
   abbrev pub s : Session
   s = (real.peers number).session
 
-  pub at : (carried : Carried) → (view.links number).carries ≡ carried → IsAtBy setup carried number (view.links number) (real.peers number) view.held private.sessions
-  at carried is = subst (λ c. IsAtBy setup c number (view.links number) (real.peers number) view.held private.sessions) is (stands.links number)
+  pub at : (carried : Carried) → (view.links number).carries ≡ carried → IsAtBy setup tests carried number (view.links number) (real.peers number) view.held private.sessions
+  at carried is = subst (λ c. IsAtBy setup tests c number (view.links number) (real.peers number) view.held private.sessions) is (stands.links number)
 
   -- A command runs in a session.
 
   ran_session : (to : View) (m : SessionName) (link : Link) (alive : Bool) (there here : Outcome) (table : ℕ → Option Key) (tables : SessionName → ℕ → Option Key) (answers : MessageName → Option Reply)
       → Accepts tests there.stored there.session → IsGood tests here.session
       → (view.held m).home ≡ Some number → link.carries ≡ Joined m → here.stored ≡ there.stored → account_of here.session ≡ setup.accounts m.client
-      → IsJoinedLink setup number m link (record { session = there.session; answer = there.reply; table = table; alive = alive }) (view.held m) here.session
+      → IsJoinedLink setup tests number m link (record { session = there.session; answer = there.reply; table = table; alive = alive }) (view.held m) here.session
       → Stands setup tests (record to { links = put is_link_id view.links number link; held = view.held })
       (record { stored = put is_server real.stored (view.links number).server there.stored; peers = put is_link_id real.peers number (record { session = there.session; answer = there.reply; table = table; alive = alive }) })
       (record { stored = put is_server private.stored (view.links number).server here.stored; sessions = put is_name private.sessions m here.session; tables = tables; answers = answers })
@@ -190,8 +190,8 @@ module _ (setup : Setup) (tests : Tests) (step : Step) (tame : Tame setup.reads 
       owner
       (λ e. cc)
       (no_other (view.held m).home number home)
-      (subst (λ c. IsAtBy setup c number link peer view.held (put is_name private.sessions m here.session)) (sym carries)
-      (subst (λ x. IsJoinedLink setup number m link peer (view.held m) x) (sym (put-same names private.sessions m here.session)) joined))
+      (subst (λ c. IsAtBy setup tests c number link peer view.held (put is_name private.sessions m here.session)) (sym carries)
+      (subst (λ x. IsJoinedLink setup tests number m link peer (view.held m) x) (sym (put-same names private.sessions m here.session)) joined))
 
   abbrev RanTo : (alive : Bool) → Stage → Type 0
   RanTo alive stage = Stands setup tests (record view { links = put is_link_id view.links number (ran_by setup.reads stage (view.links number)) })
@@ -199,10 +199,10 @@ module _ (setup : Setup) (tests : Tests) (step : Step) (tame : Tame setup.reads 
 
   -- A statement meets its session.
 
-  pub met_there : (m : SessionName) (due : Due) → (real.peers number).alive ≡ true → (view.links number).stage ≡ Asked (Statement m due) → IsMetThere setup number due (view.links number) (view.held m) (real.peers number).session (private.sessions m)
-  met_there m due alive asked = elim (statement_name setup number (view.links number).carries (view.links number) (real.peers number) view.held private.sessions (stands.links number) m due asked) [
-    | inl lent ↦ met_of_lent setup number m due (view.links number) (real.peers number) (view.held m) (private.sessions m) (at (Lent m) lent) alive asked (stands.owners m)
-    | inr joined ↦ met_of_joined setup number m due (view.links number) (real.peers number) (view.held m) (private.sessions m) (at (Joined m) joined) alive asked
+  pub met_there : (m : SessionName) (due : Due) → (real.peers number).alive ≡ true → (view.links number).stage ≡ Asked (Statement m due) → IsMetThere setup tests number due (view.links number) (view.held m) (real.peers number).session (private.sessions m)
+  met_there m due alive asked = elim (statement_name setup tests number (view.links number).carries (view.links number) (real.peers number) view.held private.sessions (stands.links number) m due asked) [
+    | inl lent ↦ met_of_lent setup tests number m due (view.links number) (real.peers number) (view.held m) (private.sessions m) (at (Lent m) lent) alive asked (stands.owners m)
+    | inr joined ↦ met_of_joined setup tests number m due (view.links number) (real.peers number) (view.held m) (private.sessions m) (at (Joined m) joined) alive asked
   ]
 
   pub ready_owner : (due : Due) (anew : Bool) (p : Session) → account_of (if anew then placed due.place p else p) ≡ account_of p
@@ -249,13 +249,13 @@ module _ (setup : Setup) (tests : Tests) (step : Step) (tame : Tame setup.reads 
       (own_same setup.reads tests step tame data_there (readied due (private.sessions m)) (ok_ready m due) (there_decoded due) (here_decoded m due) (are m due alive asked).0)
 
   pub met_decoded : AreDecoded → (m : SessionName) (due : Due) → (real.peers number).alive ≡ true → (view.links number).stage ≡ Asked (Statement m due)
-      → IsMet setup.reads (there_decoded due) (view.links number).account (view.links number).marked (view.links number).told (view.links number).id (view.held m).pin (view.held m).id (real.peers number).session (readied due (private.sessions m))
+      → IsMet tests setup.reads (there_decoded due) (view.links number).account (view.links number).marked (view.links number).told (view.links number).id (view.held m).pin (view.held m).id (real.peers number).session (readied due (private.sessions m))
   met_decoded are m due alive asked =
       let l = view.links number in
-      back_text (λ c. IsMet setup.reads c l.account l.marked l.told l.id (view.held m).pin (view.held m).id (real.peers number).session (readied due (private.sessions m))) (λ t a b a' b' g x. record { account = x.account; rest = x.rest; diag = x.diag; marks = x.marks; last_id = x.last_id; follows = x.follows; knows = x.knows; suits = x.suits; of_session = x.of_session; unknown = x.unknown }) (there_decoded due) due.command (are m due alive asked).1 (met_there m due alive asked).met
+      back_text (λ c. IsMet tests setup.reads c l.account l.marked l.told l.id (view.held m).pin (view.held m).id (real.peers number).session (readied due (private.sessions m))) (λ t a b a' b' g x. record { account = x.account; rest = x.rest; diag = x.diag; own = x.own; marks = x.marks; last_id = x.last_id; follows = x.follows; knows = x.knows; suits = x.suits; of_session = x.of_session; unknown = x.unknown }) (there_decoded due) due.command (are m due alive asked).1 (met_there m due alive asked).met
 
   pub after_decoded : AreDecoded → (m : SessionName) (due : Due) → (real.peers number).alive ≡ true → (view.links number).stage ≡ Asked (Statement m due)
-      → IsAlikeAfter ((readied due (private.sessions m)).last_id ≡ (real.peers number).session.last_id) (step data_there (readied due (private.sessions m)) (there_decoded due)) (step data_there (real.peers number).session (there_decoded due))
+      → IsAlikeAfter setup.reads tests (there_decoded due) (readied due (private.sessions m)) (real.peers number).session (step data_there (readied due (private.sessions m)) (there_decoded due)) (step data_there (real.peers number).session (there_decoded due))
   after_decoded are m due alive asked =
       let l = view.links number in
       met_alike setup.reads step tests tame data_there s (readied due (private.sessions m)) ok_there (ok_ready m due) (there_decoded due) l.account l.marked l.told l.id (view.held m).pin (view.held m).id (met_decoded are m due alive asked)
@@ -278,7 +278,7 @@ module _ (setup : Setup) (tests : Tests) (step : Step) (tame : Tame setup.reads 
       let is_text = (are m due alive asked).1 in
       let statement : is_statement c ≡ true = back_text (λ x. is_statement x ≡ true) (λ t a b a' b' g x. x) c due.command is_text there.statement in
       let reply = (step d s c).reply in
-      let joined = of_text (λ x. IsJoined (not (is_quit x)) l.account (is_marked setup.reads x || l.marked) (told_after setup.reads x reply l.told) (id_after setup.reads x reply l.id) (pin_statement setup.reads x due.multiplex reply (view.held m).pin) (id_after setup.reads x reply (view.held m).id) (step d s c).session (step d p c).session)
+      let joined = of_text (λ x. IsJoined tests (not (is_quit x)) l.account (is_marked setup.reads x || l.marked) (told_after setup.reads x reply l.told) (id_after setup.reads x reply l.id) (pin_statement setup.reads x due.multiplex reply (view.held m).pin) (id_after setup.reads x reply (view.held m).id) (step d s c).session (step d p c).session)
       (λ t a b a' b' g x. x) c due.command is_text
       (met_after setup.reads step tests tame d s p ok_there (ok_ready m due) c due.multiplex l.account l.marked l.told l.id (view.held m).pin (view.held m).id statement (met_decoded are m due alive asked)) in
       subst (λ (o : Outcome). Stands setup tests (record view { links = put is_link_id view.links number l' }) (record { stored = put is_server real.stored l.server (step d s c).stored; peers = put is_link_id real.peers number (record { session = (step d s c).session; answer = (step d s c).reply; table = there_table question (step d s c) (real.peers number).table; alive = not (is_quit due.command) }) })
@@ -295,18 +295,18 @@ module _ (setup : Setup) (tests : Tests) (step : Step) (tame : Tame setup.reads 
   asks m question carries is = subst (λ st. IsAskedJoined setup m st (view.links number).marked (view.links number).told (view.links number).id (view.links number).live (view.held m)) is (at (Joined m) carries).asked
 
   pub before : (m : SessionName) (question : Question) → (view.links number).carries ≡ Joined m → (real.peers number).alive ≡ true → (view.links number).stage ≡ Asked question
-      → IsJoined true (view.links number).account (view.links number).marked (view.links number).told (view.links number).id (view.held m).pin (view.held m).id (real.peers number).session (private.sessions m)
-  before m question carries alive is = asked_joined setup.reads (view.links number) (real.peers number).alive (real.peers number).answer (view.held m).pin (view.held m).id (real.peers number).session (private.sessions m) question alive is (at (Joined m) carries).joined
+      → IsJoined tests true (view.links number).account (view.links number).marked (view.links number).told (view.links number).id (view.held m).pin (view.held m).id (real.peers number).session (private.sessions m)
+  before m question carries alive is = asked_joined tests setup.reads (view.links number) (real.peers number).alive (real.peers number).answer (view.held m).pin (view.held m).id (real.peers number).session (private.sessions m) question alive is (at (Joined m) carries).joined
 
   ran_sync : (m : SessionName) (c : Command) → (real.peers number).alive ≡ true → (view.links number).stage ≡ Asked (Sync m c) → RanTo true (Asked (Sync m c))
   ran_sync m c alive is =
       let l = view.links number in
-      let carries : l.carries ≡ Joined m = sync_name setup number l.carries l (real.peers number) view.held private.sessions (stands.links number) m c is in
+      let carries : l.carries ≡ Joined m = sync_name setup tests number l.carries l (real.peers number) view.held private.sessions (stands.links number) m c is in
       let p = private.sessions m in
       let d = data_there in
       let l' : Link = record l { stage = Answered (Sync m c) } in
       let was = before m (Sync m c) carries alive is in
-      let both = step_after setup.reads step tests tame d s p ok_there (ok_here m) c l.account l.marked l.told l.id (view.held m).pin (view.held m).id (asks m (Sync m c) carries is).fits was.session was.knows was.unknown in
+      let both = step_after setup.reads step tests tame d s p ok_there (ok_here m) c l.account l.marked l.told l.id (view.held m).pin (view.held m).id (asks m (Sync m c) carries is).pinned (asks m (Sync m c) carries is).fits was.session was.knows was.unknown in
       with_data (λ x. Stands setup tests (record view { links = put is_link_id view.links number l' }) (record { stored = put is_server real.stored l.server (step d s c).stored; peers = put is_link_id real.peers number (record { session = (step d s c).session; answer = (step d s c).reply; table = (real.peers number).table; alive = not (is_quit c) }) })
       (record private { stored = put is_server private.stored l.server (step x p c).stored; sessions = put is_name private.sessions m (step x p c).session }))
       (ran_session view m l' (not (is_quit c)) (step d s c) (step d p c) (real.peers number).table private.tables private.answers (tame.keeps d s ok_there c) (tame.keeps d p (ok_here m) c).1 (at (Joined m) carries).home carries both.0.alike.stored (tame.account d p (ok_here m) c ∙ stands.owners m)
@@ -315,7 +315,7 @@ module _ (setup : Setup) (tests : Tests) (step : Step) (tame : Tame setup.reads 
   ran_end : (m : SessionName) → tests.lasts (private.sessions m).deep ≡ false → (real.peers number).alive ≡ true → (view.links number).stage ≡ Asked (End m) → RanTo true (Asked (End m))
   ran_end m lasts alive is =
       let l = view.links number in
-      let carries : l.carries ≡ Joined m = end_name setup number l.carries l (real.peers number) view.held private.sessions (stands.links number) m is in
+      let carries : l.carries ≡ Joined m = end_name setup tests number l.carries l (real.peers number) view.held private.sessions (stands.links number) m is in
       let p = private.sessions m in
       let d = data_there in
       let l' : Link = record l { stage = Answered (End m) } in
@@ -329,7 +329,7 @@ module _ (setup : Setup) (tests : Tests) (step : Step) (tame : Tame setup.reads 
 
   -- The private world doesn't notice a capture, nor what the router does for itself.
 
-  ran_by_itself : (link : Link) (alive : Bool) (there : Outcome) (table : ℕ → Option Key) → Accepts tests there.stored there.session → there.stored ≡ data_there → IsAt setup number link (record { session = there.session; answer = there.reply; table = table; alive = alive }) view.held private.sessions
+  ran_by_itself : (link : Link) (alive : Bool) (there : Outcome) (table : ℕ → Option Key) → Accepts tests there.stored there.session → there.stored ≡ data_there → IsAt setup tests number link (record { session = there.session; answer = there.reply; table = table; alive = alive }) view.held private.sessions
       → Stands setup tests (record view { links = put is_link_id view.links number link }) (record { stored = put is_server real.stored (view.links number).server there.stored; peers = put is_link_id real.peers number (record { session = there.session; answer = there.reply; table = table; alive = alive }) }) private
   ran_by_itself link alive there table good stored here =
       let server = (view.links number).server in
@@ -340,7 +340,7 @@ module _ (setup : Setup) (tests : Tests) (step : Step) (tame : Tame setup.reads 
   ran_capture : (m : SessionName) → (real.peers number).alive ≡ true → (view.links number).stage ≡ Asked (Capture m) → RanTo true (Asked (Capture m))
   ran_capture m alive is =
       let l = view.links number in
-      let carries : l.carries ≡ Joined m = capture_name setup number l.carries l (real.peers number) view.held private.sessions (stands.links number) m is in
+      let carries : l.carries ≡ Joined m = capture_name setup tests number l.carries l (real.peers number) view.held private.sessions (stands.links number) m is in
       let p = private.sessions m in
       let d = data_there in
       let l' : Link = record l { stage = Answered (Capture m) } in
@@ -348,8 +348,8 @@ module _ (setup : Setup) (tests : Tests) (step : Step) (tame : Tame setup.reads 
       let was = before m (Capture m) carries alive is in
       let asked = asks m (Capture m) carries is in
       let joined = capture_after setup.reads step tests tame d s p ok_there (ok_here m) l.account l.marked l.told l.id (view.held m).pin (view.held m).id asked.unpinned asked.unknown was.session was.unknown in
-      let there : IsJoinedLink setup number m l' peer (view.held m) p = record { home = (at (Joined m) carries).home; asked = refl; joined = joined } in
-      ran_by_itself l' true (step d s ReadId) (real.peers number).table (tame.keeps d s ok_there ReadId) (tame.id.read_stored d s ok_there) (subst (λ c. IsAtBy setup c number l' peer view.held private.sessions) (sym carries) there)
+      let there : IsJoinedLink setup tests number m l' peer (view.held m) p = record { home = (at (Joined m) carries).home; asked = refl; joined = joined } in
+      ran_by_itself l' true (step d s ReadId) (real.peers number).table (tame.keeps d s ok_there ReadId) (tame.id.read_stored d s ok_there) (subst (λ c. IsAtBy setup tests c number l' peer view.held private.sessions) (sym carries) there)
 
   pub asks_lent : (n : SessionName) (question : Question) → (view.links number).carries ≡ Lent n → (view.links number).stage ≡ Asked question
       → IsAskedLent setup n (Asked question) (view.links number).account (view.links number).told (view.links number).id (view.links number).live (view.held n)
@@ -375,7 +375,7 @@ module _ (setup : Setup) (tests : Tests) (step : Step) (tame : Tame setup.reads 
       let fits : IsOwnStep setup.reads c = subst (IsAskedFree setup.reads) is (at Nobody free).asked in
       let was = before_free (Own c) alive is (at Nobody free).session in
       let there : IsFreeLink setup l' peer = record { asked = tt; unmarked = (at Nobody free).unmarked; session = own_after setup.reads step tests tame d s s ok_there ok_there c l.account l.told l.id fits was } in
-      ran_by_itself l' (not (is_quit c)) (step d s c) (real.peers number).table (tame.keeps d s ok_there c) (own_calm setup.reads step tests tame d s s ok_there ok_there c fits was.plain) (subst (λ x. IsAtBy setup x number l' peer view.held private.sessions) (sym free) there)
+      ran_by_itself l' (not (is_quit c)) (step d s c) (real.peers number).table (tame.keeps d s ok_there c) (own_calm setup.reads step tests tame d s s ok_there ok_there c fits was.plain) (subst (λ x. IsAtBy setup tests x number l' peer view.held private.sessions) (sym free) there)
 
   own_on_lent : (c : Command) → (real.peers number).alive ≡ true → (view.links number).stage ≡ Asked (Own c) → (n : SessionName) → (view.links number).carries ≡ Lent n → RanTo true (Asked (Own c))
   own_on_lent c alive is n carries =
@@ -388,7 +388,7 @@ module _ (setup : Setup) (tests : Tests) (step : Step) (tame : Tame setup.reads 
       let was = before_free (Own c) alive is lent.session in
       let there : IsLentLink setup number n l' peer (view.held n) (private.sessions n) =
       record { home = lent.home; unmarked = lent.unmarked; asked = tt; session = own_after setup.reads step tests tame d s s ok_there ok_there c l.account l.told l.id fits was; plain = lent.plain; id = lent.id } in
-      ran_by_itself l' (not (is_quit c)) (step d s c) (real.peers number).table (tame.keeps d s ok_there c) (own_calm setup.reads step tests tame d s s ok_there ok_there c fits was.plain) (subst (λ x. IsAtBy setup x number l' peer view.held private.sessions) (sym carries) there)
+      ran_by_itself l' (not (is_quit c)) (step d s c) (real.peers number).table (tame.keeps d s ok_there c) (own_calm setup.reads step tests tame d s s ok_there ok_there c fits was.plain) (subst (λ x. IsAtBy setup tests x number l' peer view.held private.sessions) (sym carries) there)
 
   ran_own : (c : Command) → (real.peers number).alive ≡ true → (view.links number).stage ≡ Asked (Own c) → (carried : Carried) → (view.links number).carries ≡ carried → RanTo true (Asked (Own c))
   ran_own c alive is Nobody carries = own_on_free c alive is carries
@@ -410,7 +410,7 @@ module _ (setup : Setup) (tests : Tests) (step : Step) (tame : Tame setup.reads 
       let there : IsLentLink setup number m l' peer (view.held m) (private.sessions m) =
       record { home = lent.home; unmarked = lent.unmarked; asked = preparing; session = prep_free setup.reads step tests tame d s s ok_there ok_there text l.account l.told l.id was; plain = lent.plain; id = lent.id } in
       subst (λ b. Stands setup tests (record view { links = put is_link_id view.links number l' }) (real_run step real number (view.links number).live true (Asked (Prep m key text)) l.server) (private_prep step private b l.server m key text)) (sym preparing.unpinned)
-      (ran_by_itself l' true (step d s c) (there_table (Prep m key text) (step d s c) (real.peers number).table) (tame.keeps d s ok_there c) (tame.prepare.stored d s ok_there text) (subst (λ x. IsAtBy setup x number l' peer view.held private.sessions) (sym carries) there))
+      (ran_by_itself l' true (step d s c) (there_table (Prep m key text) (step d s c) (real.peers number).table) (tame.keeps d s ok_there c) (tame.prepare.stored d s ok_there text) (subst (λ x. IsAtBy setup tests x number l' peer view.held private.sessions) (sym carries) there))
 
   prep_on_joined : (m : SessionName) (key : ℕ) (text : List ℕ) → (real.peers number).alive ≡ true → (view.links number).stage ≡ Asked (Prep m key text) → (view.links number).carries ≡ Joined m → RanTo true (Asked (Prep m key text))
   prep_on_joined m key text alive is carries =
@@ -429,7 +429,7 @@ module _ (setup : Setup) (tests : Tests) (step : Step) (tame : Tame setup.reads 
       (record { home = (at (Joined m) carries).home; asked = refl; joined = both.1 })))
 
   ran_prep : (m : SessionName) (key : ℕ) (text : List ℕ) → (real.peers number).alive ≡ true → (view.links number).stage ≡ Asked (Prep m key text) → RanTo true (Asked (Prep m key text))
-  ran_prep m key text alive is = elim (prep_name setup number (view.links number).carries (view.links number) (real.peers number) view.held private.sessions (stands.links number) m key text is) [
+  ran_prep m key text alive is = elim (prep_name setup tests number (view.links number).carries (view.links number) (real.peers number) view.held private.sessions (stands.links number) m key text is) [
     | inl lent ↦ prep_on_lent m key text alive is lent
     | inr joined ↦ prep_on_joined m key text alive is joined
   ]
@@ -482,7 +482,7 @@ module _ (setup : Setup) (tests : Tests) (step : Step) (tame : Tame setup.reads 
       let there : IsFreeLink setup (view.links number) peer_after = record { asked = (at Nobody free).asked; unmarked = (at Nobody free).unmarked; session = tt } in
       unmoved _ private (ran_alone view (view.links number) peer_after (put is_server real.stored l.server quit_there.stored) data_after (tame.keeps data_there s ok_there Quit).1
       (one_put servers private.stored real.stored l.server quit_there.stored (own_calm setup.reads step tests tame data_there s s ok_there ok_there Quit tt was.plain) stands.stored)
-      (subst (λ x. IsAtBy setup x number (view.links number) peer_after view.held private.sessions) (sym free) there))
+      (subst (λ x. IsAtBy setup tests x number (view.links number) peer_after view.held private.sessions) (sym free) there))
 
   -- the session closes, but for its insert id
 
@@ -492,7 +492,7 @@ module _ (setup : Setup) (tests : Tests) (step : Step) (tame : Tame setup.reads 
   closed_plain : (n : SessionName) → IsPlain (closed_at data_there n)
   closed_plain n = let plain = plain_quit setup.reads step tests tame data_there (private.sessions n) (ok_here n) in record { tx = plain.tx; locks = plain.locks; deep = plain.deep }
 
-  drop_named : (n : SessionName) → (view.held n).home ≡ Some number → (step data_there (private.sessions n) Quit).stored ≡ quit_there.stored → IsAt setup number (view.links number) peer_after view.held (put is_name private.sessions n (closed_at data_there n))
+  drop_named : (n : SessionName) → (view.held n).home ≡ Some number → (step data_there (private.sessions n) Quit).stored ≡ quit_there.stored → IsAt setup tests number (view.links number) peer_after view.held (put is_name private.sessions n (closed_at data_there n))
       → Stands setup tests view (real_drop step real number true (view.links number).server) (closed step private (view.links number).server n)
   drop_named n home stored here =
       let l = view.links number in
@@ -517,7 +517,7 @@ module _ (setup : Setup) (tests : Tests) (step : Step) (tame : Tame setup.reads 
       let there : IsLentLink setup number n (view.links number) peer_after (view.held n) (closed_at data_there n) =
       record { home = is.home; unmarked = is.unmarked; asked = is.asked; session = tt; plain = closed_plain n; id = record { is = is.id.is } } in
       drop_named n is.home (own_calm setup.reads step tests tame data_there p p (ok_here n) (ok_here n) Quit tt is.plain ∙ sym (own_calm setup.reads step tests tame data_there s s ok_there ok_there Quit tt was.plain))
-      (subst (λ c. IsAtBy setup c number (view.links number) peer_after view.held (put is_name private.sessions n (closed_at data_there n))) (sym carries)
+      (subst (λ c. IsAtBy setup tests c number (view.links number) peer_after view.held (put is_name private.sessions n (closed_at data_there n))) (sym carries)
       (subst (λ x. IsLentLink setup number n (view.links number) peer_after (view.held n) x) (sym (put-same names private.sessions n (closed_at data_there n))) there))
 
   drop_joined : (n : SessionName) → (real.peers number).alive ≡ true → (view.links number).carries ≡ Joined n → DropTo true (Joined n)
@@ -526,12 +526,12 @@ module _ (setup : Setup) (tests : Tests) (step : Step) (tame : Tame setup.reads 
       let p = private.sessions n in
       let a = (real.peers number).answer in
       let is = at (Joined n) carries in
-      let was = subst (λ b. IsJoined b l.account l.marked (soon_told setup.reads l.stage a l.told) (soon_id setup.reads l.stage a l.id) (soon_pin setup.reads l.stage a (view.held n).pin) (soon_id setup.reads l.stage a (view.held n).id) s p) alive is.joined in
-      let there : IsJoinedLink setup number n (view.links number) peer_after (view.held n) (closed_at data_there n) =
+      let was = subst (λ b. IsJoined tests b l.account l.marked (soon_told setup.reads l.stage a l.told) (soon_id setup.reads l.stage a l.id) (soon_pin setup.reads l.stage a (view.held n).pin) (soon_id setup.reads l.stage a (view.held n).id) s p) alive is.joined in
+      let there : IsJoinedLink setup tests number n (view.links number) peer_after (view.held n) (closed_at data_there n) =
       record { home = is.home; asked = is.asked; joined = record { session = closed_plain n; knows = record { is = is.joined.knows.is }; unknown = is.joined.unknown } } in
       drop_named n is.home (quit_stored setup.reads step tests tame data_there s p ok_there (ok_here n) was.session.rest)
-      (subst (λ c. IsAtBy setup c number (view.links number) peer_after view.held (put is_name private.sessions n (closed_at data_there n))) (sym carries)
-      (subst (λ x. IsJoinedLink setup number n (view.links number) peer_after (view.held n) x) (sym (put-same names private.sessions n (closed_at data_there n))) there))
+      (subst (λ c. IsAtBy setup tests c number (view.links number) peer_after view.held (put is_name private.sessions n (closed_at data_there n))) (sym carries)
+      (subst (λ x. IsJoinedLink setup tests number n (view.links number) peer_after (view.held n) x) (sym (put-same names private.sessions n (closed_at data_there n))) there))
 
   dropped_by : (alive : Bool) (carried : Carried) → (real.peers number).alive ≡ alive → (view.links number).carries ≡ carried → DropTo alive carried
   dropped_by false carried alive carries = stands
@@ -552,7 +552,7 @@ module _ (setup : Setup) (tests : Tests) (step : Step) (tame : Tame setup.reads 
         session = record { account = refl; plain = record { tx = refl; locks = refl; deep = refl }; follows = record { schema = λ name e. cc; settings = refl }; knows = record { is = λ n e. cc } };
       })
 
-  gone_by : (carried : Carried) → IsAtBy setup carried number (view.links number) (real.peers number) view.held private.sessions → IsAtBy setup carried number (record (view.links number) { usable = false }) (real.peers number) view.held private.sessions
+  gone_by : (carried : Carried) → IsAtBy setup tests carried number (view.links number) (real.peers number) view.held private.sessions → IsAtBy setup tests carried number (record (view.links number) { usable = false }) (real.peers number) view.held private.sessions
   gone_by Nobody is = record { asked = is.asked; unmarked = is.unmarked; session = is.session }
   gone_by (Lent n) is = record { home = is.home; unmarked = is.unmarked; asked = is.asked; session = is.session; plain = is.plain; id = is.id }
   gone_by (Joined n) is = record { home = is.home; asked = is.asked; joined = is.joined }
@@ -572,8 +572,8 @@ stands_first setup tests step tame accepted = record {
 
 -- A STMT_CLOSE.
 module _ (setup : Setup) (tests : Tests) (step : Step) (tame : Tame setup.reads tests step) (view : View) (real : Real) (private : Private) (stands : Stands setup tests view real private) (number : LinkId) where
-  closed_at_link : (n : ℕ) (carried : Carried) → (view.links number).stage ≡ Quiet → IsAtBy setup carried number (view.links number) (real.peers number) view.held private.sessions
-      → IsAtBy setup carried number (closed_number n (view.links number)) (record (real.peers number) { table = put nat_eq (real.peers number).table n None }) view.held private.sessions
+  closed_at_link : (n : ℕ) (carried : Carried) → (view.links number).stage ≡ Quiet → IsAtBy setup tests carried number (view.links number) (real.peers number) view.held private.sessions
+      → IsAtBy setup tests carried number (closed_number n (view.links number)) (record (real.peers number) { table = put nat_eq (real.peers number).table n None }) view.held private.sessions
   closed_at_link n Nobody quiet at = record { asked = at.asked; unmarked = at.unmarked; session = at.session }
   closed_at_link n (Lent m) quiet at =
       let l = closed_number n (view.links number) in

@@ -24,8 +24,8 @@ held_elsewhere key held sessions h = record { keeps_held = λ n e. put-other nam
 module _ (setup : Setup) (tests : Tests) (view : View) (real : Real) (private : Private) (stands : Stands setup tests view real private) (number : LinkId) where
   -- one link changes, and what is held of one name
   pub moved : (to : View) (link : Link) (held : SessionName → Held)
-      → IsAt setup number link (real.peers number) held private.sessions
-      → ((j : LinkId) → is_link_id j number ≡ false → IsAt setup j (view.links j) (real.peers j) held private.sessions)
+      → IsAt setup tests number link (real.peers number) held private.sessions
+      → ((j : LinkId) → is_link_id j number ≡ false → IsAt setup tests j (view.links j) (real.peers j) held private.sessions)
       → ((n : SessionName) → (held n).home ≡ None → IsResting (held n) (private.sessions n))
       → Stands setup tests (record to { links = put is_link_id view.links number link; held = held }) real private
   moved to link held here others resting = record {
@@ -33,18 +33,18 @@ module _ (setup : Setup) (tests : Tests) (view : View) (real : Real) (private : 
     stored = stands.stored;
     owners = stands.owners;
     resting = resting;
-    links = at_each link_ids (λ j. IsAt setup j (put is_link_id view.links number link j) (real.peers j) held private.sessions) number
-        (subst (λ l. IsAt setup number l (real.peers number) held private.sessions) (sym (put-same link_ids view.links number link)) here)
-        (λ j e. subst (λ l. IsAt setup j l (real.peers j) held private.sessions) (sym (put-other link_ids view.links number link j e)) (others j e));
+    links = at_each link_ids (λ j. IsAt setup tests j (put is_link_id view.links number link j) (real.peers j) held private.sessions) number
+        (subst (λ l. IsAt setup tests number l (real.peers number) held private.sessions) (sym (put-same link_ids view.links number link)) here)
+        (λ j e. subst (λ l. IsAt setup tests j l (real.peers j) held private.sessions) (sym (put-other link_ids view.links number link j e)) (others j e));
   }
 
   -- A question goes out.
 
-  at_joined : (n : SessionName) → (view.links number).carries ≡ Joined n → IsJoinedLink setup number n (view.links number) (real.peers number) (view.held n) (private.sessions n)
-  at_joined n carries = subst (λ c. IsAtBy setup c number (view.links number) (real.peers number) view.held private.sessions) carries (stands.links number)
+  at_joined : (n : SessionName) → (view.links number).carries ≡ Joined n → IsJoinedLink setup tests number n (view.links number) (real.peers number) (view.held n) (private.sessions n)
+  at_joined n carries = subst (λ c. IsAtBy setup tests c number (view.links number) (real.peers number) view.held private.sessions) carries (stands.links number)
 
   at_nobody : (view.links number).carries ≡ Nobody → IsFreeLink setup (view.links number) (real.peers number)
-  at_nobody free = subst (λ c. IsAtBy setup c number (view.links number) (real.peers number) view.held private.sessions) free (stands.links number)
+  at_nobody free = subst (λ c. IsAtBy setup tests c number (view.links number) (real.peers number) view.held private.sessions) free (stands.links number)
 
   quiet_free : (view.links number).carries ≡ Nobody → (view.links number).stage ≡ Quiet
       → IfAlive (real.peers number).alive (IsFree (view.links number).account (view.links number).told (view.links number).id (real.peers number).session) (Unit {0})
@@ -54,15 +54,15 @@ module _ (setup : Setup) (tests : Tests) (view : View) (real : Real) (private : 
       subst (λ st. IfAlive (real.peers number).alive (IsFree l.account (soon_told setup.reads st a l.told) (soon_id setup.reads st a l.id) (real.peers number).session) (Unit {0})) quiet (at_nobody free).session
 
   quiet_joined : (n : SessionName) → (view.links number).carries ≡ Joined n → (view.links number).stage ≡ Quiet
-      → IsJoined (real.peers number).alive (view.links number).account (view.links number).marked (view.links number).told (view.links number).id (view.held n).pin (view.held n).id (real.peers number).session (private.sessions n)
+      → IsJoined tests (real.peers number).alive (view.links number).account (view.links number).marked (view.links number).told (view.links number).id (view.held n).pin (view.held n).id (real.peers number).session (private.sessions n)
   quiet_joined n carries quiet =
       let l = view.links number in
       let a = (real.peers number).answer in
-      subst (λ st. IsJoined (real.peers number).alive l.account l.marked (soon_told setup.reads st a l.told) (soon_id setup.reads st a l.id) (soon_pin setup.reads st a (view.held n).pin) (soon_id setup.reads st a (view.held n).id) (real.peers number).session (private.sessions n))
+      subst (λ st. IsJoined tests (real.peers number).alive l.account l.marked (soon_told setup.reads st a l.told) (soon_id setup.reads st a l.id) (soon_pin setup.reads st a (view.held n).pin) (soon_id setup.reads st a (view.held n).id) (real.peers number).session (private.sessions n))
       quiet (at_joined n carries).joined
 
   at_lent : (n : SessionName) → (view.links number).carries ≡ Lent n → IsLentLink setup number n (view.links number) (real.peers number) (view.held n) (private.sessions n)
-  at_lent n carries = subst (λ c. IsAtBy setup c number (view.links number) (real.peers number) view.held private.sessions) carries (stands.links number)
+  at_lent n carries = subst (λ c. IsAtBy setup tests c number (view.links number) (real.peers number) view.held private.sessions) carries (stands.links number)
 
   quiet_lent : (n : SessionName) → (view.links number).carries ≡ Lent n → (view.links number).stage ≡ Quiet
       → IfAlive (real.peers number).alive (IsFree (view.links number).account (view.links number).told (view.links number).id (real.peers number).session) (Unit {0})
@@ -84,37 +84,37 @@ module _ (setup : Setup) (tests : Tests) (view : View) (real : Real) (private : 
 
   sent_lent : (n : SessionName) (question : Question) → MayLend n (view.links number) (view.held n) → (view.links number).stage ≡ Quiet → carried_for question Nobody ≡ Lent n → carried_for question (Lent n) ≡ Lent n
       → IsAskedLent setup n (Asked question) (view.links number).account (view.links number).told (view.links number).id (view.links number).live (record (view.held n) { home = Some number })
-      → IsAt setup number (asked question (view.links number)) (real.peers number) (put is_name view.held n (record (view.held n) { home = Some number })) private.sessions
+      → IsAt setup tests number (asked question (view.links number)) (real.peers number) (put is_name view.held n (record (view.held n) { home = Some number })) private.sessions
   sent_lent n question lends quiet first again fits =
       let l = asked question (view.links number) in
       let h : Held = record (view.held n) { home = Some number } in
       let carries : l.carries ≡ Lent n = elim lends [ inl vacant ↦ ap (carried_for question) vacant.free ∙ first | inr lent ↦ ap (carried_for question) lent ∙ again ] in
-      subst (λ c. IsAtBy setup c number l (real.peers number) (put is_name view.held n h) private.sessions) (sym carries)
+      subst (λ c. IsAtBy setup tests c number l (real.peers number) (put is_name view.held n h) private.sessions) (sym carries)
       (subst (λ x. IsLentLink setup number n l (real.peers number) x (private.sessions n)) (sym (put-same names view.held n h)) (to_lend n question lends quiet fits))
 
   sent_joined : (n : SessionName) (question : Question) (held : SessionName → Held) → (view.links number).carries ≡ Joined n → (view.links number).stage ≡ Quiet → carried_for question (Joined n) ≡ Joined n
       → held n ≡ view.held n → IsAskedJoined setup n (Asked question) (view.links number).marked (view.links number).told (view.links number).id (view.links number).live (view.held n)
-      → IsAt setup number (asked question (view.links number)) (real.peers number) held private.sessions
+      → IsAt setup tests number (asked question (view.links number)) (real.peers number) held private.sessions
   sent_joined n question held carries quiet stays same fits =
       let l = asked question (view.links number) in
-      let joined : IsJoinedLink setup number n l (real.peers number) (view.held n) (private.sessions n) =
+      let joined : IsJoinedLink setup tests number n l (real.peers number) (view.held n) (private.sessions n) =
       record { home = (at_joined n carries).home; asked = fits; joined = quiet_joined n carries quiet } in
-      subst (λ c. IsAtBy setup c number l (real.peers number) held private.sessions) (sym (ap (carried_for question) carries ∙ stays))
-      (subst (λ h. IsJoinedLink setup number n l (real.peers number) h (private.sessions n)) (sym same) joined)
+      subst (λ c. IsAtBy setup tests c number l (real.peers number) held private.sessions) (sym (ap (carried_for question) carries ∙ stays))
+      (subst (λ h. IsJoinedLink setup tests number n l (real.peers number) h (private.sessions n)) (sym same) joined)
 
   sent_own : (command : Command) → IsOwn setup command (view.links number) → (view.links number).stage ≡ Quiet
-      → IsAt setup number (asked (Own command) (view.links number)) (real.peers number) view.held private.sessions
+      → IsAt setup tests number (asked (Own command) (view.links number)) (real.peers number) view.held private.sessions
   sent_own command own quiet = elim own.free [
     | inl free ↦
         let l = asked (Own command) (view.links number) in
         let there : IsFreeLink setup l (real.peers number) = record { asked = own.fits; unmarked = (at_nobody free).unmarked; session = quiet_free free quiet } in
-        subst (λ c. IsAtBy setup c number l (real.peers number) view.held private.sessions) (sym free) there
+        subst (λ c. IsAtBy setup tests c number l (real.peers number) view.held private.sessions) (sym free) there
     | inr lent ↦
         let l = asked (Own command) (view.links number) in
         let is = at_lent lent.0 lent.1 in
         let there : IsLentLink setup number lent.0 l (real.peers number) (view.held lent.0) (private.sessions lent.0) =
         record { home = is.home; unmarked = is.unmarked; asked = own.fits; session = quiet_lent lent.0 lent.1 quiet; plain = is.plain; id = is.id } in
-        subst (λ c. IsAtBy setup c number l (real.peers number) view.held private.sessions) (sym lent.1) there
+        subst (λ c. IsAtBy setup tests c number l (real.peers number) view.held private.sessions) (sym lent.1) there
   ]
 
   kept_home : (n : SessionName) → (view.links number).carries ≡ Joined n → put is_name view.held n (record (view.held n) { home = Some number }) n ≡ view.held n
@@ -122,7 +122,7 @@ module _ (setup : Setup) (tests : Tests) (view : View) (real : Real) (private : 
 
   -- what a link without this name holds
   others_but : (key : SessionName) (h : Held) → ((j : LinkId) → is_link_id j number ≡ false → (view.held key).home ≡ Some j → ⊥)
-      → (j : LinkId) → is_link_id j number ≡ false → IsAt setup j (view.links j) (real.peers j) (put is_name view.held key h) private.sessions
+      → (j : LinkId) → is_link_id j number ≡ false → IsAt setup tests j (view.links j) (real.peers j) (put is_name view.held key h) private.sessions
   others_but key h not_key j other = frame setup key view.held private.sessions (put is_name view.held key h) private.sessions (held_elsewhere key view.held private.sessions h) j (view.links j) (real.peers j) (not_key j other) (stands.links j)
 
   resting_but : (key : SessionName) (h : Held) → (h.home ≡ None → IsResting h (private.sessions key)) → (n : SessionName) → (put is_name view.held key h n).home ≡ None → IsResting (put is_name view.held key h n) (private.sessions n)
@@ -130,7 +130,7 @@ module _ (setup : Setup) (tests : Tests) (view : View) (real : Real) (private : 
       (subst (λ x. x.home ≡ None → IsResting x (private.sessions key)) (sym (put-same names view.held key h)) here)
 
   -- one for which its session gets a home
-  sent_named : (to : View) (n : SessionName) (question : Question) → IsAt setup number (asked question (view.links number)) (real.peers number) (put is_name view.held n (record (view.held n) { home = Some number })) private.sessions
+  sent_named : (to : View) (n : SessionName) (question : Question) → IsAt setup tests number (asked question (view.links number)) (real.peers number) (put is_name view.held n (record (view.held n) { home = Some number })) private.sessions
       → ((j : LinkId) → is_link_id j number ≡ false → (view.held n).home ≡ Some j → ⊥)
       → Stands setup tests (record to { links = put is_link_id view.links number (asked question (view.links number)); held = put is_name view.held n (record (view.held n) { home = Some number }) }) real private
   sent_named to n question here not_key =
@@ -160,7 +160,7 @@ module _ (setup : Setup) (tests : Tests) (view : View) (real : Real) (private : 
   ]
 
   -- one that leaves what is held
-  sent_other : (to : View) (question : Question) → IsAt setup number (asked question (view.links number)) (real.peers number) view.held private.sessions
+  sent_other : (to : View) (question : Question) → IsAt setup tests number (asked question (view.links number)) (real.peers number) view.held private.sessions
       → Stands setup tests (record to { links = put is_link_id view.links number (asked question (view.links number)); held = view.held }) real private
   sent_other to question here = moved to (asked question (view.links number)) view.held here (λ j other. stands.links j) stands.resting
 
@@ -175,7 +175,7 @@ module _ (setup : Setup) (tests : Tests) (view : View) (real : Real) (private : 
   -- A reply is read: what is known now is what was foreseen.
 
   heard_own : (question : Question) → (view.links number).stage ≡ Answered question → (view.links number).carries ≡ Nobody → IsAskedFree setup.reads (Answered question)
-      → IsAt setup number (heard setup.reads (real.peers number).answer (view.links number)) (real.peers number) view.held private.sessions
+      → IsAt setup tests number (heard setup.reads (real.peers number).answer (view.links number)) (real.peers number) view.held private.sessions
   heard_own question ran free own =
       let l = view.links number in
       let a = (real.peers number).answer in
@@ -185,10 +185,10 @@ module _ (setup : Setup) (tests : Tests) (view : View) (real : Real) (private : 
       subst (λ st. IfAlive (real.peers number).alive (IsFree l.account (soon_told setup.reads (quieted st) a (soon_told setup.reads st a l.told)) (soon_id setup.reads (quieted st) a (soon_id setup.reads st a l.id)) (real.peers number).session) (Unit {0})) (sym ran)
       (subst (λ st. IfAlive (real.peers number).alive (IsFree l.account (soon_told setup.reads st a l.told) (soon_id setup.reads st a l.id) (real.peers number).session) (Unit {0})) ran facts) in
       let free_link : IsFreeLink setup l' (real.peers number) = record { asked = subst (λ st. IsAskedFree setup.reads (quieted st)) (sym ran) tt; unmarked = (at_nobody free).unmarked; session = next } in
-      subst (λ c. IsAtBy setup c number l' (real.peers number) view.held private.sessions) (sym free) free_link
+      subst (λ c. IsAtBy setup tests c number l' (real.peers number) view.held private.sessions) (sym free) free_link
 
   heard_joined : (n m : SessionName) (question : Question) → (view.links number).stage ≡ Answered question → (view.links number).carries ≡ Joined n → m ≡ n
-      → IsAt setup number (heard setup.reads (real.peers number).answer (view.links number)) (real.peers number) (put is_name view.held m (held_heard setup.reads question (real.peers number).answer (view.held m))) private.sessions
+      → IsAt setup tests number (heard setup.reads (real.peers number).answer (view.links number)) (real.peers number) (put is_name view.held m (held_heard setup.reads question (real.peers number).answer (view.held m))) private.sessions
   heard_joined n m question ran carries same =
       let l = view.links number in
       let a = (real.peers number).answer in
@@ -196,13 +196,13 @@ module _ (setup : Setup) (tests : Tests) (view : View) (real : Real) (private : 
       let s = (real.peers number).session in
       let p = private.sessions n in
       let h' : Held = held_heard setup.reads question a (view.held n) in
-      let before = subst (λ st. IsJoined (real.peers number).alive l.account l.marked (soon_told setup.reads st a l.told) (soon_id setup.reads st a l.id) (soon_pin setup.reads st a (view.held n).pin) (soon_id setup.reads st a (view.held n).id) s p) ran (at_joined n carries).joined in
-      let next : IsJoined (real.peers number).alive l.account l.marked (soon_told setup.reads (quieted l.stage) a (soon_told setup.reads l.stage a l.told)) (soon_id setup.reads (quieted l.stage) a (soon_id setup.reads l.stage a l.id)) (soon_pin setup.reads (quieted l.stage) a h'.pin) (soon_id setup.reads (quieted l.stage) a h'.id) s p =
-      subst (λ st. IsJoined (real.peers number).alive l.account l.marked (soon_told setup.reads (quieted st) a (soon_told setup.reads st a l.told)) (soon_id setup.reads (quieted st) a (soon_id setup.reads st a l.id)) (soon_pin setup.reads (quieted st) a h'.pin) (soon_id setup.reads (quieted st) a h'.id) s p) (sym ran) before in
-      let joined : IsJoinedLink setup number n l' (real.peers number) h' p = record { home = (at_joined n carries).home; asked = subst (λ st. IsAskedJoined setup n (quieted st) l'.marked l'.told l'.id l'.live h') (sym ran) tt; joined = next } in
-      subst (λ x. IsAt setup number l' (real.peers number) (put is_name view.held x (held_heard setup.reads question a (view.held x))) private.sessions) (sym same)
-      (subst (λ c. IsAtBy setup c number l' (real.peers number) (put is_name view.held n h') private.sessions) (sym carries)
-      (subst (λ h. IsJoinedLink setup number n l' (real.peers number) h p) (sym (put-same names view.held n h')) joined))
+      let before = subst (λ st. IsJoined tests (real.peers number).alive l.account l.marked (soon_told setup.reads st a l.told) (soon_id setup.reads st a l.id) (soon_pin setup.reads st a (view.held n).pin) (soon_id setup.reads st a (view.held n).id) s p) ran (at_joined n carries).joined in
+      let next : IsJoined tests (real.peers number).alive l.account l.marked (soon_told setup.reads (quieted l.stage) a (soon_told setup.reads l.stage a l.told)) (soon_id setup.reads (quieted l.stage) a (soon_id setup.reads l.stage a l.id)) (soon_pin setup.reads (quieted l.stage) a h'.pin) (soon_id setup.reads (quieted l.stage) a h'.id) s p =
+      subst (λ st. IsJoined tests (real.peers number).alive l.account l.marked (soon_told setup.reads (quieted st) a (soon_told setup.reads st a l.told)) (soon_id setup.reads (quieted st) a (soon_id setup.reads st a l.id)) (soon_pin setup.reads (quieted st) a h'.pin) (soon_id setup.reads (quieted st) a h'.id) s p) (sym ran) before in
+      let joined : IsJoinedLink setup tests number n l' (real.peers number) h' p = record { home = (at_joined n carries).home; asked = subst (λ st. IsAskedJoined setup n (quieted st) l'.marked l'.told l'.id l'.live h') (sym ran) tt; joined = next } in
+      subst (λ x. IsAt setup tests number l' (real.peers number) (put is_name view.held x (held_heard setup.reads question a (view.held x))) private.sessions) (sym same)
+      (subst (λ c. IsAtBy setup tests c number l' (real.peers number) (put is_name view.held n h') private.sessions) (sym carries)
+      (subst (λ h. IsJoinedLink setup tests number n l' (real.peers number) h p) (sym (put-same names view.held n h')) joined))
 
   heard_name : (to : View) (n m : SessionName) (question : Question) → (view.links number).stage ≡ Answered question → (view.links number).carries ≡ Joined n → m ≡ n
       → Stands setup tests (record to { links = put is_link_id view.links number (heard setup.reads (real.peers number).answer (view.links number)); held = put is_name view.held m (held_heard setup.reads question (real.peers number).answer (view.held m)) }) real private
@@ -215,7 +215,7 @@ module _ (setup : Setup) (tests : Tests) (view : View) (real : Real) (private : 
       (resting_but m h (λ e. cc))
 
   heard_lent : (n : SessionName) (question : Question) (held : SessionName → Held) → (view.links number).stage ≡ Answered question → (view.links number).carries ≡ Lent n → held n ≡ view.held n
-      → IsAt setup number (heard setup.reads (real.peers number).answer (view.links number)) (real.peers number) held private.sessions
+      → IsAt setup tests number (heard setup.reads (real.peers number).answer (view.links number)) (real.peers number) held private.sessions
   heard_lent n question held ran carries same =
       let l = view.links number in
       let a = (real.peers number).answer in
@@ -226,7 +226,7 @@ module _ (setup : Setup) (tests : Tests) (view : View) (real : Real) (private : 
       (subst (λ st. IfAlive (real.peers number).alive (IsFree l.account (soon_told setup.reads st a l.told) (soon_id setup.reads st a l.id) (real.peers number).session) (Unit {0})) ran is.session) in
       let lent : IsLentLink setup number n l' (real.peers number) (view.held n) (private.sessions n) =
       record { home = is.home; unmarked = is.unmarked; asked = subst (λ st. IsAskedLent setup n (quieted st) l'.account l'.told l'.id l'.live (view.held n)) (sym ran) tt; session = next; plain = is.plain; id = is.id } in
-      subst (λ c. IsAtBy setup c number l' (real.peers number) held private.sessions) (sym carries)
+      subst (λ c. IsAtBy setup tests c number l' (real.peers number) held private.sessions) (sym carries)
       (subst (λ h. IsLentLink setup number n l' (real.peers number) h (private.sessions n)) (sym same) lent)
 
   heard_lent_prep : (to : View) (n m : SessionName) (key : ℕ) (text : List ℕ) → (view.links number).stage ≡ Answered (Prep m key text) → (view.links number).carries ≡ Lent n → IsPreparing setup n m key text (view.links number).told (view.held n)
@@ -241,7 +241,7 @@ module _ (setup : Setup) (tests : Tests) (view : View) (real : Real) (private : 
       (resting_but n (h n) (λ e. let home : (view.held n).home ≡ Some number = (at_lent n carries).home in cc)))
 
   heard_by_stage : (to : View) (question : Question) → (view.links number).stage ≡ Answered question
-      → (carried : Carried) → (view.links number).carries ≡ carried → IsAtBy setup carried number (view.links number) (real.peers number) view.held private.sessions
+      → (carried : Carried) → (view.links number).carries ≡ carried → IsAtBy setup tests carried number (view.links number) (real.peers number) view.held private.sessions
       → Stands setup tests (record to { links = put is_link_id view.links number (heard setup.reads (real.peers number).answer (view.links number)); held = held_by setup.reads question (real.peers number).answer view.held }) real private
   heard_by_stage to (Own command) ran (Lent n) carries at =
       moved to (heard setup.reads (real.peers number).answer (view.links number)) view.held (heard_lent n (Own command) view.held ran carries refl) (λ j other. stands.links j) stands.resting
@@ -267,7 +267,7 @@ module _ (setup : Setup) (tests : Tests) (view : View) (real : Real) (private : 
 
   -- A link is given back.
 
-  free_of : (alive : Bool) (user : Account) (marked : Bool) (told : Told) (link_id : Option ℕ) (pin : Pin) (id : Option ℕ) (s p : Session) → needs_reset pin ≡ false → IsJoined alive user marked told link_id pin id s p
+  free_of : (alive : Bool) (user : Account) (marked : Bool) (told : Told) (link_id : Option ℕ) (pin : Pin) (id : Option ℕ) (s p : Session) → needs_reset pin ≡ false → IsJoined tests alive user marked told link_id pin id s p
       → IfAlive alive (IsFree user told link_id s) (Unit {0})
   free_of false user marked told link_id pin id s p harmless joined = tt
   free_of true user marked told link_id pin id s p harmless joined =
@@ -280,7 +280,7 @@ module _ (setup : Setup) (tests : Tests) (view : View) (real : Real) (private : 
         knows = joined.session.knows;
       }
 
-  resting_of : (alive : Bool) (user : Account) (marked : Bool) (told : Told) (link_id : Option ℕ) (pin : Pin) (id : Option ℕ) (s p : Session) → needs_reset pin ≡ false → IsJoined alive user marked told link_id pin id s p → IsPlain p
+  resting_of : (alive : Bool) (user : Account) (marked : Bool) (told : Told) (link_id : Option ℕ) (pin : Pin) (id : Option ℕ) (s p : Session) → needs_reset pin ≡ false → IsJoined tests alive user marked told link_id pin id s p → IsPlain p
   resting_of false user marked told link_id pin id s p harmless joined = joined.session
   resting_of true user marked told link_id pin id s p harmless joined = suits_plain pin p harmless joined.session.suits
 

@@ -9,7 +9,7 @@ use Rattle.private_model.specs.View as view
 use Rattle.private_model.specs.View.{Answered, Asked, Carried, Held, Joined, Lent, Link, Nobody, Quiet, Setup, Stage, View, pin_heard, id_heard, live_after, told_after}
 use Rattle.private_model.specs.Worlds.{Peer, Private, Real}
 use Rattle.server_rule.specs.Classes.{Reads, core}
-use Rattle.server_rule.specs.Servers.{Tests, is_brief, is_some_of, with_diag, with_id}
+use Rattle.server_rule.specs.Servers.{AgreeWhere, Tests, is_brief, is_some_of, with_diag, with_id}
 use Rattle.server_rule.specs.declared.session.Session.{Session}
 use Rattle.session_state.specs.Pins.{is_pinned}
 use Rattle.session_state.specs.declared.pin.Pin.{Pin}
@@ -87,10 +87,10 @@ pub record IsFree (user : Account) (told : Told) (id : Option ℕ) (s : Session)
   pub knows : Knows id s
 
 -- the session on the link is the private one, with the exceptions that the next statement may have
-pub record IsTogether (user : Account) (marked : Bool) (told : Told) (id : Option ℕ) (pin : Pin) (s private : Session) : Type 0 where
+pub record IsTogether (tests : Tests) (user : Account) (marked : Bool) (told : Told) (id : Option ℕ) (pin : Pin) (s private : Session) : Type 0 where
   pub account : account_of s ≡ user
   pub rest : private ≡ with_diag private.diag (with_id private.last_id s)
-  pub diag : is_pinned pin ≡ true → private.diag ≡ s.diag
+  pub diag : is_pinned pin ≡ true → AgreeWhere tests pin.own_diag pin.own_found private.diag s.diag
   pub last_id : marked ≡ true → private.last_id ≡ s.last_id
   pub follows : pin.deep ≡ false → Follows told s
   pub knows : Knows id s
@@ -168,24 +168,24 @@ IsAskedJoined setup n (Answered (Capture m)) marked told link_id live held = m �
 IsAskedJoined setup n _ marked told link_id live held = ⊥
 
 -- the session there is n's, and n's on no other link
-pub record IsJoined (alive : Bool) (user : Account) (marked : Bool) (told : Told) (link_id : Option ℕ) (pin : Pin) (id : Option ℕ) (s private : Session) : Type 0 where
-  pub session : IfAlive alive (IsTogether user marked told link_id pin s private) (IsPlain private)
+pub record IsJoined (tests : Tests) (alive : Bool) (user : Account) (marked : Bool) (told : Told) (link_id : Option ℕ) (pin : Pin) (id : Option ℕ) (s private : Session) : Type 0 where
+  pub session : IfAlive alive (IsTogether tests user marked told link_id pin s private) (IsPlain private)
   pub knows : Knows id private
   pub unknown : id ≡ None → marked ≡ true
 
-pub record IsJoinedLink (setup : Setup) (number : LinkId) (n : SessionName) (link : Link) (peer : Peer) (held : Held) (private : Session) : Type 0 where
+pub record IsJoinedLink (setup : Setup) (tests : Tests) (number : LinkId) (n : SessionName) (link : Link) (peer : Peer) (held : Held) (private : Session) : Type 0 where
   pub home : held.home ≡ Some number
   pub asked : IsAskedJoined setup n link.stage link.marked link.told link.id link.live held
-  pub joined : IsJoined peer.alive link.account link.marked (soon_told setup.reads link.stage peer.answer link.told) (soon_id setup.reads link.stage peer.answer link.id)
+  pub joined : IsJoined tests peer.alive link.account link.marked (soon_told setup.reads link.stage peer.answer link.told) (soon_id setup.reads link.stage peer.answer link.id)
       (soon_pin setup.reads link.stage peer.answer held.pin) (soon_id setup.reads link.stage peer.answer held.id) peer.session private
 
-abbrev pub IsAtBy : Setup → Carried → (number : LinkId) → Link → Peer → (SessionName → Held) → (SessionName → Session) → Type 0
-IsAtBy setup Nobody number link peer held sessions = IsFreeLink setup link peer
-IsAtBy setup (Lent n) number link peer held sessions = IsLentLink setup number n link peer (held n) (sessions n)
-IsAtBy setup (Joined n) number link peer held sessions = IsJoinedLink setup number n link peer (held n) (sessions n)
+abbrev pub IsAtBy : Setup → Tests → Carried → (number : LinkId) → Link → Peer → (SessionName → Held) → (SessionName → Session) → Type 0
+IsAtBy setup tests Nobody number link peer held sessions = IsFreeLink setup link peer
+IsAtBy setup tests (Lent n) number link peer held sessions = IsLentLink setup number n link peer (held n) (sessions n)
+IsAtBy setup tests (Joined n) number link peer held sessions = IsJoinedLink setup tests number n link peer (held n) (sessions n)
 
-abbrev pub IsAt : Setup → (number : LinkId) → Link → Peer → (SessionName → Held) → (SessionName → Session) → Type 0
-IsAt setup number link peer held sessions = IsAtBy setup link.carries number link peer held sessions
+abbrev pub IsAt : Setup → Tests → (number : LinkId) → Link → Peer → (SessionName → Held) → (SessionName → Session) → Type 0
+IsAt setup tests number link peer held sessions = IsAtBy setup tests link.carries number link peer held sessions
 
 -- a session that no link carries
 pub record IsResting (held : Held) (private : Session) : Type 0 where
@@ -277,4 +277,4 @@ pub record Stands (setup : Setup) (tests : Tests) (view : View) (real : Real) (p
   pub stored : (server : ServerId) → private.stored server ≡ real.stored server
   pub owners : (n : SessionName) → account_of (private.sessions n) ≡ setup.accounts n.client
   pub resting : (n : SessionName) → (view.held n).home ≡ None → IsResting (view.held n) (private.sessions n)
-  pub links : (number : LinkId) → IsAt setup number (view.links number) (real.peers number) view.held private.sessions
+  pub links : (number : LinkId) → IsAt setup tests number (view.links number) (real.peers number) view.held private.sessions

@@ -5,9 +5,9 @@ use Rattle.session_state.specs.Endings as ending
 use Rattle.private_model.specs.Commands.{Account, Number, Args, Command, Outcome, Reply, FieldList, Prepare, Query, Quit, ReadId, Reset, Run, SetId, Step, class_of, end_of, fresh_of, hides_of, is_err, is_ok}
 use Rattle.server_rule.specs.Classes.{Reads, core}
 use Rattle.server_rule.specs.Replies.{one_number}
-use Rattle.server_rule.specs.Servers.{Accepts, Tests, is_brief, is_some_of, with_diag, with_id}
+use Rattle.server_rule.specs.Servers.{Accepts, AgreeWhere, Tests, is_brief, is_some_of, with_diag, with_id}
 use Rattle.server_rule.specs.declared.session.Session.{Session}
-use Rattle.session_state.specs.Classes.{Tracked, Uses, effect_of, frees_locks, is_lone_savepoint, schema_by, sets_autocommit, sets_next, settings_by, takes_locks}
+use Rattle.session_state.specs.Classes.{Tracked, Uses, effect_of, frees_locks, is_lone_savepoint, leaves_diag, leaves_found, schema_by, sets_autocommit, sets_next, settings_by, takes_locks}
 use Rattle.session_vars.specs.declared.change.Change.{Change}
 use Rattle.session_vars.specs.declared.change.SlotValue.{SlotValue}
 
@@ -55,9 +55,24 @@ pub record TextLaw (reads : Reads) (tests : Tests) (step : Step) : Type 0 where
   pub brief : (stored : List ℕ) (s : Session) → Accepts tests stored s → (c : Command) → (class_of reads c).deep ≡ false → is_lone_savepoint (class_of reads c) (is_some_of s.tx) ≡ false → is_brief s.deep ≡ true → is_brief (step stored s c).session.deep ≡ true
   pub ended : (stored : List ℕ) (s : Session) → Accepts tests stored s → (c : Command) → (class_of reads c).deep ≡ false → is_some_of s.tx ≡ true → is_some_of (step stored s c).session.tx ≡ false → is_brief s.deep ≡ true → (step stored s c).session.deep ≡ []
 
+-- two outcomes that are the same but for diagnostics, which show the same where they are of this command, or did before
+pub record IsBlind (tests : Tests) (own_diag own_found : Bool) (diag diag' : List ℕ) (there here : Outcome) : Type 0 where
+  pub stored : there.stored ≡ here.stored
+  pub reply : there.reply ≡ here.reply
+  pub session : there.session ≡ with_diag there.session.diag here.session
+  pub warnings : (own_diag ≡ false → tests.warnings diag ≡ tests.warnings diag') → tests.warnings there.session.diag ≡ tests.warnings here.session.diag
+  pub found : (own_found ≡ false → tests.found diag ≡ tests.found diag') → tests.found there.session.diag ≡ tests.found here.session.diag
+
+abbrev pub IsBlindBy : Reads → Tests → Command → (diag diag' : List ℕ) → (there here : Outcome) → Type 0
+IsBlindBy reads tests c diag diag' there here =
+    IsBlind tests (leaves_diag (class_of reads c) (end_of here.reply)) (leaves_found (class_of reads c) (end_of here.reply)) diag diag' there here
+
+abbrev pub SeesSame : Reads → Tests → Command → (diag diag' : List ℕ) → Type 0
+SeesSame reads tests c diag diag' = AgreeWhere tests (class_of reads c).reads_diag (class_of reads c).reads_found diag diag'
+
 -- What doesn't depend on the diagnostics, and what doesn't on the insert id.
 pub record BlindLaw (reads : Reads) (tests : Tests) (step : Step) : Type 0 where
-  pub diag : (stored : List ℕ) (s : Session) → Accepts tests stored s → (c : Command) (diag : List ℕ) → Accepts tests stored (with_diag diag s) → (class_of reads c).reads_diag ≡ false → step stored (with_diag diag s) c ≡ step stored s c
+  pub diag : (stored : List ℕ) (s : Session) → Accepts tests stored s → (c : Command) (diag : List ℕ) → Accepts tests stored (with_diag diag s) → SeesSame reads tests c diag s.diag → IsBlindBy reads tests c diag s.diag (step stored (with_diag diag s) c) (step stored s c)
   pub last_id : (stored : List ℕ) (s : Session) → Accepts tests stored s → (c : Command) (n : ℕ) → (class_of reads c).marks_id ≡ false → step stored (with_id n s) c ≡ outcome_with_id n (step stored s c)
 
 abbrev pub is_text : Command → Bool

@@ -10,7 +10,6 @@ use Rattle.server_rule.specs.Classes as classes
 use Rattle.server_rule.specs.Replies.{reply_end, one_number}
 use Rattle.server_rule.specs.Texts.{read_id_text, set_id_text}
 use Rattle.session_state.specs.InsertIds.{id_after_text, id_prepared}
-use Rattle.session_state.specs.Pins.{diag_after}
 use Rattle.pin_classifier.specs.declared.class.Class.{Class}
 use Rattle.server_rule.specs.Classes.{Reads}
 use Rattle.server_rule.specs.Servers.{fresh}
@@ -18,7 +17,7 @@ use Rattle.server_rule.specs.declared.command.Cmd.{Cmd}
 pub use Rattle.server_rule.specs.declared.command.Reply.{Reply}
 use Rattle.server_rule.specs.declared.session.Capabilities.{Capabilities}
 use Rattle.server_rule.specs.declared.session.Session.{Session}
-use Rattle.session_state.specs.Pins.{pin_answered}
+use Rattle.session_state.specs.Pins.{pin_answered, pin_prepared}
 use Rattle.session_state.specs.declared.pin.Pin.{Pin}
 use Rattle.session_state.specs.declared.reply_end.ReplyEnd.{ReplyEnd}
 use Rattle.session_vars.specs.declared.change.SlotValue.{SlotValue}
@@ -137,7 +136,7 @@ is_marked reads command = (class_of reads command).marks_id
 abbrev pub pin_statement : Reads → Command → (multiplex : Option Bool) → Reply → Pin → Pin
 pin_statement reads (Prepare text) multiplex reply pin =
     if is_err reply then pin_answered (reads.class text) multiplex (end_of reply) pin
-    else record pin { diag = diag_after (reads.class text) (end_of reply) pin }
+    else pin_prepared (reads.class text) (end_of reply) pin
 pin_statement reads command multiplex reply pin = pin_answered (class_of reads command) multiplex (end_of reply) pin
 
 -- The insert id after a reply, where it is known.

@@ -63,9 +63,15 @@ pub record Begins (setup : Setup) (n : SessionName) (due : Due) (user : Account)
   pub placed : IsPlaced told due.place
   pub account : user ≡ setup.accounts n.client
   pub blind : (class_of setup.reads due.command).reads_diag ≡ false
+  pub blind_found : (class_of setup.reads due.command).reads_found ≡ false
   pub known : ℕ
   pub no_capture : id ≡ Some known
   pub marks : is_marked setup.reads due.command ≡ true → link_id ≡ id
+
+-- What it reads of earlier statements its own session left there.
+pub record ReadsOwn (class : Class) (pin : Pin) : Type 0 where
+  pub diag : class.reads_diag ≡ true → pin.own_diag ≡ true
+  pub found : class.reads_found ≡ true → pin.own_found ≡ true
 
 -- A statement of a pinned session goes to the session's own link.
 pub record GoesOn (setup : Setup) (due : Due) (marked : Bool) (told : Told) (link_id : Option ℕ) (live : ℕ → Option ℕ) (pin : Pin) (id : Option ℕ) : Type 0 where
@@ -74,6 +80,7 @@ pub record GoesOn (setup : Setup) (due : Due) (marked : Bool) (told : Told) (lin
   pub pinned : is_pinned pin ≡ true
   pub anew : due.anew ≡ false
   pub placed : IsPlaced told due.place
+  pub reads : ReadsOwn (class_of setup.reads due.command) pin
   pub marks : is_marked setup.reads due.command ≡ true → (marked ≡ true) ⊎ IdsAgree link_id id
 
 -- the link carries nobody and no link carries the session; or the text was prepared for it there
@@ -118,6 +125,7 @@ pub record IsSet (class : Class) (tx : Bool) : Type 0 where
   pub effect : effect_of class ≡ Tracked changes
   pub unmarked : class.marks_id ≡ false
   pub blind : class.reads_diag ≡ false
+  pub blind_found : class.reads_found ≡ false
   pub shallow : class.deep ≡ false
   pub no_locks : takes class ≡ false
   pub next_tx : class.next_tx ≡ false

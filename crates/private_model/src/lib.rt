@@ -17,7 +17,7 @@ ghost use Rattle.session_state.specs.declared.names.SessionName.{SessionName};
 /// Where servers are tame and answer honestly, and what is sent to them is lawful, each statement meets the session
 /// that its client would have for itself, and is answered as there.
 pub fn private_world()
-    ensures { (setup : Setup) (tests : Tests) (server : Step) (story : Story) → IsTame setup.reads tests server → IsAccepted setup tests → IsLawful setup story → IsHonest setup (runs server) story → MeetsPrivate setup.reads (view_after setup story) (real_after setup (runs server) story) (private_after setup (runs server) story) }
+    ensures { (setup : Setup) (tests : Tests) (server : Step) (story : Story) → IsTame setup.reads tests server → IsAccepted setup tests → IsLawful setup story → IsHonest setup (runs server) story → MeetsPrivate setup.reads tests (view_after setup story) (real_after setup (runs server) story) (private_after setup (runs server) story) }
 {}
 
 /// What was read in answer to a message is what its client's own session answered: how a caller cites the law.
@@ -29,7 +29,7 @@ pub fn private_replies()
 
 /// The law holds at every moment of a story: whatever came later, what was promised of the past stood then.
 pub fn private_at_each_moment()
-    ensures { (setup : Setup) (tests : Tests) (server : Step) (later past : Story) → IsTame setup.reads tests server → IsAccepted setup tests → IsLawful setup (later ++ past) → IsHonest setup (runs server) (later ++ past) → MeetsPrivate setup.reads (view_after setup past) (real_after setup (runs server) past) (private_after setup (runs server) past) }
+    ensures { (setup : Setup) (tests : Tests) (server : Step) (later past : Story) → IsTame setup.reads tests server → IsAccepted setup tests → IsLawful setup (later ++ past) → IsHonest setup (runs server) (later ++ past) → MeetsPrivate setup.reads tests (view_after setup past) (real_after setup (runs server) past) (private_after setup (runs server) past) }
 {
     private_world();
 }

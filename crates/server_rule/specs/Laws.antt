@@ -5,10 +5,10 @@ use Rattle.session_vars.specs.declared.change.Change.{Change}
 use Rattle.session_vars.specs.declared.change.SlotValue.{SlotValue}
 use Rattle.session_vars.specs.declared.long_part.LongPart.{LongPart}
 use Rattle.session_state.specs.Classes.{Tracked, Uses, Neither, effect_of, frees_locks, is_lone_savepoint, schema_by, sets_autocommit, sets_next, settings_by, takes_locks}
-use Rattle.session_state.specs.Endings.{brings_id, is_err, is_ok, shows_transaction}
-use Rattle.server_rule.specs.Classes.{Reads, core, effect_run, is_close, is_prepare, outlasts_run, sees_diag, sees_id, text_run}
+use Rattle.session_state.specs.Endings.{brings_id, is_err, is_ok, shows_transaction, warns}
+use Rattle.server_rule.specs.Classes.{Reads, core, effect_run, is_close, is_prepare, leaves_diag_run, leaves_found_run, outlasts_run, sees_diag, sees_found, sees_id, text_run}
 use Rattle.server_rule.specs.Replies.{one_number, reply_end}
-use Rattle.server_rule.specs.Servers.{Accepts, Step, Tests, fresh, is_brief, is_some_of, outcome_with_id, with_diag, with_id}
+use Rattle.server_rule.specs.Servers.{Accepts, AgreeWhere, Outcome, Step, Tests, fresh, is_brief, is_some_of, outcome_with_id, with_diag, with_id}
 use Rattle.server_rule.specs.Texts.{read_id_text, set_id_text}
 use Rattle.server_rule.specs.declared.command.Cmd.{Cmd}
 use Rattle.server_rule.specs.declared.command.Cmd.TheVariants.{Query, FieldList, Prepare, Run, Reset, Close}
@@ -69,10 +69,21 @@ pub record TextLaw (reads : Reads) (tests : Tests) (step : Step) : Type 0 where
   pub ended : (stored : List ℕ) (s : Session) → Accepts tests stored s → (c : Cmd) (text : List ℕ) → text_run c ≡ Some text → (reads.class text).deep ≡ false → is_some_of s.tx ≡ true → is_some_of (step stored s c).session.tx ≡ false → is_brief s.deep ≡ true → (step stored s c).session.deep ≡ []
   pub unset : (stored : List ℕ) (s : Session) → Accepts tests stored s → (c : Cmd) (text : List ℕ) → text_run c ≡ Some text → (reads.class text).deep ≡ false → (reads.class text).next_tx ≡ true → is_err (reply_end false (step stored s c).reply) ≡ true → (step stored s c).session.deep ≡ s.deep
 
--- Independence: only a text that reads diagnostics depends on them, and only one that is marked depends on the insert id
+-- What one command does in two sessions that differ in diagnostics: the same, but for the diagnostics that it leaves; and these
+-- show the same where they are its own, or where they did before.
+pub record IsBlind (tests : Tests) (own_diag own_found : Bool) (diag diag' : List ℕ) (there here : Outcome) : Type 0 where
+  pub stored : there.stored ≡ here.stored
+  pub reply : there.reply ≡ here.reply
+  pub session : there.session ≡ with_diag there.session.diag here.session
+  pub warnings : (own_diag ≡ false → tests.warnings diag ≡ tests.warnings diag') → tests.warnings there.session.diag ≡ tests.warnings here.session.diag
+  pub found : (own_found ≡ false → tests.found diag ≡ tests.found diag') → tests.found there.session.diag ≡ tests.found here.session.diag
+
+-- Independence: only a text that reads diagnostics depends on what they show, and leaves older ones only where it uses no table
+-- and its reply doesn't warn, or, for FOUND_ROWS(), where it is no SELECT; and only one that is marked depends on the insert id
 -- or changes it. To prepare a text is neither.
 pub record BlindLaw (reads : Reads) (tests : Tests) (step : Step) : Type 0 where
-  pub diag : (stored : List ℕ) (s : Session) → Accepts tests stored s → (c : Cmd) (diag : List ℕ) → Accepts tests stored (with_diag diag s) → sees_diag reads c ≡ false → step stored (with_diag diag s) c ≡ step stored s c
+  pub diag : (stored : List ℕ) (s : Session) → Accepts tests stored s → (c : Cmd) (diag : List ℕ) → Accepts tests stored (with_diag diag s) → AgreeWhere tests (sees_diag reads c) (sees_found reads c) diag s.diag
+      → IsBlind tests (leaves_diag_run reads c (reply_end (is_prepare c) (step stored s c).reply)) (leaves_found_run reads c (reply_end (is_prepare c) (step stored s c).reply)) diag s.diag (step stored (with_diag diag s) c) (step stored s c)
   pub last_id : (stored : List ℕ) (s : Session) → Accepts tests stored s → (c : Cmd) (n : ℕ) → sees_id reads c ≡ false → step stored (with_id n s) c ≡ outcome_with_id n (step stored s c)
 
 -- Insert ids: a text that isn't deep changes it only where it is answered by an ERR or by an OK that shows one. The text
@@ -85,11 +96,11 @@ pub record IdLaw (reads : Reads) (tests : Tests) (step : Step) : Type 0 where
   pub set_refused : (stored : List ℕ) (s : Session) → Accepts tests stored s → (n : ℕ) → n < 2 ^ 64 → is_ok (reply_end false (step stored s (Query (set_id_text n))).reply) ≡ false → (step stored s (Query (set_id_text n))).session ≡ with_diag (step stored s (Query (set_id_text n))).session.diag s
   pub set_reply : (stored : List ℕ) (s : Session) → Accepts tests stored s → (n k : ℕ) → n < 2 ^ 64 → (step stored (with_id k s) (Query (set_id_text n))).reply ≡ (step stored s (Query (set_id_text n))).reply
   pub set_diag : (stored : List ℕ) (s : Session) → Accepts tests stored s → (n k : ℕ) → n < 2 ^ 64 → (step stored (with_id k s) (Query (set_id_text n))).session.diag ≡ (step stored s (Query (set_id_text n))).session.diag
-  pub set_blind : (stored : List ℕ) (s : Session) → Accepts tests stored s → (n : ℕ) → n < 2 ^ 64 → (diag : List ℕ) → Accepts tests stored (with_diag diag s) → step stored (with_diag diag s) (Query (set_id_text n)) ≡ step stored s (Query (set_id_text n))
+  pub set_blind : (stored : List ℕ) (s : Session) → Accepts tests stored s → (n : ℕ) → n < 2 ^ 64 → (diag : List ℕ) → Accepts tests stored (with_diag diag s) → IsBlind tests (warns (reply_end false (step stored s (Query (set_id_text n))).reply)) false diag s.diag (step stored (with_diag diag s) (Query (set_id_text n))) (step stored s (Query (set_id_text n)))
   pub read_stored : (stored : List ℕ) (s : Session) → Accepts tests stored s → (step stored s (Query read_id_text)).stored ≡ stored
   pub read_session : (stored : List ℕ) (s : Session) → Accepts tests stored s → (step stored s (Query read_id_text)).session ≡ with_diag (step stored s (Query read_id_text)).session.diag s
   pub read_row : (stored : List ℕ) (s : Session) → Accepts tests stored s → (is_err (reply_end false (step stored s (Query read_id_text)).reply) ≡ true) ⊎ (one_number (step stored s (Query read_id_text)).reply ≡ Some s.last_id)
-  pub read_blind : (stored : List ℕ) (s : Session) → Accepts tests stored s → (diag : List ℕ) → Accepts tests stored (with_diag diag s) → step stored (with_diag diag s) (Query read_id_text) ≡ step stored s (Query read_id_text)
+  pub read_blind : (stored : List ℕ) (s : Session) → Accepts tests stored s → (diag : List ℕ) → Accepts tests stored (with_diag diag s) → IsBlind tests (warns (reply_end false (step stored s (Query read_id_text)).reply)) false diag s.diag (step stored (with_diag diag s) (Query read_id_text)) (step stored s (Query read_id_text))
 
 -- Status flags: the last ones of a reply show a transaction exactly where one is open afterwards.
 pub record FlagsLaw (tests : Tests) (step : Step) : Type 0 where

@@ -13,12 +13,15 @@ pub record Outcome : Type 0 where
 abbrev pub Step : Type 0
 Step = (stored : List ℕ) → Session → Cmd → Outcome
 
--- what a server takes as its data, and as a session, of which it looks at these four alone; and in which deep state of a session
--- something stands that no reset takes back
+-- What a server takes as its data, and as a session, of which it looks at these four alone; in which deep state of a session
+-- something stands that no reset takes back; and what of a session's diagnostics is shown by what reads warnings and counts of
+-- changed rows, and what by FOUND_ROWS().
 pub record Tests : Type 0 where
   pub is_data : List ℕ → Bool
   pub is_session : (tx locks deep diag : List ℕ) → Bool
   pub lasts : (deep : List ℕ) → Bool
+  pub warnings : (diag : List ℕ) → List ℕ
+  pub found : (diag : List ℕ) → List ℕ
 
 abbrev pub Accepts : Tests → (stored : List ℕ) → Session → Type 0
 Accepts tests stored s = (tests.is_data stored ≡ true) × (tests.is_session s.tx s.locks s.deep s.diag ≡ true)
@@ -37,6 +40,11 @@ with_id n session = record session { last_id = n }
 
 abbrev pub with_diag : List ℕ → Session → Session
 with_diag diag session = record session { diag = diag }
+
+-- they show the same, where it is asked for
+pub record AgreeWhere (tests : Tests) (warnings found : Bool) (diag diag' : List ℕ) : Type 0 where
+  pub warnings : warnings ≡ true → tests.warnings diag ≡ tests.warnings diag'
+  pub found : found ≡ true → tests.found diag ≡ tests.found diag'
 
 abbrev pub outcome_with_id : ℕ → Outcome → Outcome
 outcome_with_id n outcome = record outcome { session = with_id n outcome.session }

@@ -1,5 +1,5 @@
 -- What a statement does by its class, answered so.
-use Rattle.std.specs.Prelude.{ℕ, Bool, true, false, not, ◌&&◌, List}
+use Rattle.std.specs.Prelude.{ℕ, Bool, true, false, not, ◌&&◌, ◌||◌, List}
 use Rattle.std.specs.List.{list_any}
 use Rattle.session_vars.specs.Settings.{applied}
 use Rattle.session_vars.specs.declared.change.Change.{Change}
@@ -13,7 +13,7 @@ use Rattle.pin_classifier.specs.declared.class.Locking.{Locking}
 use Rattle.pin_classifier.specs.declared.class.Locking.TheVariants.{Takes, Frees}
 use Rattle.pin_classifier.specs.declared.class.Shape.{Shape}
 use Rattle.pin_classifier.specs.declared.class.Shape.TheVariants as shapes
-use Rattle.session_state.specs.Endings.{is_ok, is_err}
+use Rattle.session_state.specs.Endings.{is_ok, is_err, warns}
 use Rattle.session_state.specs.declared.reply_end.ReplyEnd.{ReplyEnd}
 
 abbrev pub takes_by : Locking → Bool
@@ -38,6 +38,14 @@ frees_locks class end = frees class && is_ok end
 
 abbrev pub sets_next : Class → ReplyEnd → Bool
 sets_next class end = class.next_tx && is_ok end
+
+-- Its diagnostics are its own: it uses a table, or its reply warns and it reads no older ones.
+abbrev pub leaves_diag : Class → ReplyEnd → Bool
+leaves_diag class end = not class.keeps_diag || (not class.reads_diag && warns end)
+
+-- it counted the rows that it found
+abbrev pub leaves_found : Class → ReplyEnd → Bool
+leaves_found class end = not class.keeps_found && not (is_err end)
 
 -- a savepoint outside of a transaction
 abbrev pub is_lone_savepoint : Class → (tx : Bool) → Bool

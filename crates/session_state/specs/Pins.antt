@@ -1,13 +1,13 @@
 -- Why a session keeps its link.
 use Rattle.std.specs.Prelude.{Bool, true, false, not, ◌&&◌, ◌||◌, if◌then◌else◌, Option, Some, None}
 use Rattle.pin_classifier.specs.declared.class.Class.{Class}
-use Rattle.session_state.specs.Classes.{changes_place, frees_locks, is_lone_savepoint, sets_next, takes_locks}
+use Rattle.session_state.specs.Classes.{changes_place, frees_locks, is_lone_savepoint, leaves_diag, leaves_found, sets_next, takes_locks}
 use Rattle.session_state.specs.Endings.{is_err, is_ok, is_prepared, shows_autocommit, shows_transaction, warns}
 use Rattle.session_state.specs.declared.pin.Pin.{Pin}
 use Rattle.session_state.specs.declared.reply_end.ReplyEnd.{ReplyEnd}
 
 abbrev pub no_pin : Pin
-no_pin = record { deep = false; locks = false; next_tx = false; tx = false; after_err = false; uncommitted = false; diag = false; rule = false }
+no_pin = record { deep = false; locks = false; next_tx = false; tx = false; after_err = false; uncommitted = false; diag = false; own_diag = false; own_found = false; rule = false }
 
 -- only a reset takes it back
 abbrev pub needs_reset : Pin → Bool
@@ -54,6 +54,11 @@ uncommitted_after class end pin = uncommitted_by (shows_autocommit end) class en
 abbrev pub diag_after : Class → ReplyEnd → Pin → Bool
 diag_after class end pin = if (warns end || class.calc_rows) then true else if class.reads_diag then pin.diag else false
 
+-- What a statement of this session left on the link that it keeps is its own, until it is unpinned: the next statement may be
+-- lent another link.
+abbrev pub own_after : (leaves own : Bool) → Pin → Bool
+own_after leaves own pin = leaves || (is_pinned pin && own)
+
 -- the rule's word on sharing the link
 abbrev pub rule_after : (multiplex : Option Bool) → Bool → Bool
 rule_after (Some shared) old = not shared
@@ -68,11 +73,20 @@ pin_answered class multiplex end pin = record {
   after_err = is_err end;
   uncommitted = uncommitted_after class end pin;
   diag = diag_after class end pin;
+  own_diag = own_after (leaves_diag class end) pin.own_diag pin;
+  own_found = own_after (leaves_found class end) pin.own_found pin;
   rule = rule_after multiplex pin.rule;
 }
 
--- the answer to a STMT_PREPARE, by the class of its text: other than an ERR it brings and takes nothing but diagnostics
+-- an answer to a STMT_PREPARE other than an ERR, by the class of its text, brings and takes nothing but diagnostics
+abbrev pub pin_prepared : Class → ReplyEnd → Pin → Pin
+pin_prepared class end pin = record pin {
+  diag = diag_after class end pin;
+  own_diag = own_after (warns end) pin.own_diag pin;
+  own_found = own_after false pin.own_found pin;
+}
+
 abbrev pub pin_after : Class → (multiplex : Option Bool) → ReplyEnd → Pin → Pin
 pin_after class multiplex end pin =
-    if is_prepared end then record pin { diag = diag_after class end pin }
+    if is_prepared end then pin_prepared class end pin
     else pin_answered class multiplex end pin

@@ -1,8 +1,8 @@
 // What a session has that no other client may meet.
 ghost use Rattle.std.specs.Prelude.{◌≡◌};
-ghost use Rattle.session_state.specs.Classes.{changes_place, frees_locks, takes_locks};
-ghost use Rattle.session_state.specs.Pins.{deep_after, diag_after, is_pinned, locks_after, needs_reset, next_after, pin_after, rule_after, shows_none, uncommitted_after};
-ghost use Rattle.session_state.specs.Endings.{shows_transaction};
+ghost use Rattle.session_state.specs.Classes.{changes_place, frees_locks, leaves_diag, leaves_found, takes_locks};
+ghost use Rattle.session_state.specs.Pins.{deep_after, diag_after, is_pinned, locks_after, needs_reset, next_after, own_after, pin_after, pin_prepared, rule_after, shows_none, uncommitted_after};
+ghost use Rattle.session_state.specs.Endings.{shows_transaction, warns};
 
 use crate::{EndKind, ReplyEnd};
 use pin_classifier::{Class, Locking, Shape};
@@ -25,6 +25,10 @@ pub struct Pin {
     pub uncommitted: bool,
     /// There are diagnostics to read.
     pub diag: bool,
+    /// What warnings and counts of changed rows its link has are of this session's statements.
+    pub own_diag: bool,
+    /// What FOUND_ROWS() answers on its link is of this session's statements.
+    pub own_found: bool,
     /// A rule forbids that the link is shared.
     pub rule: bool,
 }
@@ -100,6 +104,35 @@ fn diag_after(pin: Pin, class: &Class, end: &ReplyEnd) -> bool
     end.warns() || class.calc_rows || (class.reads_diag && pin.diag)
 }
 
+fn leaves_diag(class: &Class, end: &ReplyEnd) -> bool
+    ensures { result ≡ leaves_diag class.now end.now }
+{
+    !class.keeps_diag || (!class.reads_diag && end.warns())
+}
+
+fn leaves_found(class: &Class, end: &ReplyEnd) -> bool
+    ensures { result ≡ leaves_found class.now end.now }
+{
+    !class.keeps_found && !end.is_err()
+}
+
+fn own_after(leaves: bool, own: bool, pin: Pin) -> bool
+    ensures { result ≡ own_after leaves own pin }
+{
+    leaves || (is_pinned(pin) && own)
+}
+
+fn pin_prepared(pin: Pin, class: &Class, end: &ReplyEnd) -> Pin
+    ensures { result ≡ pin_prepared class.now end.now pin }
+{
+    Pin {
+        diag: diag_after(pin, class, end),
+        own_diag: own_after(end.warns(), pin.own_diag, pin),
+        own_found: own_after(false, pin.own_found, pin),
+        ..pin
+    }
+}
+
 fn rule_after(rule: bool, multiplex: Option<bool>) -> bool
     ensures { result ≡ rule_after multiplex rule }
 {
@@ -115,9 +148,8 @@ fn rule_after(rule: bool, multiplex: Option<bool>) -> bool
 pub fn pin_after(pin: Pin, class: &Class, multiplex: Option<bool>, end: &ReplyEnd) -> Pin
     ensures { result ≡ pin_after class.now multiplex end.now pin }
 {
-    let diag = diag_after(pin, class, end);
     if end.kind == EndKind::Prepared {
-        return Pin { diag, ..pin };
+        return pin_prepared(pin, class, end);
     }
     Pin {
         deep: deep_after(pin, class),
@@ -126,7 +158,9 @@ pub fn pin_after(pin: Pin, class: &Class, multiplex: Option<bool>, end: &ReplyEn
         tx: end.shows_transaction().unwrap_or(pin.tx),
         after_err: end.is_err(),
         uncommitted: uncommitted_after(pin, class, end),
-        diag,
+        diag: diag_after(pin, class, end),
+        own_diag: own_after(leaves_diag(class, end), pin.own_diag, pin),
+        own_found: own_after(leaves_found(class, end), pin.own_found, pin),
         rule: rule_after(pin.rule, multiplex),
     }
 }

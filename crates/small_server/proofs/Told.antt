@@ -143,7 +143,7 @@ shared_answered = refl
 -- the law of private worlds, of the small server
 abbrev pub Law : Type 0
 Law = (story : Story) → IsTame reads tests (tally reads) → IsAccepted setup tests → IsLawful setup story → IsHonest setup server story
-    → MeetsPrivate reads (view_after setup story) (real_after setup server story) (private_after setup server story)
+    → MeetsPrivate reads tests (view_after setup story) (real_after setup server story) (private_after setup server story)
 
 -- A story that may happen, and in which a reply that was read differs from the private world's in a number, is a breach.
 breach : Law → (story : Story) (number : Option Reply → ℕ) (key : MessageName) (payloads : List (List ℕ))
@@ -156,7 +156,7 @@ breach law story number key payloads read other so =
       broken = broken;
       unlawful = λ lawful. broken (law story (tally_tame reads) (λ s. refl) lawful (honest_so setup server story so));
     } where
-      broken : MeetsPrivate reads (view_after setup story) (real_after setup server story) (private_after setup server story) → ⊥
+      broken : MeetsPrivate reads tests (view_after setup story) (real_after setup server story) (private_after setup server story) → ⊥
       broken meets = differ _ _ other (ap number (meets.replies key (record { to_prepare = false; payloads = payloads }) read))
 
 pub in_a_transaction_breach : Law → IsBreach in_a_transaction

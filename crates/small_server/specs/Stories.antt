@@ -148,5 +148,5 @@ with_another_id_inside = heard 0 (row true 49) ∷ Ran (link 0) ∷ Sent (link 0
 -- It may happen, and the promise fails; so it isn't lawful.
 pub record IsBreach (story : Story) : Type 0 where
   pub honest : IsHonest setup server story
-  pub broken : MeetsPrivate reads (view_after setup story) (real_after setup server story) (private_after setup server story) → ⊥
+  pub broken : MeetsPrivate reads tests (view_after setup story) (real_after setup server story) (private_after setup server story) → ⊥
   pub unlawful : IsLawful setup story → ⊥
