@@ -155,7 +155,7 @@ copy_lawful = (
 )
 
 begins_begin : Begins setup (session 1) (due_at nowhere 1 true begin) anybody told (Some 0) (λ key. None) no_pin (Some 0)
-begins_begin = begins_with (session 1) (due_at nowhere 1 true begin) (λ key. None) refl tt refl refl refl
+begins_begin = begins_with (session 1) (due_at nowhere 1 true begin) (λ key. None) refl tt refl refl refl refl
 
 pub ended_lawful : IsLawful setup ended_story
 unfolding reply_end one_number digits
@@ -180,12 +180,12 @@ is_live = put nat_eq (λ key. None) 7 (Some 7)
 
 begins_to_prepare : Begins setup (session 1) (due_with 1 (Prepare text)) anybody told (Some 0) (λ key. None) no_pin (Some 0)
 begins_to_prepare = begins_with (session 1) (due_with 1 (Prepare text)) (λ key. None) refl (record { text_is = refl; schema = refl; core = refl }) refl refl
-    refl
+    refl refl
 
 begins_to_run : (ordinal null : ℕ) (long : List LongPart)
     → Begins setup (session 1) (due_with ordinal (runs_with null long)) anybody told (Some 0) is_live no_pin (Some 0)
 begins_to_run ordinal null long = begins_with (session 1) (due_with ordinal (runs_with null long)) is_live refl
-    (record { number = 7; there = refl; text_of = refl; schema_of = refl; core_of = refl }) refl refl refl
+    (record { number = 7; there = refl; text_of = refl; schema_of = refl; core_of = refl }) refl refl refl refl
 
 prepared_lawful : IsLawful setup prepared_story
 unfolding reply_end one_number digits

@@ -10,6 +10,7 @@ use Rattle.session_vars.specs.declared.long_part.LongPart.{LongPart}
 use Rattle.session_vars.specs.declared.slot.Slot.{Slot}
 use Rattle.session_state.specs.Classes.{Effect, Tracked, Uses, Neither, effect_of}
 use Rattle.pin_classifier.specs.Classes.{class_of, is_deep, marks_id, reads_diagnostics}
+use Rattle.server_rule.proofs.Blind.{blind_whole}
 use Rattle.server_rule.specs.Classes.{router_reads, sees_diag, sees_id}
 use Rattle.server_rule.specs.Laws.{BlindLaw}
 use Rattle.server_rule.specs.Servers.{with_diag, with_id}
@@ -257,6 +258,6 @@ id_blind t s Close n unmarked = absurd (cc)
 pub blindness : BlindLaw router_reads tests step
 unfolding step
 blindness = record {
-  diag = λ stored s ok c diag there unread. ap (outcome stored) (diag_blind (tables_in stored) s c diag unread);
+  diag = λ stored s ok c diag there sees. blind_whole tests (λ d. refl) step stored s c diag _ _ _ _ (λ unread. ap (outcome stored) (diag_blind (tables_in stored) s c diag unread)) sees;
   last_id = λ stored s ok c n unmarked. ap (outcome stored) (id_blind (tables_in stored) s c n unmarked);
 }

@@ -153,9 +153,9 @@ numbering = record {
   set_refused = λ stored s ok n small isnt. absurd (both_ways _ isnt (set_is_ok (tables_in stored) s n small));
   set_reply = λ stored s ok n k small. ap (λ (r : Ran). r.reply) (setting (tables_in stored) (with_id k s) n small ∙ sym (setting (tables_in stored) s n small));
   set_diag = λ stored s ok n k small. ap (λ (r : Ran). r.session.diag) (setting (tables_in stored) (with_id k s) n small ∙ sym (setting (tables_in stored) s n small));
-  set_blind = λ stored s ok n small diag there. ap (outcome stored) (setting (tables_in stored) (with_diag diag s) n small ∙ sym (setting (tables_in stored) s n small));
+  set_blind = λ stored s ok n small diag there. blind_same tests _ _ diag s.diag _ _ (ap (outcome stored) (setting (tables_in stored) (with_diag diag s) n small ∙ sym (setting (tables_in stored) s n small)));
   read_stored = λ stored s ok. of_read (tables_in stored) s (λ (r : Ran). stored_after stored r.writes ≡ stored) refl refl;
   read_session = λ stored s ok. of_read (tables_in stored) s (λ (r : Ran). r.session ≡ with_diag r.session.diag s) refl refl;
   read_row = λ stored s ok. subst (GivesId s) (sym (reading (tables_in stored) s)) (gives_id (tables_in stored) s (nat_lt s.last_id (2 ^ 64)) refl);
-  read_blind = λ stored s ok diag there. ap (outcome stored) (reading (tables_in stored) (with_diag diag s) ∙ sym (reading (tables_in stored) s));
+  read_blind = λ stored s ok diag there. blind_same tests _ _ diag s.diag _ _ (ap (outcome stored) (reading (tables_in stored) (with_diag diag s) ∙ sym (reading (tables_in stored) s)));
 }

@@ -52,4 +52,4 @@ step stored s c =
 -- any data; and any session whose deep state isn't the characteristics of the next transaction, which the server doesn't know; a
 -- reset takes all back
 abbrev pub tests : Tests
-tests = record { is_data = λ stored. true; is_session = λ tx locks deep diag. not (nat_eq (slice_index_or deep 0 0) 1); lasts = λ deep. false }
+tests = record { is_data = λ stored. true; is_session = λ tx locks deep diag. not (nat_eq (slice_index_or deep 0 0) 1); lasts = λ deep. false; warnings = λ diag. diag; found = λ diag. diag }

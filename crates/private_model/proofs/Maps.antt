@@ -7,6 +7,7 @@ use Rattle.private_model.proofs.Stands.{IsAt, IsAtBy, IsJoinedLink, IsLentLink, 
 use Rattle.private_model.specs.Story.{is_client, is_hostgroup, is_link_id, is_message, is_name, is_server, put}
 use Rattle.private_model.specs.View.{Carried, Held, Joined, Lent, Link, Nobody, Setup}
 use Rattle.private_model.specs.Worlds.{Peer}
+use Rattle.server_rule.specs.Servers.{Tests}
 use Rattle.server_rule.specs.declared.session.Session.{Session}
 
 -- what keys are told apart by
@@ -104,7 +105,7 @@ pub record IsElsewhere (key : SessionName) (held : SessionName → Held) (sessio
   pub keeps_held : (n : SessionName) → is_name n key ≡ false → held' n ≡ held n
   pub keeps_session : (n : SessionName) → is_name n key ≡ false → sessions' n ≡ sessions n
 
-module _ (setup : Setup) (key : SessionName) (held : SessionName → Held) (sessions : SessionName → Session) (held' : SessionName → Held) (sessions' : SessionName → Session) (elsewhere : IsElsewhere key held sessions held' sessions') where
+module _ (setup : Setup) (tests : Tests) (key : SessionName) (held : SessionName → Held) (sessions : SessionName → Session) (held' : SessionName → Held) (sessions' : SessionName → Session) (elsewhere : IsElsewhere key held sessions held' sessions') where
   -- a link that doesn't carry it doesn't notice
   apart_home : (j : LinkId) (n : SessionName) → (held n).home ≡ Some j → ((held key).home ≡ Some j → ⊥) → is_name n key ≡ false
   apart_home j n home not_key = go (is_name n key) refl

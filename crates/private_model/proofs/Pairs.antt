@@ -54,7 +54,7 @@ module _ (reads : Reads) (step : Step) (tests : Tests) (tame : Tame reads tests 
     | inr unmarked ↦
         let same : step stored (with_id p.last_id s) c ≡ outcome_with_id p.last_id (step stored s c) = tame.blind.last_id stored s ok c p.last_id unmarked in
         after_by reads tests c p s _ _ p.last_id (subst (λ x. IsBlindBy reads tests c p.diag s.diag (step stored p c) x) same (blind c sees))
-            (λ e. e ∙ sym (id_stays reads step tests tame stored s ok c unmarked))
+        (λ e. e ∙ sym (id_stays reads step tests tame stored s ok c unmarked))
   ]
 
   set_go : (k : Number) (ok : Bool) → is_ok (step stored s (SetId k)).reply ≡ ok → is_ok (step stored p (SetId k)).reply ≡ ok

@@ -49,11 +49,11 @@ module _ (setup : Setup) (tests : Tests) (view : View) (real : Real) (private : 
 
   pub others_held : (key : SessionName) (h : Held) → ((j : LinkId) → is_link_id j number ≡ false → (view.held key).home ≡ Some j → ⊥)
       → (j : LinkId) → is_link_id j number ≡ false → AreTabledBy setup (view.links j).carries (view.links j) (real.peers j) (put is_name view.held key h) private.tables
-  others_held key h not_key j other = tabled_frame setup key view.held (put is_name view.held key h) private.tables private.tables private.sessions (λ n e. put-other names view.held key h n e) (λ n e. refl) (view.links j).carries j (view.links j) (real.peers j) (not_key j other) (stands.links j) (are.on j)
+  others_held key h not_key j other = tabled_frame setup tests key view.held (put is_name view.held key h) private.tables private.tables private.sessions (λ n e. put-other names view.held key h n e) (λ n e. refl) (view.links j).carries j (view.links j) (real.peers j) (not_key j other) (stands.links j) (are.on j)
 
   pub others_table : (key : SessionName) (t : ℕ → Option Key) → ((j : LinkId) → is_link_id j number ≡ false → (view.held key).home ≡ Some j → ⊥)
       → (j : LinkId) → is_link_id j number ≡ false → AreTabledBy setup (view.links j).carries (view.links j) (real.peers j) view.held (put is_name private.tables key t)
-  others_table key t not_key j other = tabled_frame setup key view.held view.held private.tables (put is_name private.tables key t) private.sessions (λ n e. refl) (λ n e. put-other names private.tables key t n e) (view.links j).carries j (view.links j) (real.peers j) (not_key j other) (stands.links j) (are.on j)
+  others_table key t not_key j other = tabled_frame setup tests key view.held view.held private.tables (put is_name private.tables key t) private.sessions (λ n e. refl) (λ n e. put-other names private.tables key t n e) (view.links j).carries j (view.links j) (real.peers j) (not_key j other) (stands.links j) (are.on j)
 
   resting_held : (key : SessionName) (h : Held) → (h.home ≡ None → IsUsual setup (private.tables key)) → (n : SessionName) → (put is_name view.held key h n).home ≡ None → IsUsual setup (private.tables n)
   resting_held key h here = at_each names (λ n. (put is_name view.held key h n).home ≡ None → IsUsual setup (private.tables n)) key

@@ -123,13 +123,13 @@ module _ (setup : Setup) (tests : Tests) (step : Step) (tame : Tame setup.reads 
         stored = stored;
         owners = at_each names (λ m. account_of (sessions m) ≡ setup.accounts m.client) n (ap account_of (put-same names private.sessions n session) ∙ owner)
             (λ m e. ap account_of (put-other names private.sessions n session m e) ∙ stands.owners m);
-        resting = still_resting setup n view.held private.sessions view.held sessions elsewhere stands.resting (subst (λ x. (view.held n).home ≡ None → IsResting (view.held n) x) (sym (put-same names private.sessions n session)) resting);
+        resting = still_resting setup tests n view.held private.sessions view.held sessions elsewhere stands.resting (subst (λ x. (view.held n).home ≡ None → IsResting (view.held n) x) (sym (put-same names private.sessions n session)) resting);
         links = at_each link_ids (λ j. IsAt setup tests j (put is_link_id view.links number link j) (put is_link_id real.peers number peer j) view.held sessions) number
             (subst (λ l. IsAt setup tests number l (put is_link_id real.peers number peer number) view.held sessions) (sym (put-same link_ids view.links number link))
             (subst (λ x. IsAt setup tests number link x view.held sessions) (sym (put-same link_ids real.peers number peer)) here))
             (λ j e. subst (λ l. IsAt setup tests j l (put is_link_id real.peers number peer j) view.held sessions) (sym (put-other link_ids view.links number link j e))
             (subst (λ x. IsAt setup tests j (view.links j) x view.held sessions) (sym (put-other link_ids real.peers number peer j e))
-            (frame setup n view.held private.sessions view.held sessions elsewhere j (view.links j) (real.peers j) (not_key j e) (stands.links j))));
+            (frame setup tests n view.held private.sessions view.held sessions elsewhere j (view.links j) (real.peers j) (not_key j e) (stands.links j))));
       }
 
   -- The same where the private world stays as it is.

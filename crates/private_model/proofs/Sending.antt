@@ -123,10 +123,10 @@ module _ (setup : Setup) (tests : Tests) (view : View) (real : Real) (private : 
   -- what a link without this name holds
   others_but : (key : SessionName) (h : Held) → ((j : LinkId) → is_link_id j number ≡ false → (view.held key).home ≡ Some j → ⊥)
       → (j : LinkId) → is_link_id j number ≡ false → IsAt setup tests j (view.links j) (real.peers j) (put is_name view.held key h) private.sessions
-  others_but key h not_key j other = frame setup key view.held private.sessions (put is_name view.held key h) private.sessions (held_elsewhere key view.held private.sessions h) j (view.links j) (real.peers j) (not_key j other) (stands.links j)
+  others_but key h not_key j other = frame setup tests key view.held private.sessions (put is_name view.held key h) private.sessions (held_elsewhere key view.held private.sessions h) j (view.links j) (real.peers j) (not_key j other) (stands.links j)
 
   resting_but : (key : SessionName) (h : Held) → (h.home ≡ None → IsResting h (private.sessions key)) → (n : SessionName) → (put is_name view.held key h n).home ≡ None → IsResting (put is_name view.held key h n) (private.sessions n)
-  resting_but key h here = still_resting setup key view.held private.sessions (put is_name view.held key h) private.sessions (held_elsewhere key view.held private.sessions h) stands.resting
+  resting_but key h here = still_resting setup tests key view.held private.sessions (put is_name view.held key h) private.sessions (held_elsewhere key view.held private.sessions h) stands.resting
       (subst (λ x. x.home ≡ None → IsResting x (private.sessions key)) (sym (put-same names view.held key h)) here)
 
   -- one for which its session gets a home

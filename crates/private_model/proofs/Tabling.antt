@@ -219,11 +219,11 @@ apart_key setup key held j n home not_key = go (is_name n key) refl
     go false e = e
 
 -- what another link has isn't touched by what happens to one name
-pub tabled_frame : (setup : Setup) (key : SessionName) (held held' : SessionName → Held) (tables tables' : SessionName → ℕ → Option Key) (sessions : SessionName → Session) → ((n : SessionName) → is_name n key ≡ false → held' n ≡ held n) → ((n : SessionName) → is_name n key ≡ false → tables' n ≡ tables n)
+pub tabled_frame : (setup : Setup) (tests : Tests) (key : SessionName) (held held' : SessionName → Held) (tables tables' : SessionName → ℕ → Option Key) (sessions : SessionName → Session) → ((n : SessionName) → is_name n key ≡ false → held' n ≡ held n) → ((n : SessionName) → is_name n key ≡ false → tables' n ≡ tables n)
     → (carried : Carried) (j : LinkId) (link : Link) (peer : Peer) → ((held key).home ≡ Some j → ⊥) → IsAtBy setup tests carried j link peer held sessions → AreTabledBy setup carried link peer held tables → AreTabledBy setup carried link peer held' tables'
-tabled_frame setup key held held' tables tables' sessions same_held same_tables Nobody j link peer not_key at are = are
-tabled_frame setup key held held' tables tables' sessions same_held same_tables (Lent n) j link peer not_key at are = (are.0, subst (λ t. IsUsual setup t) (sym (same_tables n (apart_key setup key held j n at.home not_key))) are.1)
-tabled_frame setup key held held' tables tables' sessions same_held same_tables (Joined n) j link peer not_key at are =
+tabled_frame setup tests key held held' tables tables' sessions same_held same_tables Nobody j link peer not_key at are = are
+tabled_frame setup tests key held held' tables tables' sessions same_held same_tables (Lent n) j link peer not_key at are = (are.0, subst (λ t. IsUsual setup t) (sym (same_tables n (apart_key setup key held j n at.home not_key))) are.1)
+tabled_frame setup tests key held held' tables tables' sessions same_held same_tables (Joined n) j link peer not_key at are =
     let e = apart_key setup key held j n at.home not_key in
     subst (λ h. IfAlive peer.alive (AreMatched setup (soon_live link.stage peer.answer link.live) (soon_pin setup.reads link.stage peer.answer h.pin).deep peer.table (tables' n)) ((soon_pin setup.reads link.stage peer.answer h.pin).deep ≡ false → IsUsual setup (tables' n))) (sym (same_held n e))
     (subst (λ t. IfAlive peer.alive (AreMatched setup (soon_live link.stage peer.answer link.live) (soon_pin setup.reads link.stage peer.answer (held n).pin).deep peer.table t) ((soon_pin setup.reads link.stage peer.answer (held n).pin).deep ≡ false → IsUsual setup t)) (sym (same_tables n e)) are)

@@ -20,7 +20,7 @@ use Rattle.query_rules.specs.declared.ask.Stop.{Stop}
 use Rattle.query_rules.specs.declared.ask.Stop.TheVariants as stop
 use Rattle.reply_text.specs.Replies.{ok_payload}
 use Rattle.reply_text.specs.Tables.{row_payload, table_payloads}
-use Rattle.session_state.specs.Pins.{is_pinned}
+use Rattle.session_state.specs.Pins.{reads_own}
 use Rattle.session_vars.specs.Names.{lower_case}
 use Rattle.session_vars.specs.Settings.{value_at}
 use Rattle.session_vars.specs.declared.change.SlotValue.{SlotValue}
@@ -203,11 +203,11 @@ abbrev pub sent_unless : Terms → List Server → Taking → Wanted → Verdict
 sent_unless terms servers taking wanted =
     if has_nowhere terms servers taking wanted.route.hostgroup then tells_one (error.no_server_in wanted.route.hostgroup.0) else Goes wanted
 
--- diagnostics are read where the session keeps its link
+-- diagnostics are read where the session keeps its link, and where its own statements left them
 abbrev pub unless_gone : Terms → List Server → Taking → Class → Wanted → Verdict
 unless_gone terms servers taking class wanted =
-    if class.reads_diag && not (is_pinned (held_in terms taking wanted.route.hostgroup).pin) then tells_one error.diagnostics_gone
-    else sent_unless terms servers taking wanted
+    if reads_own class (held_in terms taking wanted.route.hostgroup).pin then sent_unless terms servers taking wanted
+    else tells_one error.diagnostics_gone
 
 abbrev pub unless_refused : Terms → List Server → Taking → Class → Option Refusal → Wanted → Verdict
 unless_refused terms servers taking class (Some refusal.SetsServer) wanted = tells_one error.sets_server

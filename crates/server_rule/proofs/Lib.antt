@@ -1,1 +1,2 @@
+pub mod Blind
 pub mod Ends

@@ -42,9 +42,9 @@ abbrev pub with_diag : List ℕ → Session → Session
 with_diag diag session = record session { diag = diag }
 
 -- they show the same, where it is asked for
-pub record AgreeWhere (tests : Tests) (warnings found : Bool) (diag diag' : List ℕ) : Type 0 where
-  pub warnings : warnings ≡ true → tests.warnings diag ≡ tests.warnings diag'
-  pub found : found ≡ true → tests.found diag ≡ tests.found diag'
+pub record AgreeWhere (tests : Tests) (asks_warnings asks_found : Bool) (diag diag' : List ℕ) : Type 0 where
+  pub warnings : asks_warnings ≡ true → tests.warnings diag ≡ tests.warnings diag'
+  pub found : asks_found ≡ true → tests.found diag ≡ tests.found diag'
 
 abbrev pub outcome_with_id : ℕ → Outcome → Outcome
 outcome_with_id n outcome = record outcome { session = with_id n outcome.session }

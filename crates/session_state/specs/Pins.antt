@@ -59,6 +59,10 @@ diag_after class end pin = if (warns end || class.calc_rows) then true else if c
 abbrev pub own_after : (leaves own : Bool) → Pin → Bool
 own_after leaves own pin = leaves || (is_pinned pin && own)
 
+-- what a statement of this class reads of earlier ones was left by its own session, on the link that it keeps
+abbrev pub reads_own : Class → Pin → Bool
+reads_own class pin = (not class.reads_diag || (is_pinned pin && pin.own_diag)) && (not class.reads_found || (is_pinned pin && pin.own_found))
+
 -- the rule's word on sharing the link
 abbrev pub rule_after : (multiplex : Option Bool) → Bool → Bool
 rule_after (Some shared) old = not shared

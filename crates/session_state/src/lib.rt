@@ -10,6 +10,6 @@ mod reply_end;
 
 pub use insert_id::{insert_id_after, insert_id_prepared};
 pub use names::{MessageName, SessionName};
-pub use pin::{Pin, is_pinned, needs_reset, pin_after};
+pub use pin::{Pin, is_pinned, needs_reset, pin_after, reads_own};
 pub use place::{Place, Told};
 pub use reply_end::{EndKind, ReplyEnd};

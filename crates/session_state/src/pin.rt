@@ -1,7 +1,7 @@
 // What a session has that no other client may meet.
 ghost use Rattle.std.specs.Prelude.{◌≡◌};
 ghost use Rattle.session_state.specs.Classes.{changes_place, frees_locks, leaves_diag, leaves_found, takes_locks};
-ghost use Rattle.session_state.specs.Pins.{deep_after, diag_after, is_pinned, locks_after, needs_reset, next_after, own_after, pin_after, pin_prepared, rule_after, shows_none, uncommitted_after};
+ghost use Rattle.session_state.specs.Pins.{deep_after, diag_after, is_pinned, locks_after, needs_reset, next_after, own_after, pin_after, pin_prepared, reads_own, rule_after, shows_none, uncommitted_after};
 ghost use Rattle.session_state.specs.Endings.{shows_transaction, warns};
 
 use crate::{EndKind, ReplyEnd};
@@ -177,4 +177,15 @@ pub fn is_pinned(pin: Pin) -> bool
     ensures { result ≡ is_pinned pin }
 {
     needs_reset(pin) || pin.diag || pin.rule
+}
+
+/// Whether what a statement of this class reads of earlier ones, by SHOW WARNINGS, ROW_COUNT(), FOUND_ROWS() and their
+/// like, was left by its own session on the link that it keeps. Else it would read another client's, and is refused.
+/// Takes no memory.
+pub fn reads_own(pin: Pin, class: &Class) -> bool
+    ensures { result ≡ reads_own class.now pin }
+{
+    let pinned = is_pinned(pin);
+    (!class.reads_diag || (pinned && pin.own_diag))
+        && (!class.reads_found || (pinned && pin.own_found))
 }

@@ -9,6 +9,7 @@ use Rattle.session_vars.specs.declared.change.Change.{Change}
 use Rattle.session_state.specs.Classes.{Effect, Tracked, Uses, Neither, effect_of, schema_by, settings_by}
 use Rattle.session_state.specs.Endings.{brings_id, is_err, is_ok, shows_transaction}
 use Rattle.pin_classifier.specs.declared.class.Class.{Class}
+use Rattle.server_rule.proofs.Blind.{blind_same, blind_whole}
 use Rattle.server_rule.specs.Classes.{Reads, effect_run, is_close, is_prepare, sees_diag, sees_id, text_run}
 use Rattle.server_rule.specs.Laws.{IdLaw, IsOkOrErr, IsTame, TextLaw}
 use Rattle.server_rule.specs.Replies.{number_spelled, one_number, reply_end}
@@ -492,12 +493,12 @@ module _ (reads : Reads) where
     set_refused = λ stored s ok n small. of_set (λ k. is_ok (reply_end false (by_kind k (rows_of (set_id_text n) s) (set_id_text n) stored s).reply) ≡ false → (by_kind k (rows_of (set_id_text n) s) (set_id_text n) stored s).session ≡ with_diag (by_kind k (rows_of (set_id_text n) s) (set_id_text n) stored s).session.diag s) (reads.class (set_id_text n)) n small (λ e. apart (ok_is_ok false NoId (is_some_of s.tx)) e) (λ e. refl);
     set_reply = λ stored s ok n k small. of_set (λ x. (by_kind x (rows_of (set_id_text n) (with_id k s)) (set_id_text n) stored (with_id k s)).reply ≡ (by_kind x (rows_of (set_id_text n) s) (set_id_text n) stored s).reply) (reads.class (set_id_text n)) n small refl refl;
     set_diag = λ stored s ok n k small. of_set (λ x. (by_kind x (rows_of (set_id_text n) (with_id k s)) (set_id_text n) stored (with_id k s)).session.diag ≡ (by_kind x (rows_of (set_id_text n) s) (set_id_text n) stored s).session.diag) (reads.class (set_id_text n)) n small refl refl;
-    set_blind = λ stored s ok n small diag there. of_set (λ x. by_kind x (rows_of (set_id_text n) (with_diag diag s)) (set_id_text n) stored (with_diag diag s) ≡ by_kind x (rows_of (set_id_text n) s) (set_id_text n) stored s) (reads.class (set_id_text n)) n small refl refl;
+    set_blind = λ stored s ok n small diag there. blind_same tests _ _ diag s.diag _ _ (of_set (λ x. by_kind x (rows_of (set_id_text n) (with_diag diag s)) (set_id_text n) stored (with_diag diag s) ≡ by_kind x (rows_of (set_id_text n) s) (set_id_text n) stored s) (reads.class (set_id_text n)) n small refl refl);
     read_stored = λ stored s ok. of_read (λ k. (by_kind k (rows_of read_id_text s) read_id_text stored s).stored ≡ stored) (reads.class read_id_text) refl refl;
     read_session = λ stored s ok. of_read (λ k. (by_kind k (rows_of read_id_text s) read_id_text stored s).session ≡ with_diag (by_kind k (rows_of read_id_text s) read_id_text stored s).session.diag s) (reads.class read_id_text) refl refl;
     read_row = λ stored s ok. of_read (λ k. (is_err (reply_end false (by_kind k (rows_of read_id_text s) read_id_text stored s).reply) ≡ true) ⊎ (one_number (by_kind k (rows_of read_id_text s) read_id_text stored s).reply ≡ Some s.last_id)) (reads.class read_id_text)
         (told_by (is_some_of s.tx) s.last_id (nat_eq s.last_id 0) (nat_eq s.last_id 1) (nat_eq s.last_id 2) refl refl refl) (inl refusal_is_err);
-    read_blind = λ stored s ok diag there. of_read (λ x. by_kind x (rows_of read_id_text (with_diag diag s)) read_id_text stored (with_diag diag s) ≡ by_kind x (rows_of read_id_text s) read_id_text stored s) (reads.class read_id_text) refl refl;
+    read_blind = λ stored s ok diag there. blind_same tests _ _ diag s.diag _ _ (of_read (λ x. by_kind x (rows_of read_id_text (with_diag diag s)) read_id_text stored (with_diag diag s) ≡ by_kind x (rows_of read_id_text s) read_id_text stored s) (reads.class read_id_text) refl refl);
   }
 
   shown_law : (stored : List ℕ) (s : Session) → Accepts tests stored s → (c : Cmd) → is_prepare c ≡ false → is_close c ≡ false → (shown : Bool) → shows_transaction (reply_end false (tally reads stored s c).reply) ≡ Some shown → is_some_of (tally reads stored s c).session.tx ≡ shown
@@ -537,7 +538,7 @@ module _ (reads : Reads) where
     };
     schemas = record { stored = uses_stored; session = uses_session };
     texts = text_law;
-    blind = record { diag = diag_law; last_id = id_law };
+    blind = record { diag = λ stored s ok c diag there sees. blind_whole tests (λ d. refl) (tally reads) stored s c diag _ _ _ _ (λ e. diag_law stored s ok c diag there e) sees; last_id = id_law };
     insert_id = insert_id;
     flags = record { in_trans = shown_law };
     preparing = record {

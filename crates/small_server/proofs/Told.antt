@@ -39,8 +39,8 @@ differ a b isnt e = apart (same_number a) (ap (λ x. nat_eq a x) e ∙ isnt)
 
 -- an unpinned session whose insert id is known begins on a new link
 pub begins_with : (n : SessionName) (due : Due) (live : ℕ → Option ℕ) → is_statement due.command ≡ true → IsKeyed setup due.command due.key told live
-    → due.anew ≡ true → due.place ≡ nowhere → (class_of reads due.command).reads_diag ≡ false → Begins setup n due anybody told (Some 0) live no_pin (Some 0)
-begins_with n due live statement keyed anew place blind = record {
+    → due.anew ≡ true → due.place ≡ nowhere → (class_of reads due.command).reads_diag ≡ false → (class_of reads due.command).reads_found ≡ false → Begins setup n due anybody told (Some 0) live no_pin (Some 0)
+begins_with n due live statement keyed anew place blind blind_found = record {
   statement = statement;
   keyed = keyed;
   unpinned = refl;
@@ -48,13 +48,14 @@ begins_with n due live statement keyed anew place blind = record {
   placed = record { schema = ap (λ (p : Place). Some p.schema) (sym place); settings = ap (λ (p : Place). p.settings) (sym place) };
   account = refl;
   blind = blind;
+  blind_found = blind_found;
   known = 0;
   no_capture = refl;
   marks = λ e. refl;
 }
 
 pub begins_at : (n : SessionName) → Begins setup n (due_at nowhere 1 true insert) anybody told (Some 0) (λ key. None) no_pin (Some 0)
-begins_at n = begins_with n (due_at nowhere 1 true insert) (λ key. None) refl tt refl refl refl
+begins_at n = begins_with n (due_at nowhere 1 true insert) (λ key. None) refl tt refl refl refl refl
 
 -- A statement may be sent on a free link; and a link may be given back where its session is settled.
 

@@ -6,7 +6,7 @@ use Rattle.server_rule.specs.declared.session.Session.{Session}
 
 -- it takes any data and any session
 abbrev pub anything : Tests
-anything = record { is_data = λ stored. true; is_session = λ tx locks deep diag. true; lasts = λ deep. false }
+anything = record { is_data = λ stored. true; is_session = λ tx locks deep diag. true; lasts = λ deep. false; warnings = λ diag. diag; found = λ diag. diag }
 
 -- 0xFF, code 1064, '#', SQL state 42000
 abbrev pub syntax_error : List ℕ

@@ -4,6 +4,7 @@ use Rattle.std.proofs.Common.{refl, sym, ap, ◌∙◌, inl, inr}
 use Rattle.session_vars.specs.declared.change.Change.{Change}
 use Rattle.session_state.specs.Classes.{Tracked, Uses, Neither, frees, schema_by, settings_by}
 use Rattle.session_state.specs.Endings.{is_err, is_ok, shows_transaction}
+use Rattle.server_rule.proofs.Blind.{blind_same, blind_whole}
 use Rattle.server_rule.specs.Classes.{Reads, effect_run, is_close, sees_diag, sees_id, text_run}
 use Rattle.server_rule.specs.Laws.{IsOkOrErr, IsTame}
 use Rattle.server_rule.specs.Replies.{reply_end}
@@ -151,7 +152,7 @@ refuses_tame reads = record {
     ended = λ stored s ok c text is shallow there over brief. apart (going c (text_goes c text is) (λ o. is_some_of o.session.tx ≡ true) stored s there) over;
     unset = λ stored s ok c text is shallow next err. going c (text_goes c text is) (λ o. o.session.deep ≡ s.deep) stored s refl;
   };
-  blind = record { diag = λ stored s ok c diag there e. blind reads c stored s diag e; last_id = λ stored s ok c n e. unmarked reads c stored s n e };
+  blind = record { diag = λ stored s ok c diag there sees. blind_whole anything (λ d. refl) refuses stored s c diag _ _ _ _ (λ e. blind reads c stored s diag e) sees; last_id = λ stored s ok c n e. unmarked reads c stored s n e };
   insert_id = record {
     kept = λ stored s ok c text is marks shallow shown none. going c (text_goes c text is) (λ o. o.session.last_id ≡ s.last_id) stored s refl;
     set_stored = λ stored s ok n small. refl;
@@ -159,11 +160,11 @@ refuses_tame reads = record {
     set_refused = λ stored s ok n small refused. refl;
     set_reply = λ stored s ok n k small. refl;
     set_diag = λ stored s ok n k small. refl;
-    set_blind = λ stored s ok n small diag there. refl;
+    set_blind = λ stored s ok n small diag there. blind_same anything _ _ diag s.diag _ _ refl;
     read_stored = λ stored s ok. refl;
     read_session = λ stored s ok. refl;
     read_row = λ stored s ok. inl error_is_err;
-    read_blind = λ stored s ok diag there. refl;
+    read_blind = λ stored s ok diag there. blind_same anything _ _ diag s.diag _ _ refl;
   };
   flags = record { in_trans = λ stored s ok c prepare stays is e. shown c stored s stays is e };
   preparing = record {

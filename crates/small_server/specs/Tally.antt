@@ -15,7 +15,7 @@ use Rattle.server_rule.specs.declared.session.Session.{Session}
 
 -- no locks, and no state but a transaction
 abbrev pub tests : Tests
-tests = record { is_data = λ stored. true; is_session = λ tx locks deep diag. not (is_some_of locks) && not (is_some_of deep); lasts = λ deep. false }
+tests = record { is_data = λ stored. true; is_session = λ tx locks deep diag. not (is_some_of locks) && not (is_some_of deep); lasts = λ deep. false; warnings = λ diag. diag; found = λ diag. diag }
 
 -- Replies.
 

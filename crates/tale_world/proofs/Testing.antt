@@ -7,7 +7,7 @@ use Rattle.pin_classifier.specs.declared.class.Class.{Class}
 use Rattle.session_vars.specs.declared.change.SlotValue.{SlotValue}
 use Rattle.session_vars.specs.declared.change.SlotValue.TheVariants.{Default, Text}
 use Rattle.session_state.specs.Classes.{Effect, Neither, Tracked, Uses, effect_of, sets_autocommit, takes}
-use Rattle.session_state.specs.Pins.{is_pinned, needs_reset}
+use Rattle.session_state.specs.Pins.{is_pinned, needs_reset, reads_own}
 use Rattle.session_state.specs.declared.pin.Pin.{Pin}
 use Rattle.session_state.specs.declared.place.Place.{Place}
 use Rattle.session_state.specs.declared.place.Told.{Told}
@@ -22,7 +22,7 @@ use Rattle.private_model.specs.Story.{BecameDue, Broke, Capture, Dropped, Due, E
 use Rattle.private_model.specs.Story.{is_name, message_of}
 use Rattle.private_model.specs.View.{Answered, Asked, Carried, Held, Joined, Lent, Link, Nobody, Quiet, Setup, Stage, View, present, view_after}
 use Rattle.log_story.specs.Servers.{is_quiet}
-use Rattle.tale_world.specs.Tests.{are_flags, are_settings, begins_there, fits, goes_on_there, has_due, is_account, is_flag, is_id, is_joined, is_keyed, is_lent, is_lent_to, is_nobody}
+use Rattle.tale_world.specs.Tests.{are_flags, are_settings, begins_there, fits, goes_on_there, has_due, is_account, is_blind, is_flag, is_id, is_joined, is_keyed, is_lent, is_lent_to, is_nobody}
 use Rattle.tale_world.specs.Tests.{is_own_step, is_placed, is_schema, is_set_by, is_step_of, is_told_key, is_value, may_begin_question, may_happen, may_lend, may_prepare, may_state, may_tell}
 
 isnt : {A : Type 0} → false ≡ true → A
@@ -168,7 +168,8 @@ begins_so setup n due link held statement keyed is =
     let c = and_parts due.anew _ b.1 in
     let d = and_parts (is_placed link.told due.place) _ c.1 in
     let e = and_parts (is_account link.account (setup.accounts n.client)) _ d.1 in
-    let f = and_parts (not (class_of setup.reads due.command).reads_diag) _ e.1 in
+    let f = and_parts (is_blind (class_of setup.reads due.command)) _ e.1 in
+    let blind = and_parts (not (class_of setup.reads due.command).reads_diag) _ f.0 in
     let g = and_parts (is_some held.id) (not (is_marked setup.reads due.command) || is_id link.id held.id) f.1 in
     let known = some_of held.id g.0 in
     record {
@@ -180,7 +181,8 @@ begins_so setup n due link held statement keyed is =
         anew = c.0;
         placed = placed_so link.told due.place d.0;
         account = same_account link.account (setup.accounts n.client) e.0;
-        blind = not-true (class_of setup.reads due.command).reads_diag f.0;
+        blind = not-true (class_of setup.reads due.command).reads_diag blind.0;
+        blind_found = not-true (class_of setup.reads due.command).reads_found blind.1;
         known = known.0;
         no_capture = known.1;
         marks = λ marked.
@@ -192,10 +194,13 @@ begins_so setup n due link held statement keyed is =
 goes_on_so : (setup : Setup) (n : SessionName) (due : Due) (link : Link) (held : Held) → is_statement due.command ≡ true
     → IsKeyed setup due.command due.key link.told link.live → goes_on_there setup n due link held ≡ true → GoesOnThere setup n due link held
 goes_on_so setup n due link held statement keyed is =
+    let class = class_of setup.reads due.command in
     let a = and_parts (is_joined n link.carries) _ is in
     let b = and_parts (is_pinned held.pin) _ a.1 in
     let c = and_parts (not due.anew) _ b.1 in
-    let d = and_parts (is_placed link.told due.place) (not (is_marked setup.reads due.command) || (link.marked || is_id link.id held.id)) c.1 in
+    let d = and_parts (is_placed link.told due.place) _ c.1 in
+    let own = and_parts (reads_own class held.pin) (not (is_marked setup.reads due.command) || (link.marked || is_id link.id held.id)) d.1 in
+    let reads = and_parts (not class.reads_diag || (is_pinned held.pin && held.pin.own_diag)) _ own.0 in
     record {
       carries = joined_so n link.carries a.0;
       goes_on = record {
@@ -204,7 +209,11 @@ goes_on_so setup n due link held statement keyed is =
         pinned = b.0;
         anew = not-true due.anew c.0;
         placed = placed_so link.told due.place d.0;
-        marks = λ marked. how (or_cases link.marked (is_id link.id held.id) (marked_so (is_marked setup.reads due.command) (link.marked || is_id link.id held.id) d.1 marked));
+        reads = record {
+          diag = λ looks. (and_parts (is_pinned held.pin) held.pin.own_diag (marked_so class.reads_diag _ reads.0 looks)).1;
+          found = λ looks. (and_parts (is_pinned held.pin) held.pin.own_found (marked_so class.reads_found _ reads.1 looks)).1;
+        };
+        marks = λ marked. how (or_cases link.marked (is_id link.id held.id) (marked_so (is_marked setup.reads due.command) (link.marked || is_id link.id held.id) own.1 marked));
       };
     }
   where
@@ -253,7 +262,8 @@ prepare_so setup n key text link held is =
 set_by : (class : Class) (tx : Bool) (effect : Effect) → effect_of class ≡ effect → is_set_by class tx effect ≡ true → IsSet class tx
 set_by class tx (Tracked changes) same is =
     let a = and_parts (not class.marks_id) _ is in
-    let b = and_parts (not class.reads_diag) _ a.1 in
+    let b = and_parts (is_blind class) _ a.1 in
+    let blind = and_parts (not class.reads_diag) _ b.0 in
     let c = and_parts (not class.deep) _ b.1 in
     let d = and_parts (not (takes class)) _ c.1 in
     let e = and_parts (not class.next_tx) _ d.1 in
@@ -263,7 +273,8 @@ set_by class tx (Tracked changes) same is =
       changes = changes;
       effect = same;
       unmarked = not-true class.marks_id a.0;
-      blind = not-true class.reads_diag b.0;
+      blind = not-true class.reads_diag blind.0;
+      blind_found = not-true class.reads_found blind.1;
       shallow = not-true class.deep c.0;
       no_locks = not-true (takes class) d.0;
       next_tx = not-true class.next_tx e.0;

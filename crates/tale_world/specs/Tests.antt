@@ -5,7 +5,7 @@ use Rattle.pin_classifier.specs.declared.class.Class.{Class}
 use Rattle.session_vars.specs.declared.change.SlotValue.{SlotValue}
 use Rattle.session_vars.specs.declared.change.SlotValue.TheVariants.{Default, Text}
 use Rattle.session_state.specs.Classes.{Effect, Tracked, effect_of, sets_autocommit, takes}
-use Rattle.session_state.specs.Pins.{is_pinned, needs_reset}
+use Rattle.session_state.specs.Pins.{is_pinned, needs_reset, reads_own}
 use Rattle.session_state.specs.declared.pin.Pin.{Pin}
 use Rattle.session_state.specs.declared.place.Place.{Place}
 use Rattle.session_state.specs.declared.place.Told.{Told}
@@ -85,6 +85,10 @@ is_keyed setup _ key told live = true
 abbrev pub may_lend : SessionName → Link → Held → Bool
 may_lend n link held = (is_nobody link.carries && not (is_some held.home)) || is_lent_to n link.carries
 
+-- it reads nothing of earlier statements
+abbrev pub is_blind : Class → Bool
+is_blind class = not class.reads_diag && not class.reads_found
+
 -- in a session without a Pin, on a link that carries nobody
 abbrev pub begins_there : Setup → SessionName → Due → Link → Held → Bool
 begins_there setup n due link held =
@@ -93,14 +97,16 @@ begins_there setup n due link held =
     && (due.anew
     && (is_placed link.told due.place
     && (is_account link.account (setup.accounts n.client)
-    && (not (class_of setup.reads due.command).reads_diag && (is_some held.id && (not (is_marked setup.reads due.command) || is_id link.id held.id)))))))
+    && (is_blind (class_of setup.reads due.command) && (is_some held.id && (not (is_marked setup.reads due.command) || is_id link.id held.id)))))))
 
 -- in one with a Pin, on its own link
 abbrev pub goes_on_there : Setup → SessionName → Due → Link → Held → Bool
 goes_on_there setup n due link held =
     is_joined n link.carries
     && (is_pinned held.pin
-    && (not due.anew && (is_placed link.told due.place && (not (is_marked setup.reads due.command) || (link.marked || is_id link.id held.id)))))
+    && (not due.anew
+    && (is_placed link.told due.place
+    && (reads_own (class_of setup.reads due.command) held.pin && (not (is_marked setup.reads due.command) || (link.marked || is_id link.id held.id))))))
 
 abbrev pub has_due : View → SessionName → Due → Bool
 has_due view n due = option_map_or (λ other. nat_eq other.ordinal due.ordinal) (view.dues n) false
@@ -124,7 +130,7 @@ may_prepare setup n key text link held =
 abbrev pub is_set_by : Class → (tx : Bool) → Effect → Bool
 is_set_by class tx (Tracked changes) =
     not class.marks_id
-    && (not class.reads_diag
+    && (is_blind class
     && (not class.deep
     && (not (takes class) && (not class.next_tx && (not class.savepoint && (not class.outlasts_reset && (not (sets_autocommit changes) || not tx)))))))
 is_set_by class tx _ = false

@@ -11,7 +11,7 @@ use Rattle.private_model.specs.Story.{Due, is_name, message_of}
 use Rattle.private_model.specs.View.{Link, Setup, View, present}
 use Rattle.log_story.specs.Servers.{is_quiet}
 use Rattle.tale_world.specs.Policy.{Texts, key_place, numbered}
-use Rattle.tale_world.specs.Tests.{are_settings, has_due, is_account, is_schema, is_set, may_lend}
+use Rattle.tale_world.specs.Tests.{are_settings, is_blind, has_due, is_account, is_schema, is_set, may_lend}
 
 -- an execute or a preparation is of its key
 abbrev pub is_of_key : Setup → Due → Command → Bool
@@ -32,7 +32,7 @@ pub record IsWaiting (setup : Setup) (fits : ℕ → Option Number) (view : View
   pub of_key : is_of_key setup due due.command ≡ true
   pub unpinned : not (is_pinned (view.held n).pin) ≡ true
   pub anew : due.anew ≡ true
-  pub blind : not (class_of setup.reads due.command).reads_diag ≡ true
+  pub blind : is_blind (class_of setup.reads due.command) ≡ true
   pub known : is_some (view.held n).id ≡ true
   pub in_bits : is_some (numbered (view.held n).id fits) ≡ true
 

@@ -6,6 +6,7 @@ use mx_base::OutOfMemory;
 use pin_classifier::{Class, classify};
 use session_state::{
     EndKind, Pin, ReplyEnd, insert_id_after, insert_id_prepared, is_pinned, needs_reset, pin_after,
+    reads_own,
 };
 
 // What is left in a session.
@@ -13,6 +14,8 @@ use session_state::{
 struct Left {
     pin: Pin,
     id: Option<u64>,
+    // The last statement was refused, as it reads what another client's may have left.
+    refused: bool,
 }
 
 // Appends the names of the reasons, and what follows from them.
@@ -20,6 +23,7 @@ fn push_left(answer: &mut Answer, left: Left) {
     let pin = left.pin;
     let start = answer.len();
     let names = [
+        (left.refused, "9106"),
         (!is_pinned(pin), "none"),
         (pin.deep, "deep"),
         (pin.locks, "locks"),
@@ -28,8 +32,6 @@ fn push_left(answer: &mut Answer, left: Left) {
         (pin.after_err, "after_err"),
         (pin.uncommitted, "uncommitted"),
         (pin.diag, "diag"),
-        (is_pinned(pin) && pin.own_diag, "own diag"),
-        (is_pinned(pin) && pin.own_found, "own found"),
         (pin.rule, "rule"),
         (needs_reset(pin), "needs reset"),
         (left.id.is_none(), "id unknown"),
@@ -64,7 +66,12 @@ fn step(answer: &mut Answer, left: Left, text: &str) -> Left {
     let multiplex = multiplex_of(word);
     let end = reply_end(answer, ended);
     match classify(answer.alloc(), statement.as_bytes()) {
+        Ok(class) if !reads_own(left.pin, &class) => Left {
+            refused: true,
+            ..left
+        },
         Ok(class) => Left {
+            refused: false,
             pin: pin_after(left.pin, &class, multiplex, &end),
             id: id_after(left.id, &class, &end),
         },
@@ -91,6 +98,7 @@ fn fresh() -> Left {
             rule: false,
         },
         id: Some(0),
+        refused: false,
     }
 }
 
