@@ -12,7 +12,7 @@ use Rattle.private_model.specs.Lawful.{IsLawful}
 use Rattle.private_model.specs.Story.{Statement, Story}
 use Rattle.private_model.specs.View.{Answered, Asked, Quiet, Setup, Stage, view_after}
 use Rattle.private_model.specs.Worlds.{private_after, real_after}
-use Rattle.server_rule.specs.Servers.{Step}
+use Rattle.server_rule.specs.Servers.{Step, Tests}
 use Rattle.log_story.specs.Plan.{Plan}
 use Rattle.log_story.specs.Tale.{Tale, Wire, link_in, view_of}
 use Rattle.log_story.specs.Servers.{runs_first, with_run}
@@ -23,13 +23,13 @@ use Rattle.log_story.proofs.Due.{due_until_front}
 use Rattle.log_story.proofs.Keeping.{honesty, lawful_before, running_keeps, step_keeps}
 
 -- the law of private worlds, of one server
-abbrev pub Law : Setup → Step → Type 0
-Law setup server = (story : Story) → IsLawful setup story → IsHonest setup (runs server) story
+abbrev pub Law : Setup → Tests → Step → Type 0
+Law setup tests server = (story : Story) → IsLawful setup story → IsHonest setup (runs server) story
     → MeetsPrivate setup.reads tests (view_after setup story) (real_after setup (runs server) story) (private_after setup (runs server) story)
 
-moment : (setup : Setup) (plan : Plan) (server : Step) (tale : Tale) → Law setup server → IsLawful setup tale.story → IsHonest setup (runs server) tale.story
+moment : (setup : Setup) (tests : Tests) (plan : Plan) (server : Step) (tale : Tale) → Law setup tests server → IsLawful setup tale.story → IsHonest setup (runs server) tale.story
     → IsPrivateMoment setup plan server tale
-moment setup plan server tale law lawful honest =
+moment setup tests plan server tale law lawful honest =
     let meets = law tale.story lawful honest in
     record {
       replies = meets.replies;
@@ -37,9 +37,9 @@ moment setup plan server tale law lawful honest =
           client meets.replies;
     }
 
-read_there : (setup : Setup) (plan : Plan) (server : Step) (link : LinkId) (wire : Wire) (tale : Tale) → Law setup server → IsLawful setup tale.story
+read_there : (setup : Setup) (tests : Tests) (plan : Plan) (server : Step) (link : LinkId) (wire : Wire) (tale : Tale) → Law setup tests server → IsLawful setup tale.story
     → IsHonest setup (runs server) tale.story → IsTrueRead setup server link wire tale → IsPrivateRead setup server link wire tale
-read_there setup plan server link wire tale law lawful honest read n due ran =
+read_there setup tests plan server link wire tale law lawful honest read n due ran =
     let before : Tale = with_run setup link tale in
     let honest_there : IsHonest setup (runs server) before.story =
     running_keeps setup plan server (honesty setup server) link wire tale (link_in setup tale link).stage read refl honest in
@@ -60,23 +60,23 @@ nothing_read setup server link wire tale is n due ran =
     ap (λ s. (link_in setup (runs_first s link tale) link).stage) is.quiet ∙ is.quiet in
     let apart : Quiet ≡ Answered (Statement n due) = sym still ∙ ran in absurd (cc)
 
-entry_there : (setup : Setup) (plan : Plan) (server : Step) (tale : Tale) (e : Entry) → Law setup server → IsLawful setup tale.story
+entry_there : (setup : Setup) (tests : Tests) (plan : Plan) (server : Step) (tale : Tale) (e : Entry) → Law setup tests server → IsLawful setup tale.story
     → IsHonest setup (runs server) tale.story → IsTrue setup plan server tale e → IsPrivateEntry setup server tale e
-entry_there setup plan server tale (entry.Got link bytes) law lawful honest is =
+entry_there setup tests plan server tale (entry.Got link bytes) law lawful honest is =
     λ there entered other. elim ((is there).read entered other) [
       | inl farewell ↦ nothing_read setup server link (wire_with tale link bytes) tale farewell
-      | inr read ↦ read_there setup plan server link (wire_with tale link bytes) tale law lawful honest read
+      | inr read ↦ read_there setup tests plan server link (wire_with tale link bytes) tale law lawful honest read
     ]
-entry_there setup plan server tale _ law lawful honest is = tt
+entry_there setup tests plan server tale _ law lawful honest is = tt
 
-pub private_from : (setup : Setup) (plan : Plan) (server : Step) (log : Log) (tale : Tale) → Law setup server
+pub private_from : (setup : Setup) (tests : Tests) (plan : Plan) (server : Step) (log : Log) (tale : Tale) → Law setup tests server
     → IsLawful setup (fold (tale_step setup plan) tale log).story → IsHonest setup (runs server) tale.story → IsHonestFrom setup plan server tale log
     → IsPrivateFrom setup plan server tale log
-private_from setup plan server [] tale law lawful honest all = moment setup plan server tale law lawful honest
-private_from setup plan server (e ∷ log) tale law lawful honest all =
+private_from setup tests plan server [] tale law lawful honest all = moment setup tests plan server tale law lawful honest
+private_from setup tests plan server (e ∷ log) tale law lawful honest all =
     let here = lawful_before setup plan server (e ∷ log) tale honest all lawful in (
-      moment setup plan server tale law here honest,
-      entry_there setup plan server tale e law here honest all.0,
-      private_from setup plan server log (tale_step setup plan tale e) law lawful (step_keeps setup plan server (honesty setup server) tale e all.0 honest)
+      moment setup tests plan server tale law here honest,
+      entry_there setup tests plan server tale e law here honest all.0,
+      private_from setup tests plan server log (tale_step setup plan tale e) law lawful (step_keeps setup plan server (honesty setup server) tale e all.0 honest)
           all.1,
     )

@@ -10,6 +10,7 @@ use Rattle.session_state.specs.Endings.{brings_id, is_err, is_ok, is_ok_kind}
 use Rattle.session_state.specs.declared.reply_end.EndKind.TheVariants.{Ok}
 use Rattle.session_state.specs.declared.reply_end.ReplyEnd.{ReplyEnd}
 use Rattle.pin_classifier.specs.Classes.{class_of, is_deep}
+use Rattle.server_rule.proofs.Blind.{blind_same}
 use Rattle.server_rule.specs.Classes.{router_reads}
 use Rattle.server_rule.specs.Laws.{IdLaw}
 use Rattle.server_rule.specs.Replies.{one_number, reply_end}

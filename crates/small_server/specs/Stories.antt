@@ -20,7 +20,7 @@ use Rattle.private_model.specs.Honest.{IsHonest}
 use Rattle.private_model.specs.Lawful.{IsLawful}
 use Rattle.private_model.specs.View.{Setup, view_after}
 use Rattle.private_model.specs.Worlds.{private_after, real_after}
-use Rattle.small_server.specs.Tally.{NoId, FirstId, LaterId, id_set, is_special, ok, row, tally}
+use Rattle.small_server.specs.Tally.{NoId, FirstId, LaterId, id_set, is_special, ok, row, tally, tests}
 
 -- INSERT is marked, as are the two texts of the insert id; SHOW WARNINGS reads diagnostics; nothing else is known of a text
 abbrev pub class_read : List ℕ → Class
