@@ -11,7 +11,7 @@ use Rattle.mx_wire.specs.declared.entry.Entry.TheVariants as entry
 use Rattle.client_session.specs.Errors.{bad_server_bytes, connection_lost, connection_refused}
 use Rattle.private_model.specs.Lawful.{IsLawful, IsPlaced, IsSettled, IsStatement, MayCome, MayFree, MayLend}
 use Rattle.packet_frame.specs.Packets.{spelling}
-use Rattle.private_model.specs.Commands.{Command, InitDb, Query}
+use Rattle.private_model.specs.Commands.{Command, InitDb, Query, class_of}
 use Rattle.private_model.specs.Names.{MessageName, SessionName}
 use Rattle.log_story.specs.Honest.{IsFront, number_for}
 use Rattle.log_story.specs.Plan.{Asks, Route, StepText, text_payload}
@@ -20,7 +20,9 @@ use Rattle.router_promises.specs.Errors.{no_connection, out_of_memory, replay_re
 use Rattle.router_promises.specs.GivenUp.{BadBytes, Cause, LinkLost, NoLink, NoMemory, NoResult, StepRefused, TakenOffline, WaitedTooLong, GivesUpSo, key_tried}
 use Rattle.private_model.specs.Story.{Due, Happening, Statement, Story}
 use Rattle.private_model.specs.View.{Asked, Carried, Held, Joined, Lent, Link, Nobody, Setup, Stage, View, present, view_after}
-use Rattle.session_state.specs.Pins.{is_pinned}
+use Rattle.session_state.specs.Pins.{is_pinned, reads_own}
+use Rattle.session_state.specs.declared.pin.Pin.{Pin}
+use Rattle.pin_classifier.specs.declared.class.Class.{Class}
 use Rattle.log_story.specs.Tale.{Tale, is_to_server, link_in}
 use Rattle.router_promises.specs.Closes.{is_usable, Amiss, Idle, Leaving, MakesRoom, MayDrop, Needless, PastReset, Refused, Spoilt, Starved}
 use Rattle.router_promises.specs.Keys.{LinkKey, key_of, oldest, waiters}
@@ -162,6 +164,27 @@ account-of setup view n due link is unpinned = elim is.how [
   | inl begins ↦ begins.begins.account
   | inr goes_on ↦ never (sym goes_on.goes_on.pinned ∙ unpinned)
 ]
+
+own-by : (asks pinned own : Bool) → (asks ≡ true → pinned ≡ true) → (asks ≡ true → own ≡ true) → (not asks || (pinned && own)) ≡ true
+own-by false pinned own keeps is = refl
+own-by true pinned own keeps is = subst (λ b. (b && own) ≡ true) (sym (keeps refl)) (is refl)
+
+both-own : (class : Class) (pin : Pin) → (not class.reads_diag || (is_pinned pin && pin.own_diag)) ≡ true → (not class.reads_found || (is_pinned pin && pin.own_found)) ≡ true → reads_own class pin ≡ true
+both-own class pin diag found = subst (λ b. (b && (not class.reads_found || (is_pinned pin && pin.own_found))) ≡ true) (sym diag) found
+
+pub own-read : (setup : Setup) (view : View) (n : SessionName) (due : Due) (link : Link) → IsStatement setup view n due link → reads_own (class_of setup.reads due.command) (view.held n).pin ≡ true
+own-read setup view n due link is = elim is.how [
+  | inl begins ↦ both-own class pin
+      (own-by class.reads_diag (is_pinned pin) pin.own_diag (λ asks. never (sym asks ∙ begins.begins.blind)) (λ asks. never (sym asks ∙ begins.begins.blind)))
+      (own-by class.reads_found (is_pinned pin) pin.own_found (λ asks. never (sym asks ∙ begins.begins.blind_found)) (λ asks. never (sym asks ∙ begins.begins.blind_found)))
+  | inr goes_on ↦ both-own class pin
+      (own-by class.reads_diag (is_pinned pin) pin.own_diag (λ asks. goes_on.goes_on.pinned) goes_on.goes_on.reads.diag)
+      (own-by class.reads_found (is_pinned pin) pin.own_found (λ asks. goes_on.goes_on.pinned) goes_on.goes_on.reads.found)
+] where
+  abbrev class : Class
+  class = class_of setup.reads due.command
+  abbrev pin : Pin
+  pin = (view.held n).pin
 
 pub kept-back : (view : View) (link : Link) (n : SessionName) → MayFree view link → link.carries ≡ Joined n → is_pinned (view.held n).pin ≡ true → n ≡ present view n.client n.hostgroup → ⊥
 kept-back view link n free carries pinned here = elim free.carries [

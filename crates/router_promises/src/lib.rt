@@ -24,9 +24,9 @@ pub use lasting::{
 use log_story::{private_bytes, written_is_private};
 pub use misled::{
     answers_without_cause, gives_back_what_is_held, ignores_the_rules, lends_what_is_held,
-    lends_with_earlier_settings, reads_no_more, refuses_too_soon, refuses_two_at_once,
-    resets_nothing, sends_as_another, sends_twice, sends_what_it_refused, steps_without_change,
-    tells_other_bytes, uses_a_spoilt_link, writes_other_bytes,
+    lends_with_earlier_settings, reads_no_more, reads_what_others_left, refuses_too_soon,
+    refuses_two_at_once, resets_nothing, sends_as_another, sends_twice, sends_what_it_refused,
+    steps_without_change, tells_other_bytes, uses_a_spoilt_link, writes_other_bytes,
 };
 pub use refused::{
     answers_nobody, closes_for_nothing, logs_in_as_another, opens_one_too_many, opens_without_room,

@@ -12,11 +12,11 @@ ghost use Rattle.packet_frame.specs.Packets.{spelling};
 ghost use Rattle.ready_loop.specs.Drained.{read_dry, write_dry};
 ghost use Rattle.std.specs.List.{list_any};
 ghost use Rattle.client_session.specs.Errors.{connection_refused};
-ghost use Rattle.private_model.specs.Commands.{InitDb, Query};
+ghost use Rattle.private_model.specs.Commands.{InitDb, Query, class_of};
 ghost use Rattle.private_model.specs.Names.{MessageName, SessionName};
 ghost use Rattle.private_model.specs.Story.{Due, Freed, Sent, Statement, Story, message_of};
 ghost use Rattle.private_model.specs.View.{Asked, Joined, present, view_after};
-ghost use Rattle.session_state.specs.Pins.{is_pinned};
+ghost use Rattle.session_state.specs.Pins.{is_pinned, reads_own};
 ghost use Rattle.log_story.specs.Honest.{IsFront};
 ghost use Rattle.log_story.specs.Plan.{Asks, Route, text_payload};
 ghost use Rattle.log_story.specs.Servers.{is_quiet, may_begin};
@@ -55,6 +55,12 @@ pub fn sends_as_another()
     ensures { (terms : Terms) (past : Story) (link : LinkId) (n : SessionName) (due : Due) → Tells terms past (Sent link (Statement n due))
         → is_pinned ((view_after (setup_in terms) past).held n).pin ≡ false
         → ((view_after (setup_in terms) past).links link).account ≢ terms.decided.accounts n.client → ⊥ }
+{}
+
+/// It reads warnings of earlier statements, or FOUND_ROWS(), where none of its own session left any on the link that it keeps.
+pub fn reads_what_others_left()
+    ensures { (terms : Terms) (past : Story) (link : LinkId) (n : SessionName) (due : Due) → Tells terms past (Sent link (Statement n due))
+        → reads_own (class_of terms.router.reads due.command) ((view_after (setup_in terms) past).held n).pin ≡ false → ⊥ }
 {}
 
 /// A link is given back while the session that it carries is held.

@@ -1,0 +1,5 @@
+use Rattle.router_promises.proofs.Refusals.{could-come, never, own-read}
+use Rattle.router_promises.proofs.misled.reads_what_others_left.Goals as goal
+
+pub returns : goal.returns
+returns c = λ terms past link n due tells others. never (sym (own-read _ _ n due _ (could-come terms past _ tells).fits) ∙ others)
