@@ -9,7 +9,7 @@ use Rattle.mx_wire.specs.Moments.{AllLawful, AtEachMoment, LawfulAfter}
 use Rattle.mx_wire.specs.declared.entry.Entry.{Entry}
 use Rattle.mx_wire.specs.declared.entry.Entry.TheVariants as entry
 use Rattle.client_session.specs.Errors.{bad_server_bytes, connection_lost, connection_refused}
-use Rattle.private_model.specs.Lawful.{IsLawful, IsPlaced, IsSettled, IsStatement, MayCome, MayFree, MayLend}
+use Rattle.private_model.specs.Lawful.{IsLawful, IsPlaced, IsSettled, IsStatement, MayCome, MayFree, MayLend, ReadsOwn}
 use Rattle.packet_frame.specs.Packets.{spelling}
 use Rattle.private_model.specs.Commands.{Command, InitDb, Query, class_of}
 use Rattle.private_model.specs.Names.{MessageName, SessionName}
@@ -172,19 +172,20 @@ own-by true pinned own keeps is = subst (λ b. (b && own) ≡ true) (sym (keeps 
 both-own : (class : Class) (pin : Pin) → (not class.reads_diag || (is_pinned pin && pin.own_diag)) ≡ true → (not class.reads_found || (is_pinned pin && pin.own_found)) ≡ true → reads_own class pin ≡ true
 both-own class pin diag found = subst (λ b. (b && (not class.reads_found || (is_pinned pin && pin.own_found))) ≡ true) (sym diag) found
 
+own-begins : (class : Class) (pin : Pin) → class.reads_diag ≡ false → class.reads_found ≡ false → reads_own class pin ≡ true
+own-begins class pin diag found = both-own class pin
+    (own-by class.reads_diag (is_pinned pin) pin.own_diag (λ asks. never (sym asks ∙ diag)) (λ asks. never (sym asks ∙ diag)))
+    (own-by class.reads_found (is_pinned pin) pin.own_found (λ asks. never (sym asks ∙ found)) (λ asks. never (sym asks ∙ found)))
+
+own-goes : (class : Class) (pin : Pin) → is_pinned pin ≡ true → ReadsOwn class pin → reads_own class pin ≡ true
+own-goes class pin pinned reads = both-own class pin (own-by class.reads_diag (is_pinned pin) pin.own_diag (λ asks. pinned) reads.diag)
+    (own-by class.reads_found (is_pinned pin) pin.own_found (λ asks. pinned) reads.found)
+
 pub own-read : (setup : Setup) (view : View) (n : SessionName) (due : Due) (link : Link) → IsStatement setup view n due link → reads_own (class_of setup.reads due.command) (view.held n).pin ≡ true
 own-read setup view n due link is = elim is.how [
-  | inl begins ↦ both-own class pin
-      (own-by class.reads_diag (is_pinned pin) pin.own_diag (λ asks. never (sym asks ∙ begins.begins.blind)) (λ asks. never (sym asks ∙ begins.begins.blind)))
-      (own-by class.reads_found (is_pinned pin) pin.own_found (λ asks. never (sym asks ∙ begins.begins.blind_found)) (λ asks. never (sym asks ∙ begins.begins.blind_found)))
-  | inr goes_on ↦ both-own class pin
-      (own-by class.reads_diag (is_pinned pin) pin.own_diag (λ asks. goes_on.goes_on.pinned) goes_on.goes_on.reads.diag)
-      (own-by class.reads_found (is_pinned pin) pin.own_found (λ asks. goes_on.goes_on.pinned) goes_on.goes_on.reads.found)
-] where
-  abbrev class : Class
-  class = class_of setup.reads due.command
-  abbrev pin : Pin
-  pin = (view.held n).pin
+  | inl begins ↦ own-begins (class_of setup.reads due.command) (view.held n).pin begins.begins.blind begins.begins.blind_found
+  | inr goes_on ↦ own-goes (class_of setup.reads due.command) (view.held n).pin goes_on.goes_on.pinned goes_on.goes_on.reads
+]
 
 pub kept-back : (view : View) (link : Link) (n : SessionName) → MayFree view link → link.carries ≡ Joined n → is_pinned (view.held n).pin ≡ true → n ≡ present view n.client n.hostgroup → ⊥
 kept-back view link n free carries pinned here = elim free.carries [
