@@ -1,3 +1,4 @@
+use Rattle.std.proofs.Common.{sym, ◌∙◌}
 use Rattle.router_promises.proofs.Refusals.{could-come, never, own-read}
 use Rattle.router_promises.proofs.misled.reads_what_others_left.Goals as goal
 
