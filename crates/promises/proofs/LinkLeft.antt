@@ -1,15 +1,15 @@
 -- What is left to be written on a link: it may be written, it is all that is owed, and where the link takes no more of it a query waits.
 use Rattle.client_session.specs.Arrivals.{Arrival, arrival_of, is_served}
-use Rattle.exchange.specs.{Logins.IsLoggedIn, Logins.IsPrefix, Logins.heard_of, Replies.Clean, Replies.Forms, Replies.Spoilt, Replies.Standing, Replies.standing_on, Replies.stands}
-use Rattle.exchange.specs.Commands.{Command, commands_behind, commands_on, pieces_of}
+use Rattle.exchange.specs.{Logins.IsLoggedIn, Logins.IsPrefix, Logins.heard_of, Logins.until_loss, Replies.Clean, Replies.Forms, Replies.Spoilt, Replies.Standing, Replies.standing_on, Replies.stands}
+use Rattle.exchange.specs.Commands.{Command, commands_behind, commands_in, commands_on, piece, pieces_of}
 use Rattle.mx_base.specs.{Sent.Sent, declared.names.LinkId.LinkId, declared.names.Port.TheVariants.Traffic, declared.tag.Tag.Tag}
 use Rattle.mx_base.specs.declared.tag.Tag.TheVariants.{For, Own, Reply}
-use Rattle.mx_wire.specs.{Growth.bool_cases, Growth.bytes-idle, Growth.bytes-other, Growth.bytes-same, Log.Log, Log.is_link, Log.of_link, Log.written_of}
+use Rattle.mx_wire.specs.{Growth.bool_cases, Growth.bytes-idle, Growth.bytes-other, Growth.bytes-same, Growth.same_number, Log.Log, Log.is_link, Log.of_link, Log.written_of}
 use Rattle.mx_wire.specs.{Log.wrote_bytes, Moments.AllLawful, Tells.Fits, declared.entry.Entry.Entry, declared.entry.Entry.TheVariants.Wrote}
 use Rattle.packet_frame.specs.{PacketLaws.nat_eq-true, Packets.Framed, Packets.spelling, SpellingLaws.spelling-some}
 use Rattle.promises.proofs.{Causes.same-link, Growing.due-grows, Growing.prefix-trans, InWork.some-same, Links.owner-turn, ServerLinks.LinkStands, ServerLinks.outside-at}
 use Rattle.promises.proofs.Arrivals.{Now, Was, client-at, comes-of, of-client, unclient-at, unowned}
-use Rattle.promises.proofs.Clean.{before-loss, pieces-bytes}
+use Rattle.promises.proofs.Clean.{before-loss, pieces-bytes, since-clean}
 use Rattle.promises.proofs.LinkEntries.{LeftAt, OfCommand, OfLogin, left-at}
 use Rattle.promises.proofs.LinkStanding.{begun-some, commands-of, said-at, standing-inside, standing_by}
 use Rattle.promises.proofs.LinkStates.{Entering, Inside, IsCommand, IsEntering, IsHanded, IsInside, LinkAt, begun, bytes_in, standing_said, written}
@@ -23,11 +23,11 @@ use Rattle.promises.specs.Rest.{Blocked, Full, IsBusy, IsKept, LogsIn, Replies, 
 use Rattle.ready_loop.specs.{Drained.write_dry}
 use Rattle.server_side.specs.{Account.Account, Login.Opening, Login.opening, Login.said_of, declared.command.Command.Command as Handed, declared.stage.Stage.TheVariants.In}
 use Rattle.server_side.specs.Backend.{BackendState, is_begun, left}
-use Rattle.std.specs.{List.list_any, Option.option_map}
+use Rattle.std.specs.{List.filter_map, List.list_any, Option.option_map}
 use Rattle.std.proofs.lemmas.List.Folds.{list_any-append}
 use Rattle.std.proofs.{Math.Seq.drop-append_seam, lemmas.Grind.common_steps, lemmas.List.length-take-le, lemmas.List.take-append-drop, lemmas.List.take_all}
 use Rattle.std.proofs.Common.{ap, append-nil, append_assoc, arith, inl, inr, length-append, subst, sym, ◌∙◌}
-use Rattle.std.specs.Prelude.{List, None, Option, Some, [], cond, drop, false, is_some, length, refl, suc, take, true, zero, ℕ, ◌||◌, ◌++◌, ◌<◌, ◌∷◌, ◌≡◌, ◌≢◌, ◌≤◌, ◌⊎◌}
+use Rattle.std.specs.Prelude.{Bool, List, None, Option, Some, [], cond, drop, false, is_some, length, refl, suc, take, true, zero, ℕ, ◌||◌, ◌++◌, ◌<◌, ◌∷◌, ◌≡◌, ◌≢◌, ◌≤◌, ◌⊎◌}
 
 last-behind : (others : List Command) (c : Command) → last_bytes (others ++ c ∷ []) ≡ c.bytes
 last-behind [] c = refl
@@ -45,6 +45,10 @@ said-left forms user heard pieces backend h5 = grind (arith, common_steps, drop-
 asked-spelt : {service : Service} {n i : ℕ} {bytes : List ℕ} {id : ℕ} {log : Log} (asked : IsAsked service n i bytes id log)
     → bytes ≡ spelling asked.message.first asked.message.payload
 asked-spelt asked = grind (arith, common_steps)
+
+or-right : (b : Bool) → (b || true) ≡ true
+or-right true = refl
+or-right false = refl
 
 -- no command on a link is the router's own
 begun-theirs : {forms : Forms} {user : Account} {heard : List ℕ} {pieces : List Command} {backend : BackendState}
@@ -280,6 +284,15 @@ module _ {service : Service} {log : Log} {link : LinkId} (at : QuitStands servic
     drops = quit-drops;
     front = record { rest = drop k quit_bytes; is = take-append-drop k quit_bytes };
   }
+
+  -- Behind it the link may close.
+  pub quit-said : (bytes : List ℕ) → has_quit at.backend.account link (log ++ Wrote link Own bytes ∷ []) ≡ true
+  quit-said bytes = (let since = since-clean service.forms at.backend.account link log (Wrote link Own bytes ∷ []) quit-clean
+      (row-logged-in at.row quit-inside at.said) in
+      let said : commands_in (pieces_of link (Wrote link Own bytes ∷ [])) ≡ record { tag = Own; bytes = bytes } ∷ [] =
+      ap (λ b. commands_in (filter_map piece (until_loss (cond b (Wrote link Own bytes ∷ []) [])))) (same_number link.0) in
+      ap (list_any is_own) (since.commands ∙ ap (λ l. commands_on at.backend.account link log ++ l) said)
+      ∙ list_any-append is_own (commands_on at.backend.account link log) _ ∙ or-right (list_any is_own (commands_on at.backend.account link log)))
 
   -- It is all that is owed.
   pub quit-owed : AllLawful Fits log → quit_bytes ≡ owed service link log

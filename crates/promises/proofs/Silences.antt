@@ -77,7 +77,7 @@ module _ (service : Service) (log : Log) {e : Entry} (silent : IsSilent e) where
   replied-still : (n i : ℕ) → replied service n i (log ++ e ∷ []) ≡ replied service n i log
   replied-still n i = grind (arith, common_steps, append-nil, refused-more, reply-same)
 
-  work-same : (n : ℕ) (came : Arrival) → arrival_of n log ≡ Some came → work_of service n (log ++ e ∷ []) ≡ work_of service n log
+  pub work-same : (n : ℕ) (came : Arrival) → arrival_of n log ≡ Some came → work_of service n (log ++ e ∷ []) ≡ work_of service n log
   work-same n came is = work-is service n came (log ++ e ∷ []) (arrival-same n ∙ is)
       ∙ (λ j. work_said (λ i. replied-still n i j) (talk-same n came j)) ∙ sym (work-is service n came log is)
 
