@@ -2,7 +2,7 @@
 use Rattle.std.specs.Option.{option_map_or}
 use Rattle.lend_core.specs.Changes.{owns, owns_none, to_close, waits_no_more, with_link, without_ask, without_first, without_link}
 use Rattle.lend_core.specs.Decisions.{dropped, due_on, failed, is_clean, offered, queued, quietly, refused, told_by}
-use Rattle.std.specs.Prelude.{Bool, List, None, Option, Some, [], false, if◌then◌else◌, length, true, ℕ, ◌∷◌}
+use Rattle.std.specs.Prelude.{Bool, List, None, Option, Some, [], false, if◌then◌else◌, length, nat_eq, true, ℕ, ◌∷◌, ◌&&◌}
 use Rattle.client_session.specs.declared.refusal.Refusal.TheVariants.{ConnectionLost}
 use Rattle.lend_core.specs.{Lends.Lends, Lends.Told, Lends.oldest, declared.ask.Ask.Ask, declared.lent.Lent.Lent}
 use Rattle.mx_base.specs.{Sent.Sent, declared.names.ClientNo.ClientNo, declared.names.LinkId.LinkId}
@@ -64,6 +64,11 @@ gone client lends = left_by (lends.owned client.0) (owns_none client (waits_no_m
 abbrev pub left_in : Option Lent → Option Sent
 left_in None = None
 left_in (Some lent) = left lent.backend
+
+-- the link closes next, and COM_QUIT is offered to it before
+abbrev pub quits_on : LinkId → (closing : List LinkId) → (quit : Option LinkId) → Bool
+quits_on link (first ∷ later) (Some quit) = nat_eq first.0 link.0 && nat_eq quit.0 link.0
+quits_on link _ quit = false
 
 -- a link has to be opened
 abbrev pub is_waiting : List ClientNo → Bool

@@ -1,18 +1,18 @@
 -- What the router knows of its links to servers, and of the commands that aren't on a link yet.
-use Rattle.std.specs.Prelude.{Bool, List, None, Option, Some, [], false, if◌then◌else◌, nat_eq, ℕ, ◌∷◌}
+use Rattle.std.specs.Prelude.{List, None, Option, Some, [], if◌then◌else◌, nat_eq, ℕ, ◌∷◌}
 use Rattle.lend_core.specs.declared.{ask.Answered.Answered, ask.Ask.Ask, lender.Lender.Lender, lent.Lent.Lent}
 use Rattle.{mx_base.specs.declared.names.ClientNo.ClientNo, mx_base.specs.declared.names.LinkId.LinkId, std.specs.HashMap.get}
 
 -- Of each open link to a server its owner and how it stands; of each client its link, and its command that isn't on a link yet; the clients for
--- which a link has to be opened, and the links that are to be closed, each in order, the oldest first; and whether COM_QUIT is offered to the one
--- that closes next.
+-- which a link has to be opened, and the links that are to be closed, each in order, the oldest first; and the one of these to which COM_QUIT is
+-- offered before.
 pub record Lends : Type 0 where
   pub links : ℕ → Option Lent
   pub owned : ℕ → Option LinkId
   pub asks : ℕ → Option Ask
   pub waiting : List ClientNo
   pub closing : List LinkId
-  pub quits : Bool
+  pub quit : Option LinkId
 
 -- the router's tables, seen so
 unfoldable pub lends_of : Lender → Lends
@@ -22,11 +22,11 @@ lends_of lender = record {
   asks = λ client. get nat_eq lender.asks client;
   waiting = lender.waiting.items;
   closing = lender.closing.items;
-  quits = lender.quits;
+  quit = lender.quit;
 }
 
 abbrev pub nothing_lent : Lends
-nothing_lent = record { links = λ link. None; owned = λ client. None; asks = λ client. None; waiting = []; closing = []; quits = false }
+nothing_lent = record { links = λ link. None; owned = λ client. None; asks = λ client. None; waiting = []; closing = []; quit = None }
 
 -- what an event makes of it, and what a client is answered
 pub record Told : Type 0 where

@@ -283,7 +283,7 @@ impl Lender {
         let clean = is_clean(&lent.backend);
         drop(lent);
         if clean {
-            self.quit(link)
+            self.close_politely(link)
         } else {
             self.close(link)
         }

@@ -5,13 +5,12 @@ use Rattle.mx_base.specs.declared.names.LinkId.{LinkId}
 use Rattle.mx_base.specs.declared.tag.Tag.{Tag}
 use Rattle.mx_base.specs.declared.tag.Tag.TheVariants.{Own}
 use Rattle.mx_wire.specs.Log.{Log}
-use Rattle.packet_frame.specs.Packets.{spelling}
 use Rattle.server_side.specs.Account.{Account}
 use Rattle.exchange.specs.Commands.{Command, commands_on}
 
--- a packet with the one byte 0x01
+-- a packet of one byte, 0x01
 abbrev pub quit_bytes : List ℕ
-quit_bytes = spelling 0 (0x01 ∷ [])
+quit_bytes = 0x01 ∷ 0x00 ∷ 0x00 ∷ 0x00 ∷ 0x01 ∷ []
 
 -- a command is the router's own; it has no other than this
 abbrev pub is_own_tag : Tag → Bool

@@ -92,9 +92,9 @@ pub record Leaving (service : Service) (log new : Log) (n : ℕ) (link : LinkId)
 -- What becomes of that row: the client has none, or it stands, or its link is to be closed.
 pub data RowGoes (service : Service) (log new : Log) (n : ℕ) (link : LinkId) (lends other : Lends) : Type 0 where
   RowSame : other.links link.0 ≡ lends.links link.0 → ((x : Lent) → lends.links link.0 ≡ Some x → RowStands service new lends link x)
-      → lends.owned n ≡ None → other.owned n ≡ None → other.closing ≡ lends.closing → other.quits ≡ lends.quits → RowGoes service log new n link lends other
+      → lends.owned n ≡ None → other.owned n ≡ None → other.closing ≡ lends.closing → other.quit ≡ lends.quit → RowGoes service log new n link lends other
   RowStays : (now : Lent) → other.links link.0 ≡ Some now → RowStands service new other link now
-      → (other.owned n ≡ Some link → now.owner ≡ Some (record { 0 = n })) → (lends.closing ≡ link ∷ [] → ⊥) → other.closing ≡ lends.closing → other.quits ≡ lends.quits
+      → (other.owned n ≡ Some link → now.owner ≡ Some (record { 0 = n })) → (lends.closing ≡ link ∷ [] → ⊥) → other.closing ≡ lends.closing → other.quit ≡ lends.quit
       → RowGoes service log new n link lends other
   RowCloses : lends.closing ≡ [] → CloseStands service new other link → other.owned n ≡ None → other.closing ≡ link ∷ []
       → RowGoes service log new n link lends other
@@ -232,9 +232,9 @@ module _ {service : Service} {log : Log} {n : ℕ} {lends : Lends} (sound : Lend
 -- It has gone: its command is dropped, and its link is to be closed, or left until the reply there is read.
 
 -- the links to servers without the client
-abbrev without : ℕ → Lends → (links : ℕ → Option Lent) → (closing : List LinkId) → (quits : Bool) → Lends
-without n lends links closing quits = record (owns_none (record { 0 = n }) (waits_no_more (record { 0 = n }) (without_ask (record { 0 = n }) lends)))
-    { links = links; closing = closing; quits = quits }
+abbrev without : ℕ → Lends → (links : ℕ → Option Lent) → (closing : List LinkId) → (quit : Option LinkId) → Lends
+without n lends links closing quit = record (owns_none (record { 0 = n }) (waits_no_more (record { 0 = n }) (without_ask (record { 0 = n }) lends)))
+    { links = links; closing = closing; quit = quit }
 
 gone-waits : {n : ℕ} {lends other : Lends} (waiting : List ClientNo) → AtMostOne waiting → lends.waiting ≡ waiting
     → other.waiting ≡ (waits_no_more (record { 0 = n }) lends).waiting → Waiters n lends other
@@ -263,12 +263,12 @@ gone-sound service log n lends sound closable may = by (lends.owned n) refl wher
   none-closes : {link : LinkId} → lends.owned n ≡ Some link → lends.closing ≡ []
   none-closes owns = grind (arith, common_steps)
 
-  changed : (link : LinkId) (links : ℕ → Option Lent) (closing : List LinkId) (quits : Bool)
+  changed : (link : LinkId) (links : ℕ → Option Lent) (closing : List LinkId) (quit : Option LinkId)
       → ((k : ℕ) → nat_eq k link.0 ≡ false → links k ≡ lends.links k)
       → (lends.owned n ≡ Some link) ⊎ ((lends.owned n ≡ None) × (links link.0 ≡ lends.links link.0))
-      → RowGoes service log log n link lends (without n lends links closing quits) → Went service log n lends (without n lends links closing quits)
-  changed link links closing quits others own goes = (
-    (let waits : Waiters n lends (without n lends links closing quits) = gone-waits lends.waiting sound.one_waits refl refl in
+      → RowGoes service log log n link lends (without n lends links closing quit) → Went service log n lends (without n lends links closing quit)
+  changed link links closing quit others own goes = (
+    (let waits : Waiters n lends (without n lends links closing quit) = gone-waits lends.waiting sound.one_waits refl refl in
         let unasked = set-same lends.asks n None in let sole = owned-sole {n = n} {link = link} sound in
         still sound link (grind (arith, common_steps, set-other, no-some, unowned, sole))),
     record { unasked = set-same lends.asks n None; unowned = unowned },
@@ -276,10 +276,10 @@ gone-sound service log n lends sound closable may = by (lends.owned n) refl wher
 
   -- its link is to be closed
   closes : (link : LinkId) (lent : Lent) → lends.owned n ≡ Some link → lends.links link.0 ≡ Some lent → is_begun lent.backend.command ≡ false
-      → (quits : Bool) → (quits ≡ true → QuitStands service log link)
-      → Went service log n lends (without n lends (set lends.links link.0 None) (lends.closing ++ link ∷ []) quits)
-  closes link lent owns there none quits last = (let stays = (sound.rows link lent there).0 in
-      changed link (set lends.links link.0 None) (lends.closing ++ link ∷ []) quits (λ k. set-other lends.links link.0 k None) (inl owns)
+      → (quit : Option LinkId) → (quit ≡ Some link → QuitStands service log link)
+      → Went service log n lends (without n lends (set lends.links link.0 None) (lends.closing ++ link ∷ []) quit)
+  closes link lent owns there none quit last = (let stays = (sound.rows link lent there).0 in
+      changed link (set lends.links link.0 None) (lends.closing ++ link ∷ []) quit (λ k. set-other lends.links link.0 k None) (inl owns)
       (RowCloses (none-closes owns) (record {
         opened = stays.opened;
         unlent = set-same lends.links link.0 None;
@@ -307,23 +307,23 @@ gone-sound service log n lends sound closable may = by (lends.owned n) refl wher
 
   on : (link : LinkId) (lent : Lent) → lends.owned n ≡ Some link → lends.links link.0 ≡ Some lent → (b : Bool) → is_begun lent.backend.command ≡ b
       → Went service log n lends (if b
-      then with_link link (record lent { owner = None }) (without_link link (without n lends lends.links lends.closing lends.quits))
-      else dropped (is_clean lent.backend) link (without_link link (without n lends lends.links lends.closing lends.quits)))
+      then with_link link (record lent { owner = None }) (without_link link (without n lends lends.links lends.closing lends.quit))
+      else dropped (is_clean lent.backend) link (without_link link (without n lends lends.links lends.closing lends.quit)))
   on link lent owns there true begins = (let now : Lent = record lent { owner = None } in
       let away : is_here n log ≡ false = grind (arith, common_steps) in
-      changed link (set (set lends.links link.0 None) link.0 (Some now)) lends.closing lends.quits (λ k. put-other lends.links link.0 k (Some now)) (inl owns)
+      changed link (set (set lends.links link.0 None) link.0 (Some now)) lends.closing lends.quit (λ k. put-other lends.links link.0 k (Some now)) (inl owns)
       (RowStays now (set-same (set lends.links link.0 None) link.0 (Some now)) (
         (sound.rows link lent there).0,
         Left refl (ap (λ k. is_here k log) (owned-turn sound owns there) ∙ away) begins,
       ) (λ is. absurd (no-some unowned is)) (λ is. none-one lends.closing (none-closes owns) is) refl refl))
   on link lent owns there false none = drops (is_clean lent.backend) refl where
     drops : (clean : Bool) → is_clean lent.backend ≡ clean
-        → Went service log n lends (dropped clean link (without_link link (without n lends lends.links lends.closing lends.quits)))
-    drops true clean = closes link lent owns there none true (λ q. last link lent owns there none clean)
-    drops false unclean = closes link lent owns there none false (λ q. cc)
+        → Went service log n lends (dropped clean link (without_link link (without n lends lends.links lends.closing lends.quit)))
+    drops true clean = closes link lent owns there none (Some link) (λ q. last link lent owns there none clean)
+    drops false unclean = closes link lent owns there none None (λ q. cc)
 
-  by : (o : Option LinkId) → lends.owned n ≡ o → Went service log n lends (left_by o (without n lends lends.links lends.closing lends.quits))
-  by None none = changed (record { 0 = 0 }) lends.links lends.closing lends.quits (λ k differs. refl) (inr (none, refl))
+  by : (o : Option LinkId) → lends.owned n ≡ o → Went service log n lends (left_by o (without n lends lends.links lends.closing lends.quit))
+  by None none = changed (record { 0 = 0 }) lends.links lends.closing lends.quit (λ k differs. refl) (inr (none, refl))
       (RowSame refl (sound.rows _) none unowned refl refl)
   by (Some link) owns =
       (let it = sound.owned n link owns in rw it.there (on link it.lent owns it.there (is_begun it.lent.backend.command) refl))

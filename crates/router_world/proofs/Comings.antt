@@ -52,7 +52,7 @@ quit-passes {service} {log} {e} happens silent leaves at = record {
 lends-silent : {service : Service} {log : Log} {e : Entry} {tables : Tables} → Aside service log e 0 tables → IsSilent e
     → ((link : LinkId) → tables.lends.closing ≡ link ∷ [] → Leaves link log e) → LendsSound service (log ++ e ∷ []) tables.lends
 lends-silent {service} {log} {e} {tables} aside silent leaves = (let sound = aside.happens.sound.lends in
-    lends-framed aside tables.lends.closing tables.lends.quits sound.one_closes (λ link is. (let stands = sound.closes link is in
+    lends-framed aside tables.lends.closing tables.lends.quit sound.one_closes (λ link is. (let stands = sound.closes link is in
     let opened = (leaves link is).opened ∙ stands.opened in let is_turn = turn-stays service link log (e ∷ []) stands.turn stands.is_turn in
     let may = drop-passes service log silent _ link aside.happens.fits stands.may in record {
       opened = opened;
@@ -176,7 +176,7 @@ closed-server {service} {log} {link} {tables} happens unparted is = (let sound =
     let aside : Aside service log (Closed link) 0 tables = beside link happens refl (λ k apart. no-some (unclosing happens.told sound link is))
     stands.unlent (λ k. grind (arith, common_steps)) in
     rw is (aside-stands aside (owned-closed service link stands.turn happens.told stands.is_turn sound.counted)
-    (lends-framed aside [] false Nobody (λ other closes. cc))
+    (lends-framed aside [] None Nobody (λ other closes. cc))
     (rw unparted NoneParts) (λ other opened. (let was = closed-behind log link other opened in elim (sound.known other was.0) [
       | Clients client at ↦ Clients client at
       | Servers lent at ↦ Servers lent at
@@ -189,11 +189,11 @@ pub quit-step : {service : Service} {log : Log} {e : Entry} {link : LinkId} {tab
     → tables.parting ≡ [] → tables.lends.closing ≡ link ∷ [] → (at : QuitStands service log link) → link_of e ≡ Some link → IsPlain e
     → ((was : Bool) → open_step was e ≡ was) → ((n i : ℕ) → carries n i e ≡ None)
     → MayDrop service (record { client = at.row.turn.client; hostgroup = at.row.turn.hostgroup }) at.backend.account link (log ++ e ∷ [])
-    → Sound service (log ++ e ∷ []) (with_lends (record tables.lends { quits = false }) tables)
+    → Sound service (log ++ e ∷ []) (with_lends (record tables.lends { quit = None }) tables)
 quit-step {service} {log} {e} {link} {tables} happens unparted is at names plain stays silent drops =
     aside-stands aside (counted-plain plain happens.sound.counted)
-    (lends-framed aside tables.lends.closing false happens.sound.lends.one_closes
-    (λ other closes. subst (CloseStands service (log ++ e ∷ []) (record tables.lends { quits = false })) (one-same link other (sym is ∙ closes)) mine))
+    (lends-framed aside tables.lends.closing None happens.sound.lends.one_closes
+    (λ other closes. subst (CloseStands service (log ++ e ∷ []) (record tables.lends { quit = None })) (one-same link other (sym is ∙ closes)) mine))
     (rw unparted NoneParts) (λ other opened. elim (happens.sound.known other (sym (open-kept other log e stays) ∙ opened)) [
       | Clients client there ↦ Clients client there
       | Servers lent there ↦ Servers lent there
@@ -216,7 +216,7 @@ quit-step {service} {log} {e} {link} {tables} happens unparted is at names plain
       aside : Aside service log e 0 tables
       aside = beside link happens names (λ k apart. no-some (unclosing happens.told happens.sound link is)) stands.unlent calm
 
-      mine : CloseStands service (log ++ e ∷ []) (record tables.lends { quits = false }) link
+      mine : CloseStands service (log ++ e ∷ []) (record tables.lends { quit = None }) link
       mine = record {
         opened = open-kept link log e stays ∙ stands.opened;
         unlent = stands.unlent;
@@ -224,7 +224,7 @@ quit-step {service} {log} {e} {link} {tables} happens unparted is at names plain
         is_turn = turn-stays service link log (e ∷ []) at.row.turn at.row.is_turn;
         may = λ user known. subst (λ u. MayDrop service (record { client = at.row.turn.client; hostgroup = at.row.turn.hostgroup }) u link (log ++ e ∷ []))
             (some-same at.backend.account user (sym (user-new e happens.lawful at.row) ∙ known)) drops;
-        quits = λ quits. absurd (let no : false ≡ true = quits in cc);
+        quits = λ quits. absurd (let no : None ≡ Some link = quits in cc);
       }
 
 -- A client comes.

@@ -4,8 +4,7 @@ use Rattle.promises.proofs.{Arrivals.get-behind, Arrivals.of-client, Arrivals.un
 use Rattle.promises.proofs.LinkLeft.{ForClient, ForLast, ForServer, IsLeft, IsNeeded, IsPart, client-closes, link-kept, part-due, part-lawful, served-more, server-closes, waits-in}
 use Rattle.promises.proofs.LinkLeft.{waits-on}
 use Rattle.promises.specs.Closes.{MayClose, MayPart, WasToldAll}
-use Rattle.router_world.proofs.Names.{Bool, Lends, false, has_ended, is_query, quit_of, quit_sent}
-use Rattle.std.specs.Prelude.{cond}
+use Rattle.router_world.proofs.Names.{Lends, false, has_ended, is_query, nat_eq-true, quit_of, quit_sent}
 use Rattle.promises.specs.Rest.{IsAnswered, IsAtRest, IsEnding, WakesAt, Waits}
 use Rattle.router_world.proofs.Clocks.{ClockStands, in-time, late-may, wakes-so}
 use Rattle.router_world.specs.{Acts.late_link, World.late_of}
@@ -73,12 +72,12 @@ reply-whole whole sent is = grind (arith, common_steps, some-same)
 
 -- what is said to a server before the close is a QUIT
 pub quit-says : {parting : List Parting} (lends : Lends) (link : LinkId) (sent : Sent) → parting ≡ [] → lends.closing ≡ link ∷ []
-    → farewell_of parting lends ≡ Some sent → (lends.quits ≡ true) × (sent ≡ quit_sent)
-quit-says lends link sent none closing is = by lends.quits refl
-    (sym (ap (λ p. farewell_of p lends) none ∙ ap (λ c. quit_of c lends.quits) closing) ∙ is) where
-      by : (quits : Bool) → lends.quits ≡ quits → (cond quits (Some quit_sent) None) ≡ Some sent → (lends.quits ≡ true) × (sent ≡ quit_sent)
-      by true quits says = (quits, sym (some-same quit_sent sent says))
-      by false quits says = cc
+    → farewell_of parting lends ≡ Some sent → (lends.quit ≡ Some link) × (sent ≡ quit_sent)
+quit-says lends link sent none closing is = by lends.quit refl
+    (sym (ap (λ p. farewell_of p lends) none ∙ ap (λ c. quit_of c lends.quit) closing) ∙ is) where
+      by : (quit : Option LinkId) → lends.quit ≡ quit → quit_of (link ∷ []) quit ≡ Some sent → (lends.quit ≡ Some link) × (sent ≡ quit_sent)
+      by None at says = cc
+      by (Some quit) at says = grind (arith, common_steps, some-same, nat_eq-true)
 
 module _ {service : Service} {log : Log} {tables : Tables} (sound : Sound service log tables) where
   -- a client of which something is left among the links to servers is connected
@@ -115,7 +114,7 @@ module _ {service : Service} {log : Log} {tables : Tables} (sound : Sound servic
     | ClosesServer none closing ↦ (let quit = quit-says tables.lends link sent none closing is in
         ForLast ((sound.lends.closes link closing).quits quit.0) quit.1)
     | ClosesLate none unclosed client seat late there on ↦
-        cc (ap (λ p. farewell_of p tables.lends) none ∙ ap (λ c. quit_of c tables.lends.quits) unclosed, is)
+        cc (ap (λ p. farewell_of p tables.lends) none ∙ ap (λ c. quit_of c tables.lends.quit) unclosed, is)
     | ClosesClient p stands at on ↦ (let reply = reply-whole p.bytes sent (rw at at is) in
         ForClient stands.n stands.parted.came stands.parted.is_came (stands.parted.on ∙ on) reply.0
         (rw reply.1 (parted-told stands.parted (λ none. cc (none, at, is)))))

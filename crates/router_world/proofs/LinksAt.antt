@@ -78,15 +78,15 @@ module _ {service : Service} {log : Log} {e : Entry} {lends : Lends} {link : Lin
   Makes told = Came service log e n lends told
 
   -- the links to servers where this one is to be closed
-  abbrev shut : (quits : Bool) → (owned : ℕ → Option LinkId) → (asks : ℕ → Option Ask) → (waiting : List ClientNo) → Lends
-  shut quits owned asks waiting = record
-      { links = set lends.links link.0 None; owned = owned; asks = asks; waiting = waiting; closing = lends.closing ++ link ∷ []; quits = quits }
+  abbrev shut : (quit : Option LinkId) → (owned : ℕ → Option LinkId) → (asks : ℕ → Option Ask) → (waiting : List ClientNo) → Lends
+  shut quit owned asks waiting = record
+      { links = set lends.links link.0 None; owned = owned; asks = asks; waiting = waiting; closing = lends.closing ++ link ∷ []; quit = quit }
 
-  abbrev Quits : Bool → Type 0
-  Quits quits = quits ≡ true → QuitStands service new link
+  abbrev Quits : Option LinkId → Type 0
+  Quits quit = quit ≡ Some link → QuitStands service new link
 
-  unquit : Quits false
-  unquit is = absurd (let no : false ≡ true = is in cc)
+  unquit : Quits None
+  unquit is = absurd (let no : None ≡ Some link = is in cc)
 
   -- a client has one link, so another row is another client's
   one-row : {l : LinkId} {backend : BackendState} (row : LinkStands service log l backend) → row.turn.client ≡ n → l ≡ link
@@ -177,13 +177,13 @@ module _ {service : Service} {log : Log} {e : Entry} {lends : Lends} {link : Lin
             (λ d is same. On unasked d (like.inside inside) is (same ∙ tag))
 
   -- The link is to be closed, with these tables.
-  pub shut-came : {quits : Bool} {owned : ℕ → Option LinkId} {asks : ℕ → Option Ask} {waiting : List ClientNo} {answer : Option Answered} → Drops
-      → Quits quits → ((k : ℕ) → nat_eq k n ≡ false → asks k ≡ lends.asks k) → ((k : ℕ) → nat_eq k n ≡ false → owned k ≡ lends.owned k)
-      → owned n ≡ None → ((ask : Ask) → asks n ≡ Some ask → AskStands service new n ask) → Waiters n lends (shut quits owned asks waiting)
-      → Comes service log e n lends (shut quits owned asks waiting) answer
-      → Makes (record { lends = shut quits owned asks waiting; answer = answer })
-  shut-came {quits} {owned} {asks} {waiting} may last others theirs unowned ask waits comes =
-      came-of (let goes : RowGoes service log new n link lends (shut quits owned asks waiting) = RowCloses at.unclosed (record {
+  pub shut-came : {quit : Option LinkId} {owned : ℕ → Option LinkId} {asks : ℕ → Option Ask} {waiting : List ClientNo} {answer : Option Answered} → Drops
+      → Quits quit → ((k : ℕ) → nat_eq k n ≡ false → asks k ≡ lends.asks k) → ((k : ℕ) → nat_eq k n ≡ false → owned k ≡ lends.owned k)
+      → owned n ≡ None → ((ask : Ask) → asks n ≡ Some ask → AskStands service new n ask) → Waiters n lends (shut quit owned asks waiting)
+      → Comes service log e n lends (shut quit owned asks waiting) answer
+      → Makes (record { lends = shut quit owned asks waiting; answer = answer })
+  shut-came {quit} {owned} {asks} {waiting} may last others theirs unowned ask waits comes =
+      came-of (let goes : RowGoes service log new n link lends (shut quit owned asks waiting) = RowCloses at.unclosed (record {
         opened = opened-on link log e at.on.names at.on.stays at.on.row.opened;
         unlent = set-same lends.links link.0 None;
         turn = at.on.row.turn;
@@ -193,9 +193,9 @@ module _ {service : Service} {log : Log} {e : Entry} {lends : Lends} {link : Lin
       }) unowned (ap (λ l. l ++ link ∷ []) at.unclosed) in grind (arith, common_steps, set-other, no-some, own-link, alone)) comes
 
   -- nothing of its client's was under way there
-  pub shut-idle : {quits : Bool} {owned : ℕ → Option LinkId} → Drops → Quits quits → Calm service log e n
+  pub shut-idle : {quit : Option LinkId} {owned : ℕ → Option LinkId} → Drops → Quits quit → Calm service log e n
       → ((k : ℕ) → nat_eq k n ≡ false → owned k ≡ lends.owned k) → owned n ≡ None
-      → ((i : ℕ) → (lends.owned n ≡ Some link) × BusyOn n i (lends.asks n) lent.backend → ⊥) → Makes (quietly (shut quits owned lends.asks lends.waiting))
+      → ((i : ℕ) → (lends.owned n ≡ Some link) × BusyOn n i (lends.asks n) lent.backend → ⊥) → Makes (quietly (shut quit owned lends.asks lends.waiting))
   shut-idle may last calm theirs unowned idle = shut-came may last (λ k differs. refl) theirs unowned (ask-later calm)
       (NobodyWaits at.idle (inl at.idle)) (Quiet (record {
         busy = λ i busy. absurd (idle i (busy-here busy));
@@ -207,14 +207,14 @@ module _ {service : Service} {log : Log} {e : Entry} {lends : Lends} {link : Lin
   pub shut-answered : {asks : ℕ → Option Ask} {i id : ℕ} {bytes packets : List ℕ} {answer : Answer} → Drops → ((k : ℕ) → nat_eq k n ≡ false
       → asks k ≡ lends.asks k) → asks n ≡ None → packets ≡ spelt id answer → Busy lends n i → IsAsked service n i bytes id log
       → replied service n i new ≡ Some answer
-      → Makes (answering (Some client) packets (shut false (set lends.owned n None) asks lends.waiting))
+      → Makes (answering (Some client) packets (shut None (set lends.owned n None) asks lends.waiting))
   shut-answered may others unasked is busy asked told = (let unowned : set lends.owned n None n ≡ None = set-same lends.owned n None in
       shut-came may unquit others (λ k. set-other lends.owned n k None) unowned (λ ask is. absurd (no-some unasked is)) (NobodyWaits at.idle (inl at.idle))
       (Answers is busy asked told (free-gone _ n (record { unasked = unasked; unowned = unowned })) at.idle (inr unowned)))
 
   -- the client has gone, and the link isn't its own
-  pub shut-left : {quits : Bool} → lent.owner ≡ None → Drops → Quits quits → Calm service log e n
-      → Makes (quietly (shut quits lends.owned lends.asks lends.waiting))
+  pub shut-left : {quit : Option LinkId} → lent.owner ≡ None → Drops → Quits quit → Calm service log e n
+      → Makes (quietly (shut quit lends.owned lends.asks lends.waiting))
   shut-left none may last calm = (let unowned : lends.owned n ≡ None = none-if (lends.owned n)
       (λ l owns. no-some none (owned-owner at.sound (owns ∙ ap Some (own-link l owns)) at.there)) in
       shut-idle may last calm (λ k differs. refl) unowned (λ i busy. no-some unowned busy.0))

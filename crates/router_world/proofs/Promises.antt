@@ -15,13 +15,13 @@ use Rattle.router_world.specs.Tables.{without_number, without_seat}
 use Rattle.router_world.specs.World.{breaks_off, closed_by, closes_next, ended_on, enters, got_on, late_closes, late_leaves, late_of, on_client}
 use Rattle.router_world.specs.World.{still_entering, tidied}
 use Rattle.client_talk.specs.{Events.said, Going.still, Steps.ended}
-use Rattle.router_world.proofs.Names.{Bool, IsFarewell, IsSpoilt, Option, Parting, farewell_of, is_some, offers, offers_by, quit_of, quit_sent}
+use Rattle.router_world.proofs.Names.{IsFarewell, IsSpoilt, Option, Parting, farewell_of, is_some, offers, offers_by, quit_of, quit_sent}
 use Rattle.lend_core.specs.Changes.{quit_offered}
 use Rattle.promises.proofs.LinkEntries.{lost-stands}
 use Rattle.promises.proofs.LinkLeft.{quit-said}
 use Rattle.promises.specs.{Closes.Quits, Quits.has_quit}
 use Rattle.mx_base.specs.declared.tag.Tag.TheVariants.{Own}
-use Rattle.std.specs.Prelude.{cond}
+use Rattle.router_world.specs.World.{offered_to}
 use Rattle.router_world.specs.{Acts.next_close, World.wrote_on}
 use Rattle.std.specs.Prelude.{◌-◌}
 use Rattle.client_talk.specs.Sessions.{is_entering}
@@ -317,19 +317,18 @@ late-step {service} {log} {link} {tables} happens clock none unclosed client sea
 -- What is offered to the link that closes next.
 
 quits-some : {parting : List Parting} (lends : Lends) (link : LinkId) → parting ≡ [] → lends.closing ≡ link ∷ []
-    → is_some (farewell_of parting lends) ≡ true → lends.quits ≡ true
-quits-some lends link none closing some = by lends.quits refl
-    (sym (ap (λ p. is_some (farewell_of p lends)) none ∙ ap (λ c. is_some (quit_of c lends.quits)) closing) ∙ some) where
-      by : (quits : Bool) → lends.quits ≡ quits → is_some (cond quits (Some quit_sent) None) ≡ true → lends.quits ≡ true
-      by true quits says = quits
-      by false quits says = cc
+    → is_some (farewell_of parting lends) ≡ true → lends.quit ≡ Some link
+quits-some {parting} lends link none closing some = by (farewell_of parting lends) refl some where
+  by : (o : Option ToSend) → farewell_of parting lends ≡ o → is_some o ≡ true → lends.quit ≡ Some link
+  by None at says = cc
+  by (Some sent) at says = (quit-says lends link sent none closing at).0
 
 -- a client's is told first
 offers-first : {tables : Tables} {parting : Parting} → tables.parting ≡ parting ∷ [] → offers tables ≡ tables
 offers-first {tables} is = ap (λ p. with_lends (offers_by p tables.lends) tables) is
 
 offers-last : {tables : Tables} {link : LinkId} → tables.parting ≡ [] → tables.lends.closing ≡ link ∷ []
-    → offers tables ≡ with_lends (record tables.lends { quits = false }) tables
+    → offers tables ≡ with_lends (record tables.lends { quit = None }) tables
 offers-last {tables} none is = ap (λ p. with_lends (offers_by p tables.lends) tables) none ∙ ap (λ c. with_lends (quit_offered c tables.lends) tables) is
 
 -- and where none is to close nothing was
@@ -363,7 +362,7 @@ module _ {service : Service} {log : Log} {link : LinkId} {tables : Tables} where
           stays = λ was. refl;
         }) refl)))))
     | ClosesLate none unclosed client seat late there on ↦
-        cc (ap (λ p. farewell_of p tables.lends) none ∙ ap (λ c. quit_of c tables.lends.quits) unclosed, ours.some)
+        cc (ap (λ p. farewell_of p tables.lends) none ∙ ap (λ c. quit_of c tables.lends.quit) unclosed, ours.some)
     | ClosesClient p stands is on ↦ subst (λ t. Sound service (log ++ WriteFailed link ∷ []) (failed_on service.setup link (tables.numbers link.0) t))
         (sym (offers-first is)) (rw (parting-unnumbered happens stands is on, parting-unlent happens stands is on)
         (offered-step happens stands is on p.bytes is (inr (refl, refl)) ours.some refl refl (λ n i. refl) refl (assumption) (λ was. refl)))
@@ -376,11 +375,13 @@ module _ {service : Service} {log : Log} {link : LinkId} {tables : Tables} where
     | ClosesServer none is ↦ (let at = (happens.sound.lends.closes link is).quits (quits-some tables.lends link none is ours.some) in
         let own : tag ≡ Own = front.same_tag ∙ ap (λ (s : ToSend). s.tag) (quit-says tables.lends link front.sent none is front.is).1 in
         subst (λ t. Sound service (log ++ Wrote link tag bytes ∷ []) (wrote_on link (length bytes) (left_in (tables.lends.links link.0)) t))
-        (sym (offers-last none is)) (rw ((happens.sound.lends.closes link is).unlent, unclosing happens.told happens.sound link is, none)
+        (sym (offers-last none is)) (rw ((happens.sound.lends.closes link is).unlent, unclosing happens.told happens.sound link is)
+        (subst (λ p. Sound service (log ++ Wrote link tag bytes ∷ [])
+        (record tables { lends = record tables.lends { quit = None }; parting = p })) (none ∙ ap (offered_to link) (sym none))
         (quit-step happens none is at refl (assumption) (λ was. refl) (λ n i. cc (own))
-        (Quits (subst (λ t. has_quit at.backend.account link (log ++ Wrote link t bytes ∷ []) ≡ true) (sym own) (quit-said at bytes))))))
+        (Quits (subst (λ t. has_quit at.backend.account link (log ++ Wrote link t bytes ∷ []) ≡ true) (sym own) (quit-said at bytes)))))))
     | ClosesLate none unclosed client seat late there on ↦
-        cc (ap (λ p. farewell_of p tables.lends) none ∙ ap (λ c. quit_of c tables.lends.quits) unclosed, ours.some)
+        cc (ap (λ p. farewell_of p tables.lends) none ∙ ap (λ c. quit_of c tables.lends.quit) unclosed, ours.some)
     | ClosesClient p stands is on ↦ subst (λ t. Sound service (log ++ Wrote link tag bytes ∷ [])
         (wrote_on link (length bytes) (left_in (tables.lends.links link.0)) t)) (sym (offers-first is)) (rw (parting-unlent happens stands is on, parting-unnumbered happens stands is on) (offered-step happens stands is on []
         (grind (arith, common_steps)) (inl refl) ours.some refl refl (λ n i. cc ((reply-front tag bytes p.bytes (rw is at front)).0)) refl (assumption)

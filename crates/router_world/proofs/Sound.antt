@@ -110,7 +110,7 @@ pub record CloseStands (service : Service) (log : Log) (lends : Lends) (link : L
   pub is_turn : turn_of service link log ≡ Some turn
   pub may : (user : Account) → user_of service turn.client log ≡ Some user
       → MayDrop service (record { client = turn.client; hostgroup = turn.hostgroup }) user link log
-  pub quits : lends.quits ≡ true → QuitStands service log link
+  pub quits : lends.quit ≡ Some link → QuitStands service log link
 
 -- A seat that a client has, with its number and its command.
 pub record Sits (service : Service) (log : Log) (numbers : ℕ → Option ClientNo) (lends : Lends) (n : ℕ) (seat : Seat) : Type 0 where

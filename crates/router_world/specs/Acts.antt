@@ -80,12 +80,12 @@ next_close tables = close_of tables.parting tables.lends.closing (late_link tabl
 abbrev pub quit_sent : Sent
 quit_sent = record { tag = Own; bytes = quit_bytes }
 
-abbrev pub quit_of : List LinkId → (quits : Bool) → Option Sent
-quit_of [] quits = None
-quit_of (link ∷ later) quits = if quits then Some quit_sent else None
+abbrev pub quit_of : List LinkId → (quit : Option LinkId) → Option Sent
+quit_of (link ∷ later) (Some quit) = if nat_eq quit.0 link.0 then Some quit_sent else None
+quit_of _ quit = None
 
 abbrev pub farewell_of : List Parting → Links → Option Sent
-farewell_of [] lends = quit_of lends.closing lends.quits
+farewell_of [] lends = quit_of lends.closing lends.quit
 farewell_of (parting ∷ later) lends = reply_sent parting.bytes
 
 -- bytes of what is to be written, from its beginning
