@@ -171,10 +171,10 @@ module _ {service : Service} {log : Log} {link : LinkId} {backend : BackendState
 
   -- It is all that is owed to the link.
 
-  query : List ℕ
+  abbrev query : List ℕ
   query = query_in (work_of service turn.client log)
 
-  rest : List ℕ
+  abbrev rest : List ℕ
   rest = owed_standing row_standing (is_here turn.client log) (commands_on backend.account link log) query
 
   whole : AllLawful Fits log → owed service link log ≡ login_first backend.own rest
@@ -299,14 +299,14 @@ module _ {service : Service} {log : Log} {link : LinkId} (at : QuitStands servic
   quit-owed told = sym (whole at.row told ∙ ap (λ own. login_first own (rest at.row)) at.said
       ∙ ap (λ s. owed_standing s (is_here at.row.turn.client log) (commands_on at.backend.account link log) (query at.row)) quit-clean ∙ by at.idle) where
         none : (o : Option Work) → ((work : Work) → o ≡ Some work → is_query work.message.payload ≡ false) → or_quit (query_in o) ≡ quit_bytes
-        none None no = refl
-        none (Some work) no = ap (λ b. or_quit (cond b (spelling work.message.first work.message.payload) [])) (no work refl)
+        none None are = refl
+        none (Some work) are = ap (λ b. or_quit (cond b (spelling work.message.first work.message.payload) [])) (are work refl)
 
         by : (is_here at.row.turn.client log ≡ false) ⊎ ((work : Work) → work_of service at.row.turn.client log ≡ Some work → is_query work.message.payload ≡ false)
             → owed_standing Clean (is_here at.row.turn.client log) (commands_on at.backend.account link log) (query at.row) ≡ quit_bytes
         by (inl away) = ap (λ b. cond b (or_quit (query at.row)) quit_bytes) away
-        by (inr no) = elim (bool_cases (is_here at.row.turn.client log)) [
-          | inl here ↦ ap (λ b. cond b (or_quit (query at.row)) quit_bytes) here ∙ none (work_of service at.row.turn.client log) no
+        by (inr are) = elim (bool_cases (is_here at.row.turn.client log)) [
+          | inl here ↦ ap (λ b. cond b (or_quit (query at.row)) quit_bytes) here ∙ none (work_of service at.row.turn.client log) are
           | inr away ↦ ap (λ b. cond b (or_quit (query at.row)) quit_bytes) away
         ]
 

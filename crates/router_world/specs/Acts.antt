@@ -137,7 +137,7 @@ pub record IsWhole (lent : Option Sent) (piece : List ℕ) : Type 0 where
 -- all that was asked for is done, and it is the link's own; or it is for the one write that a link is offered before it closes
 abbrev pub Lends : Setup → Tables → LinkId → (piece : List ℕ) → Type 0
 Lends setup tables link piece = ((asks setup tables ≡ false) × IsWhole (sends tables link) piece) ⊎ (IsFarewell tables link × IsWhole (farewell_of
-    tables.parting) piece)
+    tables.parting tables.lends) piece)
 
 abbrev pub lends : Setup → Log → LinkId → (piece : List ℕ) → Type 0
 lends setup log link piece = Lends setup (tables_after setup log) link piece
