@@ -1,5 +1,5 @@
 -- What changes, one table at a time.
-use Rattle.std.specs.Prelude.{None, Some, [], filter, nat_eq, not, ℕ, ◌++◌, ◌∷◌}
+use Rattle.std.specs.Prelude.{List, None, Some, [], filter, nat_eq, not, ℕ, ◌++◌, ◌∷◌}
 use Rattle.lend_core.specs.{Lends.Lends, Lends.others, Lends.set, declared.ask.Ask.Ask, declared.lent.Lent.Lent}
 use Rattle.mx_base.specs.declared.names.{ClientNo.ClientNo, LinkId.LinkId}
 use Rattle.{server_side.specs.Backend.taken, std.specs.Option.option_map}
@@ -46,10 +46,22 @@ waits_no_more client lends = record lends { waiting = filter (λ other. not (nat
 abbrev pub without_first : Lends → Lends
 without_first lends = record lends { waiting = others lends.waiting }
 
--- Links that are to be closed.
+-- Links that are to be closed, the last of them behind a QUIT or without one.
 
 abbrev pub to_close : LinkId → Lends → Lends
-to_close link lends = record lends { closing = lends.closing ++ link ∷ [] }
+to_close link lends = record lends { closing = lends.closing ++ link ∷ []; quit = None }
+
+abbrev pub to_quit : LinkId → Lends → Lends
+to_quit link lends = record lends { closing = lends.closing ++ link ∷ []; quit = Some link }
+
+-- the next one's QUIT was offered
+abbrev pub quit_offered : List LinkId → Lends → Lends
+quit_offered [] lends = lends
+quit_offered (link ∷ later) lends = record lends { quit = None }
+
+abbrev pub closes_first : List LinkId → Lends → Lends
+closes_first [] lends = lends
+closes_first (link ∷ later) lends = record lends { closing = later; quit = None }
 
 abbrev pub without_close : Lends → Lends
-without_close lends = record lends { closing = others lends.closing }
+without_close lends = closes_first lends.closing lends

@@ -1,16 +1,16 @@
 -- What is decided for one link and one client.
 use Rattle.client_session.specs.declared.refusal.Refusal.TheVariants.{BadServerBytes, ConnectionRefused}
 use Rattle.client_session.specs.{Refusals.payload_of, declared.refusal.Refusal.Refusal}
-use Rattle.lend_core.specs.Changes.{owns_none, to_close, waits, with_ask, with_link, without_ask}
+use Rattle.lend_core.specs.Changes.{owns_none, to_close, to_quit, waits, with_ask, with_link, without_ask}
 use Rattle.lend_core.specs.declared.lent.Due.TheVariants.{Login, Nothing, Reply}
 use Rattle.lend_core.specs.{Lends.Lends, Lends.Told, declared.ask.Ask.Ask, declared.lent.Due.Due, declared.lent.Lent.Lent}
-use Rattle.mx_base.specs.{declared.names.ClientNo.ClientNo, declared.names.LinkId.LinkId, declared.tag.Tag.Tag, declared.tag.Tag.TheVariants.For}
+use Rattle.mx_base.specs.{declared.names.ClientNo.ClientNo, declared.names.LinkId.LinkId, declared.tag.Tag.Tag, declared.tag.Tag.TheVariants.For, declared.tag.Tag.TheVariants.Own, Sent.Sent}
 use Rattle.server_side.specs.declared.fault.BackendFault.TheVariants.{BadBytes, Denied, OutOfMemory, Plugin}
 use Rattle.server_side.specs.declared.hear.Heard.TheVariants.{LoggedIn, Part, Quiet, Whole}
-use Rattle.server_side.specs.{Backend.BackendState, Backend.is_sent, Handing.handed, Handing.reply_id, Handing.unsent, Handing.without_reply, Hearing.Fails}
+use Rattle.server_side.specs.{Backend.BackendState, Backend.is_begun, Backend.is_sent, Backend.left, Handing.handed, Handing.reply_id, Handing.unsent, Handing.without_reply, Hearing.Fails}
 use Rattle.server_side.specs.{Hearing.Got, Hearing.Hears, declared.command.Command.Command, declared.handing.Unsent.Unsent, declared.stage.Stage.Stage}
 use Rattle.server_side.{specs.declared.fault.BackendFault.BackendFault, specs.declared.hear.Heard.Heard}
-use Rattle.std.specs.Prelude.{Bool, List, None, Option, Some, false, if◌then◌else◌, is_some, nat_eq, not, ℕ, ◌&&◌}
+use Rattle.std.specs.Prelude.{Bool, List, None, Option, Some, false, true, if◌then◌else◌, is_some, nat_eq, not, ℕ, ◌&&◌}
 use Rattle.std.specs.Option.{option_map_or}
 use Rattle.{lend_core.specs.declared.ask.Answered.Answered, packet_frame.specs.Packets.spelling, std.specs.Option.option_map}
 use Rattle.server_side.specs.declared.stage.Stage.TheVariants as stage
@@ -41,6 +41,11 @@ refused (Some client) lends = record { lends = without_ask client lends; answer 
 
 -- How a link stands.
 
+-- what is written for it is the router's own
+abbrev pub is_own_tag : Tag → Bool
+is_own_tag Own = true
+is_own_tag _ = false
+
 -- the router is logged in there, and no command waits for its reply
 abbrev pub takes_at : Stage → (command : Option Command) → Bool
 takes_at stage.In command = not (is_some command)
@@ -48,6 +53,19 @@ takes_at _ command = false
 
 abbrev pub takes_command : BackendState → Bool
 takes_command backend = takes_at backend.stage backend.command
+
+-- Nothing is under way there: the router is logged in and has said all of its login, and no byte of a command was written whose reply isn't whole.
+
+abbrev pub is_own : Option Sent → Bool
+is_own None = false
+is_own (Some sent) = is_own_tag sent.tag
+
+abbrev pub clean_at : Stage → (command : Option Command) → (left : Option Sent) → Bool
+clean_at stage.In command left = not (is_begun command) && not (is_own left)
+clean_at _ command left = false
+
+abbrev pub is_clean : BackendState → Bool
+is_clean backend = clean_at backend.stage backend.command (left backend)
 
 -- what is due there
 abbrev pub due_at : Stage → (command : Option Command) → Due
@@ -79,6 +97,10 @@ abbrev pub closed : LinkId → (owner : Option ClientNo) → Lends → Lends
 closed link None lends = to_close link lends
 closed link (Some client) lends = to_close link (owns_none client lends)
 
+-- One that nobody owns is to be closed: behind a QUIT, where it is clean.
+abbrev pub dropped : (clean : Bool) → LinkId → Lends → Lends
+dropped clean link lends = if clean then to_quit link lends else to_close link lends
+
 -- A link fails.
 
 -- a command of which no byte was written waits for another link
@@ -109,18 +131,23 @@ logged_in link lent None lends = with_link link lent lends
 logged_in link lent (Some client) lends = option_map_or (λ (ask : Ask). offered client ask link lent (without_ask client lends))
     (lends.asks client.0) (with_link link lent (without_ask client lends))
 
--- the link may serve again: the command was wholly written, the piece ended with the reply, and the owner is there
-abbrev pub may_stay : Due → (ended : Bool) → (owner : Option ClientNo) → Bool
-may_stay (Reply is_sent first) ended owner = is_sent && ended && is_some owner
-may_stay _ ended owner = false
+-- the link may serve again: the command was wholly written, and the piece ended with the reply
+abbrev pub may_stay : Due → (ended : Bool) → Bool
+may_stay (Reply is_sent first) ended = is_sent && ended
+may_stay _ ended = false
+
+-- it does where its owner is there
+abbrev pub kept_for : (owner : Option ClientNo) → LinkId → Lent → Lends → Lends
+kept_for None link lent lends = dropped (is_clean lent.backend) link lends
+kept_for (Some client) link lent lends = with_link link lent lends
 
 abbrev pub kept_or_closed : (stays : Bool) → LinkId → Lent → Lends → Lends
-kept_or_closed stays link lent lends = if stays then with_link link lent lends else closed link lent.owner lends
+kept_or_closed stays link lent lends = if stays then kept_for lent.owner link lent lends else closed link lent.owner lends
 
 -- a reply is whole, and the piece ended with it or not: the owner is answered by it
 abbrev pub replied : LinkId → Due → (ended : Bool) → Lent → Lends → Told
 replied link due ended lent lends = answering lent.owner lent.backend.reply
-    (kept_or_closed (may_stay due ended lent.owner) link (record lent { backend = without_reply lent.backend }) lends)
+    (kept_or_closed (may_stay due ended) link (record lent { backend = without_reply lent.backend }) lends)
 
 -- the place of bad bytes in a reply
 abbrev pub place_of : BackendFault → ℕ

@@ -1,8 +1,8 @@
 -- What each event makes of the links and of the commands.
 use Rattle.std.specs.Option.{option_map_or}
 use Rattle.lend_core.specs.Changes.{owns, owns_none, to_close, waits_no_more, with_link, without_ask, without_first, without_link}
-use Rattle.lend_core.specs.Decisions.{due_on, failed, offered, queued, quietly, refused, told_by}
-use Rattle.std.specs.Prelude.{Bool, List, None, Option, Some, [], false, if◌then◌else◌, length, true, ℕ, ◌∷◌}
+use Rattle.lend_core.specs.Decisions.{dropped, due_on, failed, is_clean, offered, queued, quietly, refused, told_by}
+use Rattle.std.specs.Prelude.{Bool, List, None, Option, Some, [], false, if◌then◌else◌, length, nat_eq, true, ℕ, ◌∷◌, ◌&&◌}
 use Rattle.client_session.specs.declared.refusal.Refusal.TheVariants.{ConnectionLost}
 use Rattle.lend_core.specs.{Lends.Lends, Lends.Told, Lends.oldest, declared.ask.Ask.Ask, declared.lent.Lent.Lent}
 use Rattle.mx_base.specs.{Sent.Sent, declared.names.ClientNo.ClientNo, declared.names.LinkId.LinkId}
@@ -48,13 +48,13 @@ lost link lends = option_map_or (λ (lent : Lent). failed link (due_on lent.back
 -- A client has gone.
 
 abbrev pub left_at : LinkId → Lent → Lends → Lends
-left_at link lent lends = if is_begun lent.backend.command then with_link link (record lent { owner = None }) lends else to_close link lends
+left_at link lent lends = if is_begun lent.backend.command then with_link link (record lent { owner = None }) lends else dropped (is_clean lent.backend) link lends
 
 abbrev pub left_by : Option LinkId → Lends → Lends
 left_by None lends = lends
 left_by (Some link) lends = option_map_or (λ (lent : Lent). left_at link lent (without_link link lends)) (lends.links link.0) (without_link link lends)
 
--- its command is dropped, and its link is closed, unless a reply is due there, which is read first
+-- its command is dropped, and its link is closed, behind a QUIT where it is clean, unless a reply is due there, which is read first
 abbrev pub gone : ClientNo → Lends → Lends
 gone client lends = left_by (lends.owned client.0) (owns_none client (waits_no_more client (without_ask client lends)))
 
@@ -64,6 +64,11 @@ gone client lends = left_by (lends.owned client.0) (owns_none client (waits_no_m
 abbrev pub left_in : Option Lent → Option Sent
 left_in None = None
 left_in (Some lent) = left lent.backend
+
+-- the link closes next, and COM_QUIT is offered to it before
+abbrev pub quits_on : LinkId → (closing : List LinkId) → (quit : Option LinkId) → Bool
+quits_on link (first ∷ later) (Some quit) = nat_eq first.0 link.0 && nat_eq quit.0 link.0
+quits_on link _ quit = false
 
 -- a link has to be opened
 abbrev pub is_waiting : List ClientNo → Bool

@@ -5,7 +5,8 @@ ghost use Rattle.lend_core.specs.Decisions.{answer_for, error_packets};
 use crate::ask::{Answered, Ask};
 use crate::lender::Lender;
 use crate::lent::{
-    Due, Lent, bad_place, command_on, due_on, may_stay, takes_command, unsent_of, without_owner,
+    Due, Lent, bad_place, command_on, due_on, is_clean, may_stay, takes_command, unsent_of,
+    without_owner,
 };
 use client_session::{Refusal, write_refusal};
 use mx_base::{Bytes, ClientNo, LinkId, OutOfMemory, Tag};
@@ -51,7 +52,7 @@ impl Lender {
     ghost use Rattle.server_side.specs.Hearing.{got_of};
     ghost use Rattle.lend_core.specs.declared.ask.Ask.{Ask};
     ghost use Rattle.lend_core.specs.Lends.{lends_of};
-    ghost use Rattle.lend_core.specs.Decisions.{refused, queued, closed, again, again_for, failed_by, logged_in, kept_or_closed, place_of, replied, heard_by, told_by, due_on, offered};
+    ghost use Rattle.lend_core.specs.Decisions.{refused, queued, closed, again, again_for, failed_by, logged_in, dropped, is_clean, kept_for, kept_or_closed, place_of, replied, heard_by, told_by, due_on, offered};
     ghost use Rattle.lend_core.specs.Events.{asked, opened_for, opened, open_failed, heard, lost, left_at, left_by, gone};
     ghost use Rattle.lend_core.specs.declared.lent.Due.TheVariants.{Nothing};
     ghost use Rattle.client_session.specs.declared.refusal.Refusal.TheVariants.{BadServerBytes};
@@ -252,11 +253,39 @@ impl Lender {
         ensures { OnOk result (lends_of self.new ≡ kept_or_closed stays link lent (lends_of self.old)) }
     {
         if stays {
-            self.put_link(link, lent)
+            self.keep_for(lent.owner, link, lent)
         } else {
             let owner = lent.owner;
             drop(lent);
             self.drop_link(link, owner)
+        }
+    }
+
+    // It serves on where its owner is there.
+    fn keep_for(
+        &mut self,
+        owner: Option<ClientNo>,
+        link: LinkId,
+        lent: Lent,
+    ) -> Result<(), OutOfMemory>
+        ensures { OnOk result (lends_of self.new ≡ kept_for owner link lent (lends_of self.old)) }
+    {
+        match owner {
+            Some(_) => self.put_link(link, lent),
+            None => self.part(link, lent),
+        }
+    }
+
+    // Nobody owns the link, which is to be closed: behind a QUIT, where it is clean.
+    fn part(&mut self, link: LinkId, lent: Lent) -> Result<(), OutOfMemory>
+        ensures { OnOk result (lends_of self.new ≡ dropped (is_clean lent.backend) link (lends_of self.old)) }
+    {
+        let clean = is_clean(&lent.backend);
+        drop(lent);
+        if clean {
+            self.close_politely(link)
+        } else {
+            self.close(link)
         }
     }
 
@@ -271,7 +300,7 @@ impl Lender {
         ensures { IfOk result (λ answer. record { lends = lends_of self.new; answer = answer } ≡ replied link due ended lent (lends_of self.old)) }
     {
         let Lent { owner, mut backend } = lent;
-        let stays = may_stay(due, ended, owner);
+        let stays = may_stay(due, ended);
         let packets = backend.take_reply();
         self.keep_or_drop(stays, link, Lent { owner, backend })?;
         Ok(answer_for(owner, packets))
@@ -379,7 +408,7 @@ impl Lender {
         }
     }
 
-    // The link, which was a client's own, is to be closed, unless a reply is due there.
+    // The link, which was a client's own, is to be closed, unless a reply is due there: behind a QUIT where it is clean.
     fn leave(&mut self, link: LinkId) -> Result<(), OutOfMemory>
         ensures { OnOk result (lends_of self.new ≡ left_by (Some link) (lends_of self.old)) }
     {
@@ -395,13 +424,12 @@ impl Lender {
         if lent.backend.is_begun() {
             self.put_link(link, without_owner(lent))
         } else {
-            drop(lent);
-            self.close(link)
+            self.part(link, lent)
         }
     }
 
     /// A client has gone. Its command that isn't on a link is dropped, and its link is closed, unless a byte of a command was written
-    /// there, whose reply is read first.
+    /// there, whose reply is read first. COM_QUIT is offered to the link before, where nothing is under way there.
     pub fn left(&mut self, client: ClientNo) -> Result<(), OutOfMemory>
         ensures { OnOk result (lends_of self.new ≡ gone client (lends_of self.old)) }
     {

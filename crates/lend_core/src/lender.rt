@@ -24,6 +24,8 @@ pub struct Lender {
     pub waiting: VecDeque<ClientNo>,
     /// The links that are to be closed, the oldest first.
     pub closing: VecDeque<LinkId>,
+    /// The one of these to which COM_QUIT is offered before (client/server protocol, "COM_QUIT").
+    pub quit: Option<LinkId>,
 }
 
 // One change of one table at a time.
@@ -32,8 +34,8 @@ impl Lender {
     ghost use Rattle.std.specs.Option.{option_copied};
     ghost use Rattle.mx_base.specs.Sent.{IsLent, MayTake};
     ghost use Rattle.lend_core.specs.Lends.{lends_of, nothing_lent, oldest};
-    ghost use Rattle.lend_core.specs.Changes.{with_link, without_link, taken_on, owns, owns_none, with_ask, without_ask, waits, waits_no_more, without_first, without_close, to_close};
-    ghost use Rattle.lend_core.specs.Events.{left_in, is_waiting};
+    ghost use Rattle.lend_core.specs.Changes.{with_link, without_link, taken_on, owns, owns_none, with_ask, without_ask, waits, waits_no_more, without_first, without_close, to_close, to_quit};
+    ghost use Rattle.lend_core.specs.Events.{left_in, quits_on, is_waiting};
 
     /// No links, and no commands. Takes no memory.
     pub fn new(alloc: Global) -> Self
@@ -46,6 +48,7 @@ impl Lender {
             asks: HashMap::new(alloc),
             waiting: VecDeque::new(alloc),
             closing: VecDeque::new(alloc),
+            quit: None,
         }
     }
 
@@ -136,7 +139,39 @@ impl Lender {
         ensures { OnOk result (lends_of self.new ≡ to_close link (lends_of self.old)) }
     {
         self.closing.push_back(link)?;
+        self.quit = None;
         Ok(())
+    }
+
+    #[tactic(auto, using(crate::proofs::Told::one), unfolding(crate::specs::Lends::lends_of))]
+    pub(crate) fn close_politely(&mut self, link: LinkId) -> Result<(), OutOfMemory>
+        ensures { OnOk result (lends_of self.new ≡ to_quit link (lends_of self.old)) }
+    {
+        self.closing.push_back(link)?;
+        self.quit = Some(link);
+        Ok(())
+    }
+
+    /// The link that is to be closed to which COM_QUIT is offered before.
+    #[tactic(auto, unfolding(crate::specs::Lends::lends_of))]
+    pub fn quit(&self) -> Option<LinkId>
+        ensures { result ≡ (lends_of self.now).quit }
+    {
+        self.quit
+    }
+
+    /// Whether the link closes next, and COM_QUIT is offered to it before.
+    #[tactic(auto, unfolding(crate::specs::Lends::lends_of))]
+    pub fn quits_on(&self, link: LinkId) -> bool
+        ensures { result ≡ quits_on link (lends_of self.now).closing (lends_of self.now).quit }
+    {
+        let Some(first) = self.closing.front().copied() else {
+            return false;
+        };
+        match self.quit {
+            Some(quit) => first.0 == link.0 && quit.0 == link.0,
+            None => false,
+        }
     }
 
     /// The link that is to be closed first, once: the next call names the next one. A client's link is closed before another is
@@ -146,7 +181,9 @@ impl Lender {
         ensures first { result ≡ oldest (lends_of self.old).closing }
         ensures rest { lends_of self.new ≡ without_close (lends_of self.old) }
     {
-        take_oldest(&mut self.closing)
+        let first = take_oldest(&mut self.closing)?;
+        self.quit = None;
+        Some(first)
     }
 
     /// Whether a link has to be opened, for the client that waits first. `opened` or `open_failed` says what came of it.

@@ -1,8 +1,9 @@
 // An open link to a server.
 ghost use Rattle.std.specs.Prelude.{◌≡◌, ◌≢◌, None, IfOk, true};
 ghost use Rattle.server_side.specs.declared.fault.BackendFault.TheVariants as fault;
+ghost use Rattle.server_side.specs.Backend.{left};
 ghost use Rattle.server_side.specs.Handing.{unsent};
-ghost use Rattle.lend_core.specs.Decisions.{takes_command, due_on, may_stay, commanded, place_of};
+ghost use Rattle.lend_core.specs.Decisions.{takes_command, is_own, is_own_tag, is_clean, due_on, may_stay, commanded, place_of};
 
 use crate::ask::Ask;
 use mx_base::{ClientNo, OutOfMemory, Tag};
@@ -36,6 +37,35 @@ pub fn takes_command(backend: &Backend) -> bool
     }
 }
 
+// The rest of the router's login is still to be written there.
+fn owes_login(backend: &Backend) -> bool
+    ensures { result ≡ is_own (left backend.now) }
+{
+    match backend.outgoing() {
+        Some(piece) => is_own_tag(piece.tag),
+        None => false,
+    }
+}
+
+fn is_own_tag(tag: Tag) -> bool
+    ensures { result ≡ is_own_tag tag }
+{
+    match tag {
+        Tag::Own => true,
+        _ => false,
+    }
+}
+
+/// Whether nothing is under way there: the router is logged in, and no byte of a command was written whose reply isn't whole.
+pub fn is_clean(backend: &Backend) -> bool
+    ensures { result ≡ is_clean backend.now }
+{
+    match backend.stage() {
+        Stage::In => !backend.is_begun() && !owes_login(backend),
+        _ => false,
+    }
+}
+
 /// What is due there.
 pub fn due_on(backend: &Backend) -> Due
     ensures { result ≡ due_on backend.now }
@@ -53,13 +83,12 @@ pub fn due_on(backend: &Backend) -> Due
     }
 }
 
-/// Whether the link may serve again behind a whole reply: the command was wholly written, the piece ended with the reply, and the
-/// owner is there.
-pub fn may_stay(due: Due, ended: bool, owner: Option<ClientNo>) -> bool
-    ensures { result ≡ may_stay due ended owner }
+/// Whether the link may serve again behind a whole reply: the command was wholly written, and the piece ended with the reply.
+pub fn may_stay(due: Due, ended: bool) -> bool
+    ensures { result ≡ may_stay due ended }
 {
     match due {
-        Due::Reply { is_sent, .. } => is_sent && ended && owner.is_some(),
+        Due::Reply { is_sent, .. } => is_sent && ended,
         _ => false,
     }
 }

@@ -3,6 +3,7 @@
 
 mod door;
 mod keepalive;
+mod room;
 mod salt;
 mod socket;
 mod sockets;

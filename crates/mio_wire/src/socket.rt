@@ -11,6 +11,8 @@ use std::io::{ErrorKind, Read, Write};
 #[derive(Drop)]
 pub struct Socket {
     stream: TcpStream,
+    /// It came to a port.
+    came: bool,
     /// Something may be there to read.
     readable: bool,
     /// There may be room to write.
@@ -30,6 +32,7 @@ impl Socket {
     pub fn new(stream: TcpStream, is_there: bool) -> Self {
         Socket {
             stream,
+            came: is_there,
             readable: false,
             writable: is_there,
             ended: false,
@@ -37,6 +40,11 @@ impl Socket {
             answered: false,
             given_up: false,
         }
+    }
+
+    /// Whether it is a client's, which came to a port.
+    pub fn is_client(&self) -> bool {
+        self.came
     }
 
     /// Whether something was read there behind what was written.

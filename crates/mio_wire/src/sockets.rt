@@ -1,6 +1,7 @@
 // The ports, and the links with those that the last wake named.
 use crate::door::{Came, Door};
 use crate::keepalive::keep_alive;
+use crate::room::{has_room, most_links};
 use crate::socket::Socket;
 use mio::event::Event;
 use mio::net::TcpStream;
@@ -41,6 +42,10 @@ pub struct Sockets {
     links: HashMap<u64, Socket>,
     ready: VecDeque<LinkId>,
     awaited: VecDeque<Awaited>,
+    /// How many of the links are clients'.
+    clients: u64,
+    /// How many links may be open at a time.
+    most: u64,
     /// The number of the newest link, or of the last port.
     newest: u64,
 }
@@ -55,6 +60,8 @@ impl Sockets {
             links: HashMap::new(alloc),
             ready: VecDeque::with_capacity(alloc, NAMED_AT_ONCE)?,
             awaited: VecDeque::new(alloc),
+            clients: 0,
+            most: most_links(),
             newest: ADMIN as u64,
         })
     }
@@ -121,14 +128,24 @@ impl Sockets {
         None
     }
 
-    /// The next client that waits at the port, if one does. One with which nothing can be done is passed over.
+    // Whether there are descriptors for one client more, and for a link to a server for each client.
+    fn has_room(&self) -> bool {
+        let servers = (self.links.len() as u64).saturating_sub(self.clients);
+        has_room(self.most, self.clients, servers)
+    }
+
+    /// The next client that waits at the port, if one does and there is room for it. One with which nothing can be done is passed over.
     pub fn accept(&mut self, port: Port) -> io::Result<Option<LinkId>> {
+        if !self.has_room() {
+            return Ok(None);
+        }
         for _ in 0..u64::MAX {
             match self.knock(port)? {
                 Came::Nobody => return Ok(None),
                 Came::Gone => {}
                 Came::Client(stream) => {
                     if let Ok(link) = self.keep(stream, true) {
+                        self.clients = self.clients.saturating_add(1);
                         return Ok(Some(link));
                     }
                 }
@@ -223,7 +240,11 @@ impl Sockets {
 
     /// Closes the link's connection.
     pub fn close(&mut self, link: LinkId) {
-        let _ = self.links.remove(&link.0);
+        if let Some(socket) = self.links.remove(&link.0) {
+            if socket.is_client() {
+                self.clients = self.clients.saturating_sub(1);
+            }
+        }
     }
 }
 

@@ -184,10 +184,14 @@ loss-piece e is = grind (arith, common_steps)
 loss-breaks : (e : Entry) (user : Account) (link : LinkId) (log : Log) → is_loss e ≡ true → breaks_off user link log e ≡ true
 loss-breaks e user link log is = grind (arith, common_steps)
 
+pub lost-stands : {service : Service} {log : Log} {e : Entry} {link : LinkId} {backend : BackendState} (at : AtLink service log e link backend)
+    → is_loss e ≡ true → standing_on service.forms backend.account link (log ++ e ∷ []) ≡ Spoilt
+lost-stands {log = log} {e} {link} at loss = (let was : was_lost link (new at) ≡ true = lost-new at ∙ loss in grind (arith, common_steps, was))
+
 pub lost-fails : {service : Service} {log : Log} {e : Entry} {link : LinkId} {backend : BackendState} (at : AtLink service log e link backend)
     → is_loss e ≡ true → Fails service log e link backend at.row.turn.client connection_lost
 lost-fails {service} {log} {e} {link} {backend} at loss = (let was : was_lost link (new at) ≡ true = lost-new at ∙ loss in
-    let spoilt : standing_on service.forms backend.account link (new at) ≡ Spoilt = grind (arith, common_steps, was) in
+    let spoilt : standing_on service.forms backend.account link (new at) ≡ Spoilt = lost-stands at loss in
     let heard : heard_of link (new at) ≡ heard_of link log = grind (arith, common_steps, heard-more, append-nil, (at.row.unlost)) in
     let pieces : pieces_of link (new at) ≡ pieces_of link log = grind (arith, common_steps, pieces-more, piece, append-nil, loss-piece, (at.row.unlost)) in
     elim at.row.at [

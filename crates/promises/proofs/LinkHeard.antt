@@ -15,8 +15,10 @@ use Rattle.server_side.{specs.Login.LogsIn, specs.Login.Opening, specs.Login.ope
 use Rattle.server_side.specs.{Account.Account, Backend.BackendState, Laws.opening-got, Laws.opening-said, Reading.HasFailed, Reading.TellsOf}
 use Rattle.server_side.specs.Hearing.{Fails as GotFault, Got, Hears, got_of, reply_by}
 use Rattle.server_side.specs.declared.hear.Heard.TheVariants.{LoggedIn, Part, Quiet, Whole as WholeReply}
+use Rattle.promises.specs.Quits.{is_own}
+use Rattle.std.proofs.lemmas.List.Folds.{list_any-append}
 use Rattle.std.proofs.Common.{ap, append-nil, arith, inl, length-append, sym, ◌∙◌}
-use Rattle.std.specs.Prelude.{Bool, List, None, Some, [], false, length, nat_eq, refl, take, true, ℕ, ◌&&◌, ◌++◌, ◌+◌, ◌-◌, ◌<◌, ◌∷◌, ◌≡◌, ◌≤◌}
+use Rattle.std.specs.Prelude.{Bool, List, None, Some, [], false, length, nat_eq, refl, take, true, ℕ, ◌&&◌, ◌++◌, ◌+◌, ◌-◌, ◌<◌, ◌∷◌, ◌≡◌, ◌≤◌, ◌||◌}
 
 -- A login goes on, is there, or fails.
 abbrev pub TellsEntering : Forms → Account → (heard : List ℕ) → (pieces : List Command) → Got → Type 0
@@ -35,7 +37,7 @@ abbrev first-inside : {forms : Forms} {user : Account} {read : List ℕ} {pieces
     → opening user read ≡ LogsIn said rest → list_all has_bytes pieces ≡ true → length (bytes_in pieces) ≤ length said → Stands forms user read pieces [] rest
 first-inside {pieces} said is some fits = record {
   said = said;
-  before = record { others = []; wholes = refl; past = []; whole = []; replies = refl; all = refl };
+  before = record { others = []; wholes = refl; theirs = refl; past = []; whole = []; replies = refl; all = refl };
   is = is;
   commands = ap commands_in (behind-all (length said) pieces some fits);
 }
@@ -168,6 +170,7 @@ module _ {forms : Forms} {user : Account} {heard : List ℕ} {pieces : List Comm
       before = record {
         others = now.before.others ++ written command ∷ [];
         wholes = grind (arith, common_steps, (written-is command has.message has.sent));
+        theirs = list_any-append is_own now.before.others (written command ∷ []) ∙ (λ j. now.before.theirs j || (has.theirs j || false));
         past = now.before.past ++ bytes;
         whole = now.before.whole ++ reply ∷ [];
         replies = (let shorter = ended-shorter command.tracker.state piece rest end is in

@@ -5,6 +5,7 @@ use Rattle.exchange.specs.Commands.{Command, behind, commands_behind, commands_i
 use Rattle.exchange.specs.Replies.{Answer, Form, Forms, Heard, Replies, Standing, command_reply, cut, replies_by, reply_at, rest_of, standing_in}
 use Rattle.mx_base.specs.{Fields.AreBytes, declared.tag.Tag.Tag}
 use Rattle.promises.proofs.{Beginning.is_of, Clean.piece_bytes}
+use Rattle.promises.specs.Quits.{is_own, is_own_tag}
 use Rattle.reply_track.specs.{Replying.id_after, Replying.kind_to, Replying.to_command, Runs.Going, Runs.renumbered, Runs.run, Tracking.started}
 use Rattle.server_side.specs.{Account.Account, Backend.BackendState, Login.Goes, Login.LogsIn, Login.opening, Reading.IsLoggingIn}
 use Rattle.std.specs.{List.flat_map, List.list_all, List.list_any, Option.option_and_then}
@@ -59,10 +60,11 @@ pub record IsMessage (forms : Forms) (tag : Tag) (bytes : List ℕ) : Type 0 whe
 abbrev pub reply_start : Handed → State
 reply_start command = started (to_command command.bytes command.first)
 
--- a command there, which is none of the others, and of which so much was written, and this part of its reply was read, and is kept for the client
+-- a client's command there, which is none of the others, and of which so much was written, and this part of its reply was read, and is kept for the client
 pub record IsCommand (forms : Forms) (others : List Command) (command : Handed) (part kept : List ℕ) : Type 0 where
   pub message : IsMessage forms command.tag command.bytes
   pub new : (n i : ℕ) → is_command n i command.tag ≡ true → list_any (is_of n i) others ≡ false
+  pub theirs : is_own_tag command.tag ≡ false
   pub sent : command.sent ≤ length command.bytes
   pub goes : run (reply_start command) part ≡ Going command.tracker.state
   pub made : kept ≡ renumbered (reply_start command) part
@@ -79,10 +81,11 @@ pub record IsEntering (user : Account) (heard : List ℕ) (pieces : List Command
   pub login : IsLoggingIn backend heard (bytes_in pieces ++ backend.own)
   pub goes : opening user heard ≡ Goes (bytes_in pieces ++ backend.own)
 
--- commands that are whole, and these bytes are the replies to them
+-- clients' commands that are whole, and these bytes are the replies to them
 pub record Answered (forms : Forms) : Type 0 where
   pub others : List Command
   pub wholes : list_all is_whole others ≡ true
+  pub theirs : list_any is_own others ≡ false
   pub past : List ℕ
   pub whole : List Answer
   pub replies : replies_by (command_reply forms) others past ≡ record { whole = whole; rest = []; bad = None }

@@ -10,9 +10,10 @@ use Rattle.mx_wire.{specs.declared.entry.Entry.Entry, specs.declared.entry.Entry
 use Rattle.mx_wire.specs.{Growth.bool_cases, Growth.same_number, Growth.step-other, Growth.step-same, Tells.Fits, Tells.IsNew, Tells.IsOpen}
 use Rattle.promises.proofs.Causes.{came_as, clients-unowned, last-of, named-none, opened-names, opened_as, refusal-cause, same-link, turn-opened}
 use Rattle.promises.proofs.InWork.{asks-unrefused, refused-more, some-same}
-use Rattle.promises.specs.{Closes.MayDrop, Headline.IsLawful, Headline.Serves, Replay.ReplaysTo, Rest.IsAtRest}
+use Rattle.promises.specs.{Closes.MayDrop, Closes.MayQuit, Headline.IsLawful, Headline.Serves, Replay.ReplaysTo, Rest.IsAtRest, Rest.IsKept}
 use Rattle.promises.specs.Follows.{BreaksOff, Cause, OnOne, OneEach, RefusedOrSent, StandsOn, writes}
-use Rattle.promises.specs.Owners.{Owner, is_here, is_here_as, is_refused, is_turn, is_unsent, owner_of, refused, refused_by, user_of}
+use Rattle.promises.specs.Owners.{Owner, is_here, is_here_as, is_refused, is_turn, is_unsent, owner_of, refused, refused_by, user_of, user_on}
+use Rattle.promises.specs.Quits.{has_quit}
 use Rattle.promises.specs.Sends.{Asks, Continues, MaySend, owner_for}
 use Rattle.promises.specs.Service.{Service, Turn, open_tries, open_try, turn_by, turn_of}
 use Rattle.std.{proofs.lemmas.Grind.common_steps, proofs.lemmas.List.Elements.filter_map-append, specs.Option.option_map}
@@ -24,14 +25,14 @@ pub and-true : (a b : Bool) → (a && b) ≡ true → (a ≡ true) × (b ≡ tru
 and-true a b is = grind (arith, common_steps)
 
 -- What is at work on a link isn't cut short.
-pub runs-kept : (service : Service) (owner : Owner) (user : Account) (link : LinkId) (log : Log) → standing_on service.forms user link log ≡ Runs → MayDrop service owner user link log → ⊥
-runs-kept service owner user link log runs seven = grind (arith, common_steps)
+pub runs-kept : (service : Service) (owner : Owner) (user : Account) (link : LinkId) (log : Log) → standing_on service.forms user link log ≡ Runs → has_quit user link log ≡ false → MayDrop service owner user link log → ⊥
+runs-kept service owner user link log runs unquit seven = grind (arith, common_steps)
 
-pub sends-kept : (service : Service) (owner : Owner) (user : Account) (link : LinkId) (log : Log) → standing_on service.forms user link log ≡ Sends → is_here owner.client log ≡ true → MayDrop service owner user link log → ⊥
-sends-kept service owner user link log sends here eight = grind (arith, common_steps)
+pub sends-kept : (service : Service) (owner : Owner) (user : Account) (link : LinkId) (log : Log) → standing_on service.forms user link log ≡ Sends → is_here owner.client log ≡ true → has_quit user link log ≡ false → MayDrop service owner user link log → ⊥
+sends-kept service owner user link log sends here unquit eight = grind (arith, common_steps)
 
-pub enters-kept : (service : Service) (owner : Owner) (user : Account) (link : LinkId) (log : Log) → standing_on service.forms user link log ≡ Enters → is_here owner.client log ≡ true → MayDrop service owner user link log → ⊥
-enters-kept service owner user link log enters here eight = grind (arith, common_steps)
+pub enters-kept : (service : Service) (owner : Owner) (user : Account) (link : LinkId) (log : Log) → standing_on service.forms user link log ≡ Enters → is_here owner.client log ≡ true → has_quit user link log ≡ false → MayDrop service owner user link log → ⊥
+enters-kept service owner user link log enters here unquit eight = grind (arith, common_steps)
 
 -- No command goes on a link on which a reply runs, nor on one that can't be used again.
 pub sends-on : {tag : Tag} {bytes whole : List ℕ} {here : Bool} {commands : List Command} (standing : Standing) → Continues tag bytes whole here commands standing → (standing ≡ Clean) ⊎ (standing ≡ Sends)
@@ -45,6 +46,16 @@ running-takes-none service n i link bytes user log is runs may = grind (arith, c
 
 pub spoilt-takes-none : (service : Service) (n i : ℕ) (link : LinkId) (bytes : List ℕ) (user : Account) (log : Log) → user_of service n log ≡ Some user → standing_on service.forms user link log ≡ Spoilt → MaySend service n i link bytes log → ⊥
 spoilt-takes-none service n i link bytes user log is spoilt may = grind (arith, common_steps, may-on)
+
+-- Behind a QUIT nothing begins, goes on, or is said again, and the link isn't open at rest.
+pub quit-takes-none : (service : Service) (n i : ℕ) (link : LinkId) (bytes : List ℕ) (user : Account) (log : Log) → user_of service n log ≡ Some user → has_quit user link log ≡ true → MaySend service n i link bytes log → ⊥
+quit-takes-none service n i link bytes user log is quit may = grind (arith, common_steps, some-same, (may.unquit))
+
+pub quit-once : (service : Service) (link : LinkId) (bytes : List ℕ) (user : Account) (log : Log) → user_on service link log ≡ Some user → has_quit user link log ≡ true → MayQuit service link bytes log → ⊥
+quit-once service link bytes user log is quit may = grind (arith, common_steps, some-same, (may.unquit))
+
+pub quit-unkept : (forms : Forms) (owner : Owner) (user : Account) (link : LinkId) (log : Log) → has_quit user link log ≡ true → IsKept forms owner user link log → ⊥
+quit-unkept forms owner user link log quit kept = grind (arith, common_steps, (kept.unquit))
 
 -- At rest a query in work stands on a link of its client's.
 pub rest-stands : (service : Service) (n i : ℕ) (message : Framed) (due log : Log) → AllLawful Fits log → IsAtRest service log → is_here n log ≡ true → Asks service n i message due log → StandsOn service n i message due log

@@ -8,7 +8,8 @@ use Rattle.mx_wire.specs.Log.{Log, got_bytes, link_of, of_link, open_step, read_
 use Rattle.promises.proofs.{Arrivals.arrivals-plain, Calm.Leaves, Calm.carrier-same, Calm.or-none, Calm.until-still, Connecting.open-kept, Dues.due-still}
 use Rattle.promises.proofs.{Dues.due-unlost, Dues.work-is, InWork.refused-more, Queries.Calm, Queries.gone-stays}
 use Rattle.promises.specs.{Due.due, Due.reply_to, Due.work_of, Replied.due_said, Replied.replied, Replied.work_said, Service.Service, Service.open_try}
-use Rattle.promises.specs.Closes.{Gone as HasGone, IsSpoilt, MayDrop, Unneeded, has_ended}
+use Rattle.promises.specs.Closes.{Gone as HasGone, IsSpoilt, MayDrop, Quits, Unneeded, has_ended}
+use Rattle.promises.specs.Quits.{has_quit}
 use Rattle.promises.specs.Owners.{Owner, refused_by, refused_on, talk_of, talk_with, user_of}
 use Rattle.server_side.specs.{Account.Account}
 use Rattle.std.proofs.{lemmas.Grind.common_steps, lemmas.Grind.flat_map-append, lemmas.List.Elements.filter_map-append, lemmas.List.Folds.list_any-append}
@@ -76,7 +77,7 @@ module _ (service : Service) (log : Log) {e : Entry} (silent : IsSilent e) where
   replied-still : (n i : ℕ) → replied service n i (log ++ e ∷ []) ≡ replied service n i log
   replied-still n i = grind (arith, common_steps, append-nil, refused-more, reply-same)
 
-  work-same : (n : ℕ) (came : Arrival) → arrival_of n log ≡ Some came → work_of service n (log ++ e ∷ []) ≡ work_of service n log
+  pub work-same : (n : ℕ) (came : Arrival) → arrival_of n log ≡ Some came → work_of service n (log ++ e ∷ []) ≡ work_of service n log
   work-same n came is = work-is service n came (log ++ e ∷ []) (arrival-same n ∙ is)
       ∙ (λ j. work_said (λ i. replied-still n i j) (talk-same n came j)) ∙ sym (work-is service n came log is)
 
@@ -94,10 +95,13 @@ module _ (service : Service) (log : Log) {e : Entry} (silent : IsSilent e) where
   standing-same : (user : Account) (link : LinkId) → standing_on service.forms user link (log ++ e ∷ []) ≡ standing_on service.forms user link log
   standing-same user link = grind (arith, common_steps, sounds)
 
+  pub quit-same : (user : Account) (link : LinkId) → has_quit user link (log ++ e ∷ []) ≡ has_quit user link log
+  quit-same user link = grind (arith, common_steps, sounds)
+
   -- why a link to a server may close stays
   pub drop-passes : (owner : Owner) (link : LinkId) → Fits log e
       → ((user : Account) → user_of service owner.client log ≡ Some user → MayDrop service owner user link log) → (user : Account)
       → user_of service owner.client (log ++ e ∷ []) ≡ Some user → MayDrop service owner user link (log ++ e ∷ [])
   drop-passes owner link fits may user known = (let was : user_of service owner.client log ≡ Some user =
-      sym (ap (option_and_then account) (talk-of-same owner.client)) ∙ known in let why = may user was in let standing = standing-same user link in
-      grind (arith, common_steps, IsSpoilt, HasGone, Unneeded, gone-stays, work-same, why, standing))
+      sym (ap (option_and_then account) (talk-of-same owner.client)) ∙ known in let why = may user was in let standing = standing-same user link in let quit = quit-same user link in
+      grind (arith, common_steps, IsSpoilt, HasGone, Unneeded, Quits, gone-stays, work-same, why, standing))

@@ -121,6 +121,7 @@ sends-first = record {
   user = ann;
   is_user = refl;
   logged_in = record { said = response_said ann server_greeting; rest = []; is = refl; written = record { rest = []; is = refl } };
+  unquit = refl;
   elsewhere = carried-none;
   follows = Begins refl refl (record { rest = []; is = refl });
 }
@@ -182,7 +183,7 @@ skip zero asked = asked
 skip (suc n) asked = (tt, skip n asked)
 
 pub lawful : AllLawful (IsLawful service) whole
-lawful = skip 2 ((1, ann_at, refl, refl), skip 1 ((1, ann_at, refl, refl), skip 2 (opens-first, skip 1 (says-first, skip 1 (sends-first, skip 2 ((2, bob_at, refl, refl), skip 1 ((2, bob_at, refl, refl), skip 2 (opens-second, skip 7 (closes-second, ((2, bob_at, refl, refl), skip 2 ((1, ann_at, refl, refl), skip 5 tt)))))))))))
+lawful = skip 2 ((1, ann_at, refl, refl), skip 1 ((1, ann_at, refl, refl), skip 2 (opens-first, skip 1 (inl says-first, skip 1 (sends-first, skip 2 ((2, bob_at, refl, refl), skip 1 ((2, bob_at, refl, refl), skip 2 (opens-second, skip 7 (closes-second, ((2, bob_at, refl, refl), skip 2 ((1, ann_at, refl, refl), skip 5 tt)))))))))))
 
 -- Each wait comes at rest.
 
@@ -269,11 +270,11 @@ bob-answered = record { served = refl; told = inl refl; lasts = inl refl; in_tim
 
 third-kept : IsKept forms (record { client = 1; hostgroup = 0 }) ann (link 3) waiting
 unfolding client_opening server_opening payloads_in first_message split spelling account_of response_fields head_fields response_of greeting_fields protocol_field offer_fields back_field greeting_of switch_of number_field bytes_field text_field counted_field optional_text last_text own_ok connection_refused bad_server_bytes connection_lost response_said answer_said
-third-kept = record { sound = λ same. (let no : Runs ≡ Spoilt = same in cc); needed = inl refl }
+third-kept = record { sound = λ same. (let no : Runs ≡ Spoilt = same in cc); unquit = refl; needed = inl refl }
 
 fourth-kept : IsKept forms (record { client = 2; hostgroup = 0 }) bob (link 4) waiting
 unfolding client_opening server_opening payloads_in first_message split spelling account_of response_fields head_fields response_of greeting_fields protocol_field offer_fields back_field greeting_of switch_of number_field bytes_field text_field counted_field optional_text last_text own_ok connection_refused bad_server_bytes connection_lost response_said answer_said
-fourth-kept = record { sound = λ same. (let no : Enters ≡ Spoilt = same in cc); needed = inl refl }
+fourth-kept = record { sound = λ same. (let no : Enters ≡ Spoilt = same in cc); unquit = refl; needed = inl refl }
 
 ann-there : user_on service (link 3) waiting ≡ Some ann
 unfolding client_opening server_opening payloads_in first_message split spelling account_of response_fields head_fields response_of greeting_fields protocol_field offer_fields back_field greeting_of switch_of number_field bytes_field text_field counted_field optional_text last_text own_ok connection_refused bad_server_bytes connection_lost response_said answer_said
@@ -305,7 +306,7 @@ bob-done = record { served = refl; told = inl refl; lasts = inl refl; in_time = 
 
 third-clean : IsKept forms (record { client = 1; hostgroup = 0 }) ann (link 3) answered
 unfolding client_opening server_opening payloads_in first_message split spelling account_of response_fields head_fields response_of greeting_fields protocol_field offer_fields back_field greeting_of switch_of number_field bytes_field text_field counted_field optional_text last_text own_ok connection_refused bad_server_bytes connection_lost response_said answer_said
-third-clean = record { sound = λ same. (let no : Clean ≡ Spoilt = same in cc); needed = inl refl }
+third-clean = record { sound = λ same. (let no : Clean ≡ Spoilt = same in cc); unquit = refl; needed = inl refl }
 
 ann-still : user_on service (link 3) answered ≡ Some ann
 unfolding client_opening server_opening payloads_in first_message split spelling account_of response_fields head_fields response_of greeting_fields protocol_field offer_fields back_field greeting_of switch_of number_field bytes_field text_field counted_field optional_text last_text own_ok connection_refused bad_server_bytes connection_lost response_said answer_said

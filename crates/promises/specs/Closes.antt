@@ -1,5 +1,5 @@
 -- Why links close.
-use Rattle.std.specs.Prelude.{◌≡◌, ◌≤◌, ◌⊎◌, ◌≢◌, ℕ, Bool, true, false, ◌||◌, is_some, Option, Some, None}
+use Rattle.std.specs.Prelude.{◌≡◌, ◌≤◌, ◌⊎◌, ◌≢◌, ℕ, List, Bool, true, false, ◌||◌, is_some, Option, Some, None}
 use Rattle.std.specs.List.{list_any}
 use Rattle.mx_base.specs.declared.names.LinkId.{LinkId}
 use Rattle.mx_base.specs.declared.names.Port.TheVariants.{Traffic}
@@ -10,10 +10,11 @@ use Rattle.server_side.specs.Account.{Account}
 use Rattle.client_side.specs.Login.{Opening, Waits, Says, Fails}
 use Rattle.client_session.specs.Arrivals.{Arrival, arrival_of, is_served, login_until}
 use Rattle.client_session.specs.Answers.{Talk, opening_of, account, lacks_login, messages_of, is_query, is_quit}
-use Rattle.exchange.specs.Logins.{was_lost, was_broken}
+use Rattle.exchange.specs.Logins.{IsLoggedIn, IsPrefix, was_lost, was_broken}
 use Rattle.exchange.specs.Replies.{Clean, Runs, Spoilt, standing_on}
 use Rattle.promises.specs.Service.{Service}
 use Rattle.promises.specs.Owners.{is_here, talk_with, Owner, owner_of, user_on}
+use Rattle.promises.specs.Quits.{has_quit, quit_bytes}
 use Rattle.promises.specs.Due.{Work, work_of, due}
 
 -- Links of clients.
@@ -70,12 +71,26 @@ MayPart false service n came log = was_offered came.link log ≡ true
 
 -- Links to servers.
 
--- A link to a server closes where it can't be used again; its client has gone and no reply runs there; or its client asks for nothing, and the
--- link is clean.
+-- A link to a server closes where it can't be used again; its client has gone and no reply runs there; its client asks for nothing, and the link
+-- is clean; or the router said QUIT there.
 pub data MayDrop (service : Service) (owner : Owner) (user : Account) (link : LinkId) (log : Log) : Type 0 where
   IsSpoilt : standing_on service.forms user link log ≡ Spoilt → MayDrop service owner user link log
   Gone : is_here owner.client log ≡ false → standing_on service.forms user link log ≢ Runs → MayDrop service owner user link log
   Unneeded : standing_on service.forms user link log ≡ Clean → ((work : Work) → work_of service owner.client log ≡ Some work → is_query work.message.payload ≡ false) → MayDrop service owner user link log
+  Quits : has_quit user link log ≡ true → MayDrop service owner user link log
+
+-- Before that these bytes of QUIT, from its first, may be written there: where the link may be closed, is clean, the router is logged in there as
+-- its owner's user, and hasn't said it.
+pub record MayQuit (service : Service) (link : LinkId) (bytes : List ℕ) (log : Log) : Type 0 where
+  pub owner : Owner
+  pub is_owner : owner_of service link log ≡ Some owner
+  pub user : Account
+  pub is_user : user_on service link log ≡ Some user
+  pub logged_in : IsLoggedIn user link log
+  pub clean : standing_on service.forms user link log ≡ Clean
+  pub unquit : has_quit user link log ≡ false
+  pub drops : MayDrop service owner user link log
+  pub front : IsPrefix bytes quit_bytes
 
 pub record MayClose (service : Service) (link : LinkId) (log : Log) : Type 0 where
   pub client : (n : ℕ) (came : Arrival) → arrival_of n log ≡ Some came → came.link ≡ link → came.port ≡ Traffic → MayPart (is_served service.setup came) service n came log

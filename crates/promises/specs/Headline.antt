@@ -1,5 +1,5 @@
 -- What the router promises of a log.
-use Rattle.std.specs.Prelude.{◌≡◌, ℕ, List, Some}
+use Rattle.std.specs.Prelude.{◌≡◌, ◌⊎◌, ℕ, List, Some}
 use Rattle.mx_base.specs.declared.tag.Tag.TheVariants.{For, Own, Reply}
 use Rattle.mx_wire.specs.Log.{Log, written_of}
 use Rattle.mx_wire.specs.Moments.{AtEachMoment, AllLawful}
@@ -12,18 +12,18 @@ use Rattle.exchange.specs.Replies.{Forms}
 use Rattle.promises.specs.Service.{Turn, Service}
 use Rattle.promises.specs.Due.{due}
 use Rattle.promises.specs.Sends.{MayOpen, MaySend, MaySay}
-use Rattle.promises.specs.Closes.{MayClose}
+use Rattle.promises.specs.Closes.{MayClose, MayQuit}
 use Rattle.promises.specs.Rest.{RestsAt}
 
 -- what was written to each client is a beginning of what it is due
 abbrev pub IsServed : Service → Log → Type 0
 IsServed service log = (n : ℕ) (came : Arrival) → arrival_of n log ≡ Some came → IsPrefix (written_of came.link log) (due service n log)
 
--- Bytes go to a client as replies, and to a server as the router's login and as commands; links are opened for commands that wait for one, and
+-- Bytes go to a client as replies, and to a server as the router's login, as commands, and as QUIT; links are opened for commands that wait for one, and
 -- close where they may.
 abbrev pub IsLawful : Service → Log → Entry → Type 0
 IsLawful service log (Wrote link (For client ordinal) bytes) = MaySend service client.0 ordinal link bytes log
-IsLawful service log (Wrote link Own bytes) = MaySay service link bytes log
+IsLawful service log (Wrote link Own bytes) = MaySay service link bytes log ⊎ MayQuit service link bytes log
 IsLawful service log (Wrote link Reply bytes) = (n : ℕ) × (came : Arrival) × (arrival_of n log ≡ Some came) × (came.link ≡ link)
 IsLawful service log (Wrote link _ bytes) = ⊥
 IsLawful service log (Opened server address link) = MayOpen service (record { server = server; address = address }) log

@@ -3,6 +3,7 @@ pub mod Due
 pub mod Follows
 pub mod Headline
 pub mod Owners
+pub mod Quits
 pub mod Replay
 pub mod Rest
 pub mod Sends

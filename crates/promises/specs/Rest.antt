@@ -18,6 +18,7 @@ use Rattle.exchange.specs.Commands.{Command, commands_on}
 use Rattle.exchange.specs.Replies.{Forms, Enters, Sends, Runs, Spoilt, standing_on}
 use Rattle.promises.specs.Service.{Service}
 use Rattle.promises.specs.Owners.{is_here, talk_with, Owner, owner_of, user_on}
+use Rattle.promises.specs.Quits.{has_quit}
 use Rattle.promises.specs.Due.{Work, due_at, work_of}
 use Rattle.promises.specs.Sends.{owner_for}
 use Rattle.promises.specs.Closes.{has_ended, WasToldAll}
@@ -67,9 +68,10 @@ pub data IsBusy (forms : Forms) (user : Account) (link : LinkId) (log : Log) : T
   Replies : standing_on forms user link log ≡ Runs → IsBusy forms user link log
   Blocked : standing_on forms user link log ≡ Sends → write_dry link log ≡ true → IsBusy forms user link log
 
--- an open link to a server can be used again, and its client is connected or it is busy
+-- an open link to a server can be used again, the router hasn't said QUIT there, and its client is connected or it is busy
 pub record IsKept (forms : Forms) (owner : Owner) (user : Account) (link : LinkId) (log : Log) : Type 0 where
   pub sound : standing_on forms user link log ≢ Spoilt
+  pub unquit : has_quit user link log ≡ false
   pub needed : (is_here owner.client log ≡ true) ⊎ IsBusy forms user link log
 
 -- the link of a client at its end takes no more of what ends it

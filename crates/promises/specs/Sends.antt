@@ -20,6 +20,7 @@ use Rattle.exchange.specs.Commands.{Command, commands_on, carrier_of}
 use Rattle.exchange.specs.Replies.{Form, Standing, Clean, Sends, Spoilt, standing_on}
 use Rattle.promises.specs.Service.{Turn, Service, next_turn}
 use Rattle.promises.specs.Owners.{is_here, is_unsent, Owner, owner_of, user_of, user_on}
+use Rattle.promises.specs.Quits.{has_quit}
 use Rattle.promises.specs.Due.{route, server_of, due_at, work_of}
 
 -- Client n is served, and its message in work is the i-th, a query, which became due at that moment.
@@ -63,7 +64,7 @@ pub data Continues (tag : Tag) (bytes whole : List ℕ) (here : Bool) (commands 
   GoesOn : (others : List Command) (sent : List ℕ) → standing ≡ Sends → commands ≡ others ++ record { tag = tag; bytes = sent } ∷ [] → IsPrefix (sent ++ bytes) whole → Continues tag bytes whole here commands standing
 
 -- Bytes of the i-th command of client n may be written on a link: it is a query in work, whose reply is to be like this, the link is its owner's,
--- the router is logged in there as the client's user, no byte of it stands elsewhere, and it begins there or goes on.
+-- the router is logged in there as the client's user and hasn't said QUIT, no byte of it stands elsewhere, and it begins there or goes on.
 pub record MaySend (service : Service) (n i : ℕ) (link : LinkId) (bytes : List ℕ) (log : Log) : Type 0 where
   pub message : Framed
   pub due : Log
@@ -73,6 +74,7 @@ pub record MaySend (service : Service) (n i : ℕ) (link : LinkId) (bytes : List
   pub user : Account
   pub is_user : user_of service n log ≡ Some user
   pub logged_in : IsLoggedIn user link log
+  pub unquit : has_quit user link log ≡ false
   pub elsewhere : (other : LinkId) → carrier_of n i log ≡ Some other → other ≡ link
   pub follows : Continues (For (record { 0 = n }) i) bytes (spelling message.first message.payload) (is_here n log) (commands_on user link log) (standing_on service.forms user link log)
 

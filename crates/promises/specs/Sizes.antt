@@ -18,7 +18,8 @@ use Rattle.exchange.specs.Logins.{login_on}
 use Rattle.exchange.specs.Commands.{Command, commands_on}
 use Rattle.exchange.specs.Replies.{Standing, Clean, Sends, standing_on}
 use Rattle.promises.specs.Service.{Turn, Service, turn_of}
-use Rattle.promises.specs.Owners.{user_on}
+use Rattle.promises.specs.Owners.{is_here, user_on}
+use Rattle.promises.specs.Quits.{quit_bytes}
 use Rattle.promises.specs.Due.{Work, work_of, due}
 use Rattle.promises.specs.Rest.{IsEnding}
 
@@ -42,18 +43,23 @@ last_bytes [] = []
 last_bytes (c ∷ []) = c.bytes
 last_bytes (c ∷ d ∷ commands) = last_bytes (d ∷ commands)
 
--- the rest of the login; and then the query in work, or the rest of it
-abbrev pub owed_standing : Standing → List Command → List ℕ → List ℕ
-owed_standing Clean commands query = query
-owed_standing Sends commands query = drop (length (last_bytes commands)) query
-owed_standing _ commands query = []
+-- the query in work of a client that is connected, and QUIT where there is none
+abbrev pub or_quit : List ℕ → List ℕ
+or_quit [] = quit_bytes
+or_quit (byte ∷ bytes) = byte ∷ bytes
+
+-- the rest of the login; and then the query in work, or the rest of it, or QUIT
+abbrev pub owed_standing : Standing → (here : Bool) → List Command → List ℕ → List ℕ
+owed_standing Clean here commands query = if here then or_quit query else quit_bytes
+owed_standing Sends here commands query = drop (length (last_bytes commands)) query
+owed_standing _ here commands query = []
 
 abbrev pub login_first : List ℕ → List ℕ → List ℕ
 login_first [] later = later
 login_first (byte ∷ bytes) later = byte ∷ bytes
 
 abbrev pub owed_as : Service → LinkId → Log → Option Turn → Option Account → List ℕ
-owed_as service link log (Some turn) (Some user) = login_first (unwritten link log (said_of (login_on user link log))) (owed_standing (standing_on service.forms user link log) (commands_on user link log) (query_in (work_of service turn.client log)))
+owed_as service link log (Some turn) (Some user) = login_first (unwritten link log (said_of (login_on user link log))) (owed_standing (standing_on service.forms user link log) (is_here turn.client log) (commands_on user link log) (query_in (work_of service turn.client log)))
 owed_as service link log _ _ = []
 
 abbrev pub owed_by : Service → LinkId → Log → Option ℕ → List ℕ

@@ -13,14 +13,15 @@ ghost use Rattle.client_session.specs.Setups.{Setup};
 ghost use Rattle.promises.specs.Service.{open_tries, Turn, turn_of, Service};
 ghost use Rattle.std.specs.Prelude.{◌<◌, is_some, ◌≡◌, ◌≢◌, ℕ, ◌≤◌, ◌⊎◌, Bool, true, false, List, [], ◌∷◌, ◌++◌, length, Option, Some, None};
 ghost use Rattle.exchange.specs.Replies.{reply_at, Spoilt, Runs, Sends, Enters, Clean, standing_on, Answer, Forms, Grammar, command_reply, replies_by};
-ghost use Rattle.promises.specs.Owners.{is_here, user_of, Owner, refused_by, refused, is_refused};
-ghost use Rattle.promises.specs.Closes.{MayDrop, MayPart};
+ghost use Rattle.promises.specs.Owners.{is_here, user_of, user_on, Owner, refused_by, refused, is_refused};
+ghost use Rattle.promises.specs.Closes.{MayDrop, MayPart, MayQuit};
+ghost use Rattle.promises.specs.Quits.{has_quit};
 ghost use Rattle.exchange.specs.Logins.{was_lost};
 ghost use Rattle.promises.specs.Owners.{talk_with};
 ghost use Rattle.client_session.specs.Answers.{lacks_login};
 ghost use Rattle.client_session.specs.Arrivals.{login_until};
 ghost use Rattle.mx_wire.specs.Log.{moment_of};
-ghost use Rattle.promises.specs.Rest.{MustLogIn, IsAtRest, RestsAt};
+ghost use Rattle.promises.specs.Rest.{MustLogIn, IsAtRest, IsKept, RestsAt};
 ghost use Rattle.promises.specs.Sends.{form_of, Asks, MayOpen, MaySend};
 ghost use Rattle.packet_frame.specs.Packets.{Framed};
 ghost use Rattle.mx_wire.specs.Moments.{AllLawful};
@@ -101,19 +102,34 @@ pub fn clients_unowned()
     ensures { (service : Service) (n : ℕ) (came : Arrival) (log : Log) → AllLawful Fits log → arrival_of n log ≡ Some came → turn_of service came.link log ≡ None }
 {}
 
-/// A link isn't closed on which a reply runs.
+/// A link isn't closed on which a reply runs, but behind a QUIT of the router's own.
 pub fn running_is_kept()
-    ensures { (service : Service) (owner : Owner) (user : Account) (link : LinkId) (log : Log) → standing_on service.forms user link log ≡ Runs → MayDrop service owner user link log → ⊥ }
+    ensures { (service : Service) (owner : Owner) (user : Account) (link : LinkId) (log : Log) → standing_on service.forms user link log ≡ Runs → has_quit user link log ≡ false → MayDrop service owner user link log → ⊥ }
 {}
 
 /// Nor in mid-command, while the client is connected.
 pub fn sending_is_kept()
-    ensures { (service : Service) (owner : Owner) (user : Account) (link : LinkId) (log : Log) → standing_on service.forms user link log ≡ Sends → is_here owner.client log ≡ true → MayDrop service owner user link log → ⊥ }
+    ensures { (service : Service) (owner : Owner) (user : Account) (link : LinkId) (log : Log) → standing_on service.forms user link log ≡ Sends → is_here owner.client log ≡ true → has_quit user link log ≡ false → MayDrop service owner user link log → ⊥ }
 {}
 
 /// Nor in a login.
 pub fn entering_is_kept()
-    ensures { (service : Service) (owner : Owner) (user : Account) (link : LinkId) (log : Log) → standing_on service.forms user link log ≡ Enters → is_here owner.client log ≡ true → MayDrop service owner user link log → ⊥ }
+    ensures { (service : Service) (owner : Owner) (user : Account) (link : LinkId) (log : Log) → standing_on service.forms user link log ≡ Enters → is_here owner.client log ≡ true → has_quit user link log ≡ false → MayDrop service owner user link log → ⊥ }
+{}
+
+/// Behind a QUIT no byte of a query is written on the link.
+pub fn quit_takes_none()
+    ensures { (service : Service) (n i : ℕ) (link : LinkId) (bytes : List ℕ) (user : Account) (log : Log) → user_of service n log ≡ Some user → has_quit user link log ≡ true → MaySend service n i link bytes log → ⊥ }
+{}
+
+/// It is said once, in one piece.
+pub fn quit_is_said_once()
+    ensures { (service : Service) (link : LinkId) (bytes : List ℕ) (user : Account) (log : Log) → user_on service link log ≡ Some user → has_quit user link log ≡ true → MayQuit service link bytes log → ⊥ }
+{}
+
+/// And at rest that link isn't open.
+pub fn quit_is_closed()
+    ensures { (forms : Forms) (owner : Owner) (user : Account) (link : LinkId) (log : Log) → has_quit user link log ≡ true → IsKept forms owner user link log → ⊥ }
 {}
 
 /// At rest a query in work stands on an open link of its owner, which is no client's.

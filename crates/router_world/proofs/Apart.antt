@@ -2,16 +2,19 @@
 pub use Rattle.promises.proofs.Rows.{Here, Row, There, link-or-other, no-some, none-one, one-or-other, one-same, put-other, row-of, set-other, set-same}
 pub use Rattle.promises.proofs.ServerLinks.{apart-links, apart-numbers}
 use Rattle.{lend_core.specs.Events.left_by, promises.proofs.LinkStanding.standing-inside, std.specs.Prelude.if◌then◌else◌}
-use Rattle.lend_core.specs.Changes.{owns_none, to_close, waits_no_more}
+use Rattle.lend_core.specs.{Changes.owns_none, Changes.waits_no_more, Decisions.clean_at, Decisions.dropped, Decisions.is_clean}
+use Rattle.server_side.specs.{Backend.left_by, declared.stage.Stage.Stage}
 use Rattle.promises.proofs.Queries.{IsAsked, asked-unreplied, same-ordinal}
 use Rattle.promises.proofs.ServerLinks.{handed-stands, standing-unlost, unbegun-idle}
 use Rattle.router_world.proofs.Names.{Answer, Answered, Ask, BackendState, Bool, ClientNo, Entry, For, In, Lends, Lent, LinkId, List, Log, None, Option, Phase}
 use Rattle.router_world.proofs.Names.{Service, Some, Told, Work, [], ap, arith, asked, asked_by, command_of, commanded, common_steps, false, gone, inl, inr}
 use Rattle.router_world.proofs.Names.{is_begun, is_here, is_query, is_some, nat_eq, nat_eq-true, not, queued, refl, replied, same_number, set, some-same, spelt}
 use Rattle.router_world.proofs.Names.{subst, sym, takes_at, takes_command, true, with_link, without_ask, without_link, work_of, ℕ, ◌++◌, ◌∙◌, ◌∷◌, ◌≡◌, ◌⊎◌}
-use Rattle.router_world.proofs.Sound.{AskStands, AtMostOne, Busy, CloseStands, Free, Gone, Left, LendsSound, Linked, Logs, Nobody, On, One, Own, RowStands}
+use Rattle.router_world.proofs.Sound.{AskStands, AtMostOne, Busy, CloseStands, Free, Gone, Left, LendsSound, Linked, Logs, Nobody, On, One, Own, QuitStands, RowStands}
 use Rattle.router_world.proofs.Sound.{Serves, Waiting, Waits}
 use Rattle.client_talk.specs.declared.session.Phase.TheVariants as phase
+use Rattle.server_side.specs.declared.stage.Stage.TheVariants as stage
+use Rattle.std.specs.Prelude.{◌&&◌}
 
 -- What is done for one client among the links to servers leaves the others as they are.
 
@@ -89,9 +92,9 @@ pub record Leaving (service : Service) (log new : Log) (n : ℕ) (link : LinkId)
 -- What becomes of that row: the client has none, or it stands, or its link is to be closed.
 pub data RowGoes (service : Service) (log new : Log) (n : ℕ) (link : LinkId) (lends other : Lends) : Type 0 where
   RowSame : other.links link.0 ≡ lends.links link.0 → ((x : Lent) → lends.links link.0 ≡ Some x → RowStands service new lends link x)
-      → lends.owned n ≡ None → other.owned n ≡ None → other.closing ≡ lends.closing → RowGoes service log new n link lends other
+      → lends.owned n ≡ None → other.owned n ≡ None → other.closing ≡ lends.closing → other.quit ≡ lends.quit → RowGoes service log new n link lends other
   RowStays : (now : Lent) → other.links link.0 ≡ Some now → RowStands service new other link now
-      → (other.owned n ≡ Some link → now.owner ≡ Some (record { 0 = n })) → (lends.closing ≡ link ∷ [] → ⊥) → other.closing ≡ lends.closing
+      → (other.owned n ≡ Some link → now.owner ≡ Some (record { 0 = n })) → (lends.closing ≡ link ∷ [] → ⊥) → other.closing ≡ lends.closing → other.quit ≡ lends.quit
       → RowGoes service log new n link lends other
   RowCloses : lends.closing ≡ [] → CloseStands service new other link → other.owned n ≡ None → other.closing ≡ link ∷ []
       → RowGoes service log new n link lends other
@@ -150,8 +153,8 @@ stood {service} {log} {new} {n} {link} {lends} {other} before leaving one = reco
   kept l x apart row = (row.0, (let k = row.0.turn.client in grind (arith, common_steps, Own, Left, nat_eq-true, (row.1), (one.asks k), (one.owned k))))
 
   row : (x : Lent) → RowGoes service log new n link lends other → other.links link.0 ≡ Some x → RowStands service new other link x
-  row x (RowSame same rows unowned none closing) is = kept link x (λ owns. no-some unowned owns) (rows x (sym same ∙ is))
-  row x (RowStays now there stands owner unclosed closing) is = subst (RowStands service new other link) (some-same now x (sym there ∙ is)) stands
+  row x (RowSame same rows unowned none closing quits) is = kept link x (λ owns. no-some unowned owns) (rows x (sym same ∙ is))
+  row x (RowStays now there stands owner unclosed closing quits) is = subst (RowStands service new other link) (some-same now x (sym there ∙ is)) stands
   row x (RowCloses none stands unowned last) is = absurd (no-some stands.unlent is)
 
   stands : (l : LinkId) (x : Lent) → other.links l.0 ≡ Some x → RowStands service new other l x
@@ -211,7 +214,7 @@ module _ {service : Service} {log : Log} {n : ℕ} {lends : Lends} (sound : Lend
         let waits : other.waiting ≡ client ∷ [] = ap (λ w. w ++ client ∷ []) idle in
         let asks : other.asks n ≡ Some ask = set-same lends.asks n (Some ask) in
         let goes : RowGoes service log log n (record { 0 = 0 }) lends other =
-        RowSame refl (sound.rows _) unowned unowned refl in
+        RowSame refl (sound.rows _) unowned unowned refl refl in
         let waiting : Waiters n lends other = ItWaits idle waits (record { ask = ask; asks = asks; unowned = unowned }) in
         (still (record { 0 = 0 }) (grind (arith, common_steps, set-other, no-some, some-same)), Waits ask asks refl unowned waits))
     by (Some link) owns = (let it = sound.owned n link owns in let at = free.idle link it.lent owns it.there in
@@ -220,7 +223,7 @@ module _ {service : Service} {log : Log} {n : ℕ} {lends : Lends} (sound : Lend
         let goes : RowGoes service log log n link lends (with_link link now (without_link link lends)) = RowStays now here (
           handed-stands (sound.rows link it.lent it.there).0 (owned-turn sound owns it.there) stands.asked stands.unsent at.0 at.1,
           grind (arith, common_steps, Own, (owned-owner sound owns it.there), (owned-turn sound owns it.there)),
-        ) (λ is. owned-owner sound owns it.there) (λ is. no-some (sound.closes link is).unlent it.there) refl in
+        ) (λ is. owned-owner sound owns it.there) (λ is. no-some (sound.closes link is).unlent it.there) refl refl in
         let unasked = free.unasked in rw (it.there, takes it.lent.backend at.0 at.1) (
           still link (grind (arith, common_steps, put-other, no-some, some-same, NobodyWaits, (owned-sole sound owns))),
           Linked link now owns here (On unasked (command_of (For client ask.ordinal) ask.packets ask.first) at.0 refl refl),
@@ -229,15 +232,27 @@ module _ {service : Service} {log : Log} {n : ℕ} {lends : Lends} (sound : Lend
 -- It has gone: its command is dropped, and its link is to be closed, or left until the reply there is read.
 
 -- the links to servers without the client
-abbrev without : ℕ → Lends → (links : ℕ → Option Lent) → (closing : List LinkId) → Lends
-without n lends links closing = record (owns_none (record { 0 = n }) (waits_no_more (record { 0 = n }) (without_ask (record { 0 = n }) lends)))
-    { links = links; closing = closing }
+abbrev without : ℕ → Lends → (links : ℕ → Option Lent) → (closing : List LinkId) → (quit : Option LinkId) → Lends
+without n lends links closing quit = record (owns_none (record { 0 = n }) (waits_no_more (record { 0 = n }) (without_ask (record { 0 = n }) lends)))
+    { links = links; closing = closing; quit = quit }
 
 gone-waits : {n : ℕ} {lends other : Lends} (waiting : List ClientNo) → AtMostOne waiting → lends.waiting ≡ waiting
     → other.waiting ≡ (waits_no_more (record { 0 = n }) lends).waiting → Waiters n lends other
 gone-waits _ Nobody is same = grind (arith, common_steps, NobodyWaits)
 gone-waits {n} {lends} {other} _ (One x) is same = one-or-other x.0 n (λ k. lends.waiting ≡ record { 0 = k } ∷ [] → Waiters n lends other)
     (λ on. NobodyWaits (grind (arith, common_steps)) (inr on)) (λ differs on. AnotherWaits x.0 differs on (grind (arith, common_steps))) is
+
+-- what is clean is logged in, and has said all of its login
+pub clean-in : (backend : BackendState) → is_clean backend ≡ true → (backend.stage ≡ In) × (backend.own ≡ [])
+clean-in backend clean = by backend.stage backend.own refl refl clean where
+  by : (s : Stage) (own : List ℕ) → backend.stage ≡ s → backend.own ≡ own → clean_at s backend.command (left_by own backend.command) ≡ true
+      → (backend.stage ≡ In) × (backend.own ≡ [])
+  by In [] inside said is = (inside, said)
+  by In (byte ∷ bytes) inside said is = absurd (let no : (not (is_begun backend.command) && false) ≡ true = is in grind (arith, common_steps))
+  by stage.Greeting own inside said is = absurd (let no : false ≡ true = is in cc)
+  by stage.Welcome own inside said is = absurd (let no : false ≡ true = is in cc)
+  by stage.Switched own inside said is = absurd (let no : false ≡ true = is in cc)
+  by stage.Lost own inside said is = absurd (let no : false ≡ true = is in cc)
 
 pub gone-sound : (service : Service) (log : Log) (n : ℕ) (lends : Lends) → LendsSound service log lends
     → (lends.closing ≡ []) ⊎ (lends.owned n ≡ None) → MayGo service log n lends → Went service log n lends (gone (record { 0 = n }) lends)
@@ -248,38 +263,67 @@ gone-sound service log n lends sound closable may = by (lends.owned n) refl wher
   none-closes : {link : LinkId} → lends.owned n ≡ Some link → lends.closing ≡ []
   none-closes owns = grind (arith, common_steps)
 
-  changed : (link : LinkId) (links : ℕ → Option Lent) (closing : List LinkId) → ((k : ℕ) → nat_eq k link.0 ≡ false → links k ≡ lends.links k)
+  changed : (link : LinkId) (links : ℕ → Option Lent) (closing : List LinkId) (quit : Option LinkId)
+      → ((k : ℕ) → nat_eq k link.0 ≡ false → links k ≡ lends.links k)
       → (lends.owned n ≡ Some link) ⊎ ((lends.owned n ≡ None) × (links link.0 ≡ lends.links link.0))
-      → RowGoes service log log n link lends (without n lends links closing) → Went service log n lends (without n lends links closing)
-  changed link links closing others own goes = (
-    (let waits : Waiters n lends (without n lends links closing) = gone-waits lends.waiting sound.one_waits refl refl in
+      → RowGoes service log log n link lends (without n lends links closing quit) → Went service log n lends (without n lends links closing quit)
+  changed link links closing quit others own goes = (
+    (let waits : Waiters n lends (without n lends links closing quit) = gone-waits lends.waiting sound.one_waits refl refl in
         let unasked = set-same lends.asks n None in let sole = owned-sole {n = n} {link = link} sound in
         still sound link (grind (arith, common_steps, set-other, no-some, unowned, sole))),
     record { unasked = set-same lends.asks n None; unowned = unowned },
   )
 
-  on : (link : LinkId) (lent : Lent) → lends.owned n ≡ Some link → lends.links link.0 ≡ Some lent → (b : Bool) → is_begun lent.backend.command ≡ b
-      → Went service log n lends (if b then with_link link (record lent { owner = None }) (without_link link (without n lends lends.links lends.closing))
-      else to_close link (without_link link (without n lends lends.links lends.closing)))
-  on link lent owns there true begins = (let now : Lent = record lent { owner = None } in
-      let away : is_here n log ≡ false = grind (arith, common_steps) in
-      changed link (set (set lends.links link.0 None) link.0 (Some now)) lends.closing (λ k. put-other lends.links link.0 k (Some now)) (inl owns)
-      (RowStays now (set-same (set lends.links link.0 None) link.0 (Some now)) (
-        (sound.rows link lent there).0,
-        Left refl (ap (λ k. is_here k log) (owned-turn sound owns there) ∙ away) begins,
-      ) (λ is. absurd (no-some unowned is)) (λ is. none-one lends.closing (none-closes owns) is) refl))
-  on link lent owns there false none = (let stays = (sound.rows link lent there).0 in
-      changed link (set lends.links link.0 None) (lends.closing ++ link ∷ []) (λ k. set-other lends.links link.0 k None) (inl owns)
+  -- its link is to be closed
+  closes : (link : LinkId) (lent : Lent) → lends.owned n ≡ Some link → lends.links link.0 ≡ Some lent → is_begun lent.backend.command ≡ false
+      → (quit : Option LinkId) → (quit ≡ Some link → QuitStands service log link)
+      → Went service log n lends (without n lends (set lends.links link.0 None) (lends.closing ++ link ∷ []) quit)
+  closes link lent owns there none quit last = (let stays = (sound.rows link lent there).0 in
+      changed link (set lends.links link.0 None) (lends.closing ++ link ∷ []) quit (λ k. set-other lends.links link.0 k None) (inl owns)
       (RowCloses (none-closes owns) (record {
         opened = stays.opened;
         unlent = set-same lends.links link.0 None;
         turn = stays.turn;
         is_turn = stays.is_turn;
         may = λ user is. grind (arith, common_steps, some-same, (owned-turn sound owns there), unbegun-idle, standing-unlost, standing-inside);
+        quits = last;
       }) unowned (ap (λ l. l ++ link ∷ []) (none-closes owns))))
 
-  by : (o : Option LinkId) → lends.owned n ≡ o → Went service log n lends (left_by o (without n lends lends.links lends.closing))
-  by None none = changed (record { 0 = 0 }) lends.links lends.closing (λ k differs. refl) (inr (none, refl))
-      (RowSame refl (sound.rows _) none unowned refl)
+  -- which is offered a QUIT where it is clean
+  last : (link : LinkId) (lent : Lent) → lends.owned n ≡ Some link → lends.links link.0 ≡ Some lent → is_begun lent.backend.command ≡ false
+      → is_clean lent.backend ≡ true → QuitStands service log link
+  last link lent owns there none clean = (let row = (sound.rows link lent there).0 in let at = clean-in lent.backend clean in
+      let mine : row.turn.client ≡ n = owned-turn sound owns there in record {
+        backend = lent.backend;
+        row = row;
+        inside = at.0;
+        said = at.1;
+        unbegun = none;
+        idle = elim may [
+          | Away away ↦ inl (ap (λ k. is_here k log) mine ∙ away)
+          | Idle free asks ↦ inr (λ work is. asks work (ap (λ k. work_of service k log) (sym mine) ∙ is))
+        ];
+      })
+
+  on : (link : LinkId) (lent : Lent) → lends.owned n ≡ Some link → lends.links link.0 ≡ Some lent → (b : Bool) → is_begun lent.backend.command ≡ b
+      → Went service log n lends (if b
+      then with_link link (record lent { owner = None }) (without_link link (without n lends lends.links lends.closing lends.quit))
+      else dropped (is_clean lent.backend) link (without_link link (without n lends lends.links lends.closing lends.quit)))
+  on link lent owns there true begins = (let now : Lent = record lent { owner = None } in
+      let away : is_here n log ≡ false = grind (arith, common_steps) in
+      changed link (set (set lends.links link.0 None) link.0 (Some now)) lends.closing lends.quit (λ k. put-other lends.links link.0 k (Some now)) (inl owns)
+      (RowStays now (set-same (set lends.links link.0 None) link.0 (Some now)) (
+        (sound.rows link lent there).0,
+        Left refl (ap (λ k. is_here k log) (owned-turn sound owns there) ∙ away) begins,
+      ) (λ is. absurd (no-some unowned is)) (λ is. none-one lends.closing (none-closes owns) is) refl refl))
+  on link lent owns there false none = drops (is_clean lent.backend) refl where
+    drops : (clean : Bool) → is_clean lent.backend ≡ clean
+        → Went service log n lends (dropped clean link (without_link link (without n lends lends.links lends.closing lends.quit)))
+    drops true clean = closes link lent owns there none (Some link) (λ q. last link lent owns there none clean)
+    drops false unclean = closes link lent owns there none None (λ q. cc)
+
+  by : (o : Option LinkId) → lends.owned n ≡ o → Went service log n lends (left_by o (without n lends lends.links lends.closing lends.quit))
+  by None none = changed (record { 0 = 0 }) lends.links lends.closing lends.quit (λ k differs. refl) (inr (none, refl))
+      (RowSame refl (sound.rows _) none unowned refl refl)
   by (Some link) owns =
       (let it = sound.owned n link owns in rw it.there (on link it.lent owns it.there (is_begun it.lent.backend.command) refl))

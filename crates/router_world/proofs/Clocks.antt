@@ -26,7 +26,7 @@ use Rattle.router_world.specs.{declared.seat.Newcomer.Newcomer, declared.seat.Pa
 use Rattle.router_world.specs.World.{asked_at, asked_for, on_client}
 use Rattle.router_world.specs.World.{admitted, answering, client_took, closed_by, closes_next, ended_on, enters, failed_on, got_on, late_closes, late_in}
 use Rattle.router_world.specs.World.{late_leaves, late_of, lost_on, newcomer_at, parts, refused, settled, settled_by, step, stepped_at, still_entering}
-use Rattle.router_world.specs.World.{tidied, wakes_at, wakes_in, with_newcomer, wrote_on}
+use Rattle.router_world.specs.World.{offers, tidied, wakes_at, wakes_in, with_newcomer, wrote_on}
 use Rattle.router_world.specs.{declared.seat.Seat.Seat}
 use Rattle.std.proofs.{Common.ap, Common.arith, Common.inl, Common.inr, Common.subst, Common.sym, Common.◌∙◌, lemmas.Grind.common_steps}
 use Rattle.std.specs.Option.{option_map}
@@ -433,14 +433,16 @@ clock-step {service} {log} {tables} (entry.Ended link) happens stands then sound
 clock-step {service} {log} {tables} (entry.ReadFailed link) happens stands then sound =
     clock-failed (entry.ReadFailed link) happens.fits stands link (moment_of-more log (entry.ReadFailed link)) refl then sound
 clock-step {service} {log} {tables} (entry.WriteFailed link) happens stands then sound =
-    clock-failed (entry.WriteFailed link) happens.fits stands link (moment_of-more log (entry.WriteFailed link)) refl then sound
+    clock-failed (entry.WriteFailed link) {tables = offers tables} happens.fits
+    (record { moment = stands.moment; queued = stands.queued; all = stands.all; first = stands.first }) link
+    (moment_of-more log (entry.WriteFailed link)) refl then sound
 clock-step {service} {log} {tables} (entry.Wrote link tag bytes) happens stands then sound = by (left_in (tables.lends.links link.0)) where
-  took : (o : Option ClientNo) → ClockStands service (log ++ entry.Wrote link tag bytes ∷ []) (client_took link (length bytes) o tables)
+  took : (o : Option ClientNo) → ClockStands service (log ++ entry.Wrote link tag bytes ∷ []) (client_took link (length bytes) o (offers tables))
   took None = clock-same (entry.Wrote link tag bytes) happens.fits stands refl (moment_of-more log (entry.Wrote link tag bytes)) refl (λ k is. is)
-  took (Some client) = clock-same (entry.Wrote link tag bytes) happens.fits stands (settled-clock client ((stepped_at client (taken (length bytes)) tables).seats client.0) (stepped_at client (taken (length bytes)) tables))
-      (moment_of-more log (entry.Wrote link tag bytes)) refl (λ k is. settled-enters client (stepped_at client (taken (length bytes)) tables) k (stepped-enters (taken (length bytes)) (λ s there. there) client tables k is))
+  took (Some client) = clock-same (entry.Wrote link tag bytes) happens.fits stands (settled-clock client ((stepped_at client (taken (length bytes)) (offers tables)).seats client.0) (stepped_at client (taken (length bytes)) (offers tables)))
+      (moment_of-more log (entry.Wrote link tag bytes)) refl (λ k is. settled-enters client (stepped_at client (taken (length bytes)) (offers tables)) k (stepped-enters (taken (length bytes)) (λ s there. there) client (offers tables) k is))
 
-  by : (left : Option Sent) → ClockStands service (log ++ entry.Wrote link tag bytes ∷ []) (wrote_on link (length bytes) left tables)
+  by : (left : Option Sent) → ClockStands service (log ++ entry.Wrote link tag bytes ∷ []) (wrote_on link (length bytes) left (offers tables))
   by None = took (tables.numbers link.0)
   by (Some left) = clock-same (entry.Wrote link tag bytes) happens.fits stands refl (moment_of-more log (entry.Wrote link tag bytes)) refl (λ k is. is)
 clock-step {service} {log} {tables} (entry.Closed link) happens stands then sound = by tables.parting sound where

@@ -7,7 +7,12 @@ use Rattle.promises.proofs.Arrivals.{IsPlain, arrivals-few, counted-plain, fold-
 use Rattle.promises.proofs.Departures.{PartAt, Refused, Strange, client-spares, closed-behind, closed-counted, owned-closed, parted-closed, parted-offered, parted-silent}
 use Rattle.promises.proofs.Departures.{parted-unowned}
 use Rattle.promises.proofs.Newcomers.{Arrives, arrival, arrives}
-use Rattle.promises.proofs.Silences.{IsSilent, drop-passes, silent-calm, silent-leaves}
+use Rattle.promises.proofs.LinkEntries.{AtLink, calm-inside}
+use Rattle.promises.proofs.LinkLeft.{quit-inside}
+use Rattle.promises.proofs.Queries.{gone-stays}
+use Rattle.promises.proofs.Rows.{one-or-other, one-same}
+use Rattle.promises.proofs.ServerLinks.{OnLink, calm-other, link-calm, user-new}
+use Rattle.promises.proofs.Silences.{IsSilent, drop-passes, silent-calm, silent-leaves, work-same}
 use Rattle.router_world.proofs.{Apart.apart-links, Apart.apart-numbers, Apart.no-some, Apart.row-of, Apart.set-other, Apart.set-same, Seats.new-seat}
 use Rattle.router_world.proofs.Names.{Accepted, Admin, Arrival, Bool, ClientNo, Closed, Entry, LinkId, List, Log, None, Option, Parting, Port, Seat, Service}
 use Rattle.router_world.proofs.Names.{Some, Tables, Traffic, [], admitted, ap, arith, arrivals, carries, closed_by, common_steps, connected, counted, false}
@@ -15,22 +20,48 @@ use Rattle.router_world.proofs.Names.{farewell_of, flat_map, got_bytes, inl, inr
 use Rattle.router_world.proofs.Names.{most_command, nat_lt, new_session, none-if, open_step, option_and_then, refl, refused_by, refused_on, replied}
 use Rattle.router_world.proofs.Names.{same_number, set, some-same, subst, suc, sym, true, turn-stays, with_lends, wrote_bytes, ℕ, ◌++◌, ◌∙◌, ◌∷◌, ◌≡◌, ◌≢◌, ◌≤◌}
 use Rattle.router_world.proofs.Names.{◌⊎◌}
-use Rattle.router_world.proofs.Sound.{Clients, Closes, Gone, Happens, LendsSound, Nobody, NoneParts, OneParts, PartStands, Parted, Parts, PartsStand, Servers, Sits}
+use Rattle.router_world.proofs.Sound.{Clients, CloseStands, Closes, Gone, Happens, LendsSound, Nobody, NoneParts, OneParts, PartStands, Parted, Parts, PartsStand, QuitStands, Servers, Sits}
 use Rattle.router_world.proofs.Sound.{Sound}
 use Rattle.router_world.proofs.Stepping.{Aside, Calm, IsQuiet, aside-others, aside-stands, beside, came-unlent, known-later, lends-aside, lends-framed}
-use Rattle.router_world.proofs.Names.{and_parts, nat_eq-true, without_seat}
+use Rattle.router_world.proofs.Names.{AllLawful, Fits, IsLawful, MayDrop, and_parts, arrival_of, lawful-last, lawful-more, nat_eq-true, with_lends, without_seat, work_of}
 use Rattle.router_world.proofs.Stepping.{same-traces, seated-moved, unclosing, unlent}
 use Rattle.std.specs.Prelude.{cond, ◌-◌}
 
 -- An entry of which the router makes nothing.
 
+-- a QUIT may still be said on a link that it leaves
+quit-passes : {service : Service} {log : Log} {e : Entry} {link : LinkId} {tables : Tables} → Happens service log e tables → IsSilent e → Leaves link log e
+    → QuitStands service log link → QuitStands service (log ++ e ∷ []) link
+quit-passes {service} {log} {e} happens silent leaves at = record {
+  backend = at.backend;
+  row = link-calm e happens.lawful at.row (silent-calm service log silent at.row.turn.client) leaves;
+  inside = at.inside;
+  said = at.said;
+  unbegun = at.unbegun;
+  idle = elim at.idle [
+    | inl away ↦ inl (gone-stays service at.row.turn.client at.backend.account log e happens.fits at.row.user away)
+    | inr none ↦ inr (λ work is. none work (sym (by (arrival_of at.row.turn.client log) refl) ∙ is))
+  ];
+} where
+  by : (o : Option Arrival) → arrival_of at.row.turn.client log ≡ o
+      → work_of service at.row.turn.client (log ++ e ∷ []) ≡ work_of service at.row.turn.client log
+  by (Some came) is = work-same service log silent at.row.turn.client came is
+  by None is = absurd (let user = at.row.user in grind (arith, common_steps))
+
 -- The links to servers stand behind one that says nothing, as those do that are to be closed.
 lends-silent : {service : Service} {log : Log} {e : Entry} {tables : Tables} → Aside service log e 0 tables → IsSilent e
     → ((link : LinkId) → tables.lends.closing ≡ link ∷ [] → Leaves link log e) → LendsSound service (log ++ e ∷ []) tables.lends
 lends-silent {service} {log} {e} {tables} aside silent leaves = (let sound = aside.happens.sound.lends in
-    lends-framed aside tables.lends.closing sound.one_closes (λ link is. (let stands = sound.closes link is in
+    lends-framed aside tables.lends.closing tables.lends.quit sound.one_closes (λ link is. (let stands = sound.closes link is in
     let opened = (leaves link is).opened ∙ stands.opened in let is_turn = turn-stays service link log (e ∷ []) stands.turn stands.is_turn in
-    let may = drop-passes service log silent _ link aside.happens.fits stands.may in search (stands, opened, is_turn, may))))
+    let may = drop-passes service log silent _ link aside.happens.fits stands.may in record {
+      opened = opened;
+      unlent = stands.unlent;
+      turn = stands.turn;
+      is_turn = is_turn;
+      may = may;
+      quits = λ quits. quit-passes aside.happens silent (leaves link is) (stands.quits quits);
+    })))
 
 pub nothing-step : {service : Service} {log : Log} {e : Entry} {tables : Tables} → Happens service log e tables → IsSilent e → IsPlain e
     → ((was : Bool) → open_step was e ≡ was) → Sound service (log ++ e ∷ []) tables
@@ -145,13 +176,56 @@ closed-server {service} {log} {link} {tables} happens unparted is = (let sound =
     let aside : Aside service log (Closed link) 0 tables = beside link happens refl (λ k apart. no-some (unclosing happens.told sound link is))
     stands.unlent (λ k. grind (arith, common_steps)) in
     rw is (aside-stands aside (owned-closed service link stands.turn happens.told stands.is_turn sound.counted)
-    (lends-framed aside [] Nobody (λ other closes. cc))
+    (lends-framed aside [] None Nobody (λ other closes. cc))
     (rw unparted NoneParts) (λ other opened. (let was = closed-behind log link other opened in elim (sound.known other was.0) [
       | Clients client at ↦ Clients client at
       | Servers lent at ↦ Servers lent at
       | Parts p at on ↦ Parts p at on
       | Closes at ↦ absurd (was.1 (cc (at, is)))
     ]))))
+
+-- It is offered a QUIT before, and may close behind that as well.
+pub quit-step : {service : Service} {log : Log} {e : Entry} {link : LinkId} {tables : Tables} → Happens service log e tables
+    → tables.parting ≡ [] → tables.lends.closing ≡ link ∷ [] → (at : QuitStands service log link) → link_of e ≡ Some link → IsPlain e
+    → ((was : Bool) → open_step was e ≡ was) → ((n i : ℕ) → carries n i e ≡ None)
+    → MayDrop service (record { client = at.row.turn.client; hostgroup = at.row.turn.hostgroup }) at.backend.account link (log ++ e ∷ [])
+    → Sound service (log ++ e ∷ []) (with_lends (record tables.lends { quit = None }) tables)
+quit-step {service} {log} {e} {link} {tables} happens unparted is at names plain stays silent drops =
+    aside-stands aside (counted-plain plain happens.sound.counted)
+    (lends-framed aside tables.lends.closing None happens.sound.lends.one_closes
+    (λ other closes. subst (CloseStands service (log ++ e ∷ []) (record tables.lends { quit = None })) (one-same link other (sym is ∙ closes)) mine))
+    (rw unparted NoneParts) (λ other opened. elim (happens.sound.known other (sym (open-kept other log e stays) ∙ opened)) [
+      | Clients client there ↦ Clients client there
+      | Servers lent there ↦ Servers lent there
+      | Parts p there on ↦ Parts p there on
+      | Closes there ↦ Closes there
+    ]) where
+      stands : CloseStands service log tables.lends link
+      stands = happens.sound.lends.closes link is
+
+      fits : AllLawful Fits (log ++ e ∷ [])
+      fits = lawful-more Fits log e happens.told happens.fits
+
+      at-link : AtLink service log e link at.backend
+      at-link = record { lawful = happens.lawful; fits = fits; row = at.row; names = names; stays = stays }
+
+      calm : (k : ℕ) → Calm service log e k
+      calm k = one-or-other k at.row.turn.client (λ m. Calm service log e m) (calm-inside at-link (silent at.row.turn.client) (quit-inside at))
+          (λ differs. calm-other (lawful-last (IsLawful service) log e happens.lawful).1 (OnLink e link at.row.turn names at.row.is_turn refl) differs)
+
+      aside : Aside service log e 0 tables
+      aside = beside link happens names (λ k apart. no-some (unclosing happens.told happens.sound link is)) stands.unlent calm
+
+      mine : CloseStands service (log ++ e ∷ []) (record tables.lends { quit = None }) link
+      mine = record {
+        opened = open-kept link log e stays ∙ stands.opened;
+        unlent = stands.unlent;
+        turn = at.row.turn;
+        is_turn = turn-stays service link log (e ∷ []) at.row.turn at.row.is_turn;
+        may = λ user known. subst (λ u. MayDrop service (record { client = at.row.turn.client; hostgroup = at.row.turn.hostgroup }) u link (log ++ e ∷ []))
+            (some-same at.backend.account user (sym (user-new e happens.lawful at.row) ∙ known)) drops;
+        quits = λ quits. absurd (let no : None ≡ Some link = quits in cc);
+      }
 
 -- A client comes.
 

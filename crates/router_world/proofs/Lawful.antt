@@ -1,10 +1,10 @@
 -- Whose an open link is, what the router sends there, and that what it does and where it waits keeps the promises.
 use Rattle.{mx_wire.specs.Moments.moment-last, mx_wire.specs.Moments.moment-more, promises.proofs.Links.owner-turn, std.proofs.lemmas.Bool.false_from_ne_true}
 use Rattle.promises.proofs.{Arrivals.get-behind, Arrivals.of-client, Arrivals.unowned, Departures.parted-closes, Departures.parted-told, Dues.work-is}
-use Rattle.promises.proofs.LinkLeft.{ForClient, ForServer, IsLeft, IsNeeded, IsPart, client-closes, link-kept, part-due, part-lawful, served-more, server-closes, waits-in}
+use Rattle.promises.proofs.LinkLeft.{ForClient, ForLast, ForServer, IsLeft, IsNeeded, IsPart, client-closes, link-kept, part-due, part-lawful, served-more, server-closes, waits-in}
 use Rattle.promises.proofs.LinkLeft.{waits-on}
 use Rattle.promises.specs.Closes.{MayClose, MayPart, WasToldAll}
-use Rattle.router_world.proofs.Names.{false, has_ended, is_query}
+use Rattle.router_world.proofs.Names.{Lends, false, has_ended, is_query, nat_eq-true, quit_of, quit_sent}
 use Rattle.promises.specs.Rest.{IsAnswered, IsAtRest, IsEnding, WakesAt, Waits}
 use Rattle.router_world.proofs.Clocks.{ClockStands, in-time, late-may, wakes-so}
 use Rattle.router_world.specs.{Acts.late_link, World.late_of}
@@ -70,6 +70,15 @@ reply-front tag bytes whole front = grind (arith, common_steps, some-same)
 reply-whole : (whole : List ℕ) (sent : Sent) → reply_sent whole ≡ Some sent → (sent.tag ≡ Reply) × (sent.bytes ≡ whole)
 reply-whole whole sent is = grind (arith, common_steps, some-same)
 
+-- what is said to a server before the close is a QUIT
+pub quit-says : {parting : List Parting} (lends : Lends) (link : LinkId) (sent : Sent) → parting ≡ [] → lends.closing ≡ link ∷ []
+    → farewell_of parting lends ≡ Some sent → (lends.quit ≡ Some link) × (sent ≡ quit_sent)
+quit-says lends link sent none closing is = by lends.quit refl
+    (sym (ap (λ p. farewell_of p lends) none ∙ ap (λ c. quit_of c lends.quit) closing) ∙ is) where
+      by : (quit : Option LinkId) → lends.quit ≡ quit → quit_of (link ∷ []) quit ≡ Some sent → (lends.quit ≡ Some link) × (sent ≡ quit_sent)
+      by None at says = cc
+      by (Some quit) at says = grind (arith, common_steps, some-same, nat_eq-true)
+
 module _ {service : Service} {log : Log} {tables : Tables} (sound : Sound service log tables) where
   -- a client of which something is left among the links to servers is connected
   pub live-here : (n : ℕ) → (Gone tables.lends n → ⊥) → is_here n log ≡ true
@@ -100,10 +109,12 @@ module _ {service : Service} {log : Log} {tables : Tables} (sound : Sound servic
   pub owner-needs : {link : LinkId} {lent : Lent} (row : RowStands service log tables.lends link lent) → IsNeeded log row.0.turn.client lent.backend
   owner-needs row = grind (arith, common_steps, live-here, (row.1))
 
-  pub farewell-left : (link : LinkId) (sent : Sent) → IsFarewell tables link → farewell_of tables.parting ≡ Some sent → IsLeft service log link sent
+  pub farewell-left : (link : LinkId) (sent : Sent) → IsFarewell tables link → farewell_of tables.parting tables.lends ≡ Some sent → IsLeft service log link sent
   farewell-left link sent farewell is = elim (closes-next link sound farewell.is_next) [
-    | ClosesServer none closing ↦ cc (ap farewell_of none, is)
-    | ClosesLate none unclosed client seat late there on ↦ cc (ap farewell_of none, is)
+    | ClosesServer none closing ↦ (let quit = quit-says tables.lends link sent none closing is in
+        ForLast ((sound.lends.closes link closing).quits quit.0) quit.1)
+    | ClosesLate none unclosed client seat late there on ↦
+        cc (ap (λ p. farewell_of p tables.lends) none ∙ ap (λ c. quit_of c tables.lends.quit) unclosed, is)
     | ClosesClient p stands at on ↦ (let reply = reply-whole p.bytes sent (rw at at is) in
         ForClient stands.n stands.parted.came stands.parted.is_came (stands.parted.on ∙ on) reply.0
         (rw reply.1 (parted-told stands.parted (λ none. cc (none, at, is)))))

@@ -3,7 +3,7 @@ use Rattle.{client_session.specs.declared.refusal.Refusal.Refusal, client_sessio
 use Rattle.{exchange.specs.Logins.has_failed, lend_core.specs.Changes.taken_on, lend_core.specs.declared.lent.Due.TheVariants.Login}
 use Rattle.{promises.proofs.LinkStanding.IsPiece, promises.proofs.LinkStates.IsInside, promises.specs.Closes.Gone as Departed}
 use Rattle.{server_side.specs.Handing.without_reply, std.proofs.NetLemmas.Options.map_some, std.specs.Prelude.if◌then◌else◌}
-use Rattle.lend_core.specs.Decisions.{answering, closed, failed, logged_in, place_of, quietly, replied as answers, told_by}
+use Rattle.lend_core.specs.Decisions.{answering, closed, dropped, failed, is_clean, logged_in, place_of, quietly, replied as answers, told_by}
 use Rattle.promises.proofs.LinkEntries.{AtLink, Fails, InsideAt, IsLike, IsWritten, LeftAt, LoginFails, LogsInAt, OfCommand, OfLogin, ReplyFails, calm-entering}
 use Rattle.promises.proofs.LinkEntries.{calm-inside, calm-logged_in, got-at, got-clean, got-reply, got-standing, left-at, login-breaks, login-calm}
 use Rattle.promises.proofs.LinkEntries.{login-goes-on, refused-now, reply-breaks, reply-goes-on, row-later, wrote-like}
@@ -12,14 +12,14 @@ use Rattle.promises.proofs.Queries.{Calm, HandedStands, IsAsked, begun-sent, car
 use Rattle.promises.proofs.ServerLinks.{Concerns, LinkStands, OnLink, apart-numbers, calm-other, handed-stands, leaves-others, opened-on, outside-at, same-row}
 use Rattle.promises.proofs.ServerLinks.{user-new}
 use Rattle.router_world.proofs.Apart.{Answers, Came, Comes, ItWaits, Leaving, NobodyWaits, OneRow, Quiet, RowCloses, RowGoes, RowStays, Waiters, busy-alike}
-use Rattle.router_world.proofs.Apart.{free-gone, no-some, none-one, owned-owner, owned-turn, set-other, set-same, stood, takes}
+use Rattle.router_world.proofs.Apart.{clean-in, free-gone, no-some, none-one, owned-owner, owned-turn, set-other, set-same, stood, takes}
 use Rattle.router_world.proofs.Names.{AllLawful, Answer, Answered, Ask, BackendState, Bool, ClientNo, Entering, Entry, Fits, For, Got, Handed, Inside, IsLawful}
 use Rattle.router_world.proofs.Names.{IsSpoilt, Lends, Lent, LinkId, List, Log, MayDrop, None, Option, Sent, Service, Some, Tag, Told, Wrote, [], and-true}
 use Rattle.router_world.proofs.Names.{and_right, ap, arith, carrier_of, command_of, commanded, common_steps, connection_refused, due_on, false, got_of}
 use Rattle.router_world.proofs.Names.{heard_of, inl, inr, is_begun, is_here, lawful-last, length, nat_eq, none-if, payload_of, pieces_of, refl, replied}
 use Rattle.router_world.proofs.Names.{same_number, set, some-same, spelt, subst, suc, sym, true, turn-stays, was_lost, with_link, without_link, zero, ℕ, ◌&&◌}
 use Rattle.router_world.proofs.Names.{◌++◌, ◌<◌, ◌∙◌, ◌∷◌, ◌≡◌}
-use Rattle.router_world.proofs.Sound.{AskStands, Busy, BusyOn, Free, Left, LendsSound, Linked, Logs, On, Own, Owned, RowStands, Waits}
+use Rattle.router_world.proofs.Sound.{AskStands, Busy, BusyOn, Free, Left, LendsSound, Linked, Logs, On, Own, Owned, QuitStands, RowStands, Waits}
 use Rattle.router_world.proofs.Stepping.{ask-calm, row-calm}
 use Rattle.server_side.specs.Hearing.{Fails as GotFault, Got as Gets, Hears}
 use Rattle.server_side.specs.declared.hear.Heard.TheVariants.{LoggedIn, Part, Quiet as Unfinished, Whole}
@@ -78,9 +78,15 @@ module _ {service : Service} {log : Log} {e : Entry} {lends : Lends} {link : Lin
   Makes told = Came service log e n lends told
 
   -- the links to servers where this one is to be closed
-  abbrev shut : (owned : ℕ → Option LinkId) → (asks : ℕ → Option Ask) → (waiting : List ClientNo) → Lends
-  shut owned asks waiting = record
-      { links = set lends.links link.0 None; owned = owned; asks = asks; waiting = waiting; closing = lends.closing ++ link ∷ [] }
+  abbrev shut : (quit : Option LinkId) → (owned : ℕ → Option LinkId) → (asks : ℕ → Option Ask) → (waiting : List ClientNo) → Lends
+  shut quit owned asks waiting = record
+      { links = set lends.links link.0 None; owned = owned; asks = asks; waiting = waiting; closing = lends.closing ++ link ∷ []; quit = quit }
+
+  abbrev Quits : Option LinkId → Type 0
+  Quits quit = quit ≡ Some link → QuitStands service new link
+
+  unquit : Quits None
+  unquit is = absurd (let no : None ≡ Some link = is in cc)
 
   -- a client has one link, so another row is another client's
   one-row : {l : LinkId} {backend : BackendState} (row : LinkStands service log l backend) → row.turn.client ≡ n → l ≡ link
@@ -133,7 +139,7 @@ module _ {service : Service} {log : Log} {e : Entry} {lends : Lends} {link : Lin
     theirs = λ k differs owns. absurd (alone k differs owns);
     ask = ask;
     goes = RowStays now (set-same links link.0 (Some now)) stands (λ owns. same ∙ owned-owner at.sound owns at.there)
-        (λ is. none-one lends.closing at.unclosed is) refl;
+        (λ is. none-one lends.closing at.unclosed is) refl refl;
     waits = NobodyWaits at.idle (inl at.idle);
   }) comes
 
@@ -171,25 +177,26 @@ module _ {service : Service} {log : Log} {e : Entry} {lends : Lends} {link : Lin
             (λ d is same. On unasked d (like.inside inside) is (same ∙ tag))
 
   -- The link is to be closed, with these tables.
-  pub shut-came : {owned : ℕ → Option LinkId} {asks : ℕ → Option Ask} {waiting : List ClientNo} {answer : Option Answered} → Drops
-      → ((k : ℕ) → nat_eq k n ≡ false → asks k ≡ lends.asks k) → ((k : ℕ) → nat_eq k n ≡ false → owned k ≡ lends.owned k) → owned n ≡ None
-      → ((ask : Ask) → asks n ≡ Some ask → AskStands service new n ask) → Waiters n lends (shut owned asks waiting)
-      → Comes service log e n lends (shut owned asks waiting) answer
-      → Makes (record { lends = shut owned asks waiting; answer = answer })
-  shut-came {owned} {asks} {waiting} may others theirs unowned ask waits comes =
-      came-of (let goes : RowGoes service log new n link lends (shut owned asks waiting) = RowCloses at.unclosed (record {
+  pub shut-came : {quit : Option LinkId} {owned : ℕ → Option LinkId} {asks : ℕ → Option Ask} {waiting : List ClientNo} {answer : Option Answered} → Drops
+      → Quits quit → ((k : ℕ) → nat_eq k n ≡ false → asks k ≡ lends.asks k) → ((k : ℕ) → nat_eq k n ≡ false → owned k ≡ lends.owned k)
+      → owned n ≡ None → ((ask : Ask) → asks n ≡ Some ask → AskStands service new n ask) → Waiters n lends (shut quit owned asks waiting)
+      → Comes service log e n lends (shut quit owned asks waiting) answer
+      → Makes (record { lends = shut quit owned asks waiting; answer = answer })
+  shut-came {quit} {owned} {asks} {waiting} may last others theirs unowned ask waits comes =
+      came-of (let goes : RowGoes service log new n link lends (shut quit owned asks waiting) = RowCloses at.unclosed (record {
         opened = opened-on link log e at.on.names at.on.stays at.on.row.opened;
         unlent = set-same lends.links link.0 None;
         turn = at.on.row.turn;
         is_turn = turn-stays service link log (e ∷ []) at.on.row.turn at.on.row.is_turn;
         may = λ someone is. grind (arith, common_steps, some-same, (user-new e at.on.lawful at.on.row));
+        quits = last;
       }) unowned (ap (λ l. l ++ link ∷ []) at.unclosed) in grind (arith, common_steps, set-other, no-some, own-link, alone)) comes
 
   -- nothing of its client's was under way there
-  pub shut-idle : {owned : ℕ → Option LinkId} → Drops → Calm service log e n
+  pub shut-idle : {quit : Option LinkId} {owned : ℕ → Option LinkId} → Drops → Quits quit → Calm service log e n
       → ((k : ℕ) → nat_eq k n ≡ false → owned k ≡ lends.owned k) → owned n ≡ None
-      → ((i : ℕ) → (lends.owned n ≡ Some link) × BusyOn n i (lends.asks n) lent.backend → ⊥) → Makes (quietly (shut owned lends.asks lends.waiting))
-  shut-idle may calm theirs unowned idle = shut-came may (λ k differs. refl) theirs unowned (ask-later calm)
+      → ((i : ℕ) → (lends.owned n ≡ Some link) × BusyOn n i (lends.asks n) lent.backend → ⊥) → Makes (quietly (shut quit owned lends.asks lends.waiting))
+  shut-idle may last calm theirs unowned idle = shut-came may last (λ k differs. refl) theirs unowned (ask-later calm)
       (NobodyWaits at.idle (inl at.idle)) (Quiet (record {
         busy = λ i busy. absurd (idle i (busy-here busy));
         free = λ free. free-gone _ n (record { unasked = free.unasked; unowned = unowned });
@@ -200,17 +207,17 @@ module _ {service : Service} {log : Log} {e : Entry} {lends : Lends} {link : Lin
   pub shut-answered : {asks : ℕ → Option Ask} {i id : ℕ} {bytes packets : List ℕ} {answer : Answer} → Drops → ((k : ℕ) → nat_eq k n ≡ false
       → asks k ≡ lends.asks k) → asks n ≡ None → packets ≡ spelt id answer → Busy lends n i → IsAsked service n i bytes id log
       → replied service n i new ≡ Some answer
-      → Makes (answering (Some client) packets (shut (set lends.owned n None) asks lends.waiting))
+      → Makes (answering (Some client) packets (shut None (set lends.owned n None) asks lends.waiting))
   shut-answered may others unasked is busy asked told = (let unowned : set lends.owned n None n ≡ None = set-same lends.owned n None in
-      shut-came may others (λ k. set-other lends.owned n k None) unowned (λ ask is. absurd (no-some unasked is)) (NobodyWaits at.idle (inl at.idle))
+      shut-came may unquit others (λ k. set-other lends.owned n k None) unowned (λ ask is. absurd (no-some unasked is)) (NobodyWaits at.idle (inl at.idle))
       (Answers is busy asked told (free-gone _ n (record { unasked = unasked; unowned = unowned })) at.idle (inr unowned)))
 
   -- the client has gone, and the link isn't its own
-  pub shut-left : lent.owner ≡ None → Drops → Calm service log e n
-      → Makes (quietly (shut lends.owned lends.asks lends.waiting))
-  shut-left none may calm = (let unowned : lends.owned n ≡ None = none-if (lends.owned n)
+  pub shut-left : {quit : Option LinkId} → lent.owner ≡ None → Drops → Quits quit → Calm service log e n
+      → Makes (quietly (shut quit lends.owned lends.asks lends.waiting))
+  shut-left none may last calm = (let unowned : lends.owned n ≡ None = none-if (lends.owned n)
       (λ l owns. no-some none (owned-owner at.sound (owns ∙ ap Some (own-link l owns)) at.there)) in
-      shut-idle may calm (λ k differs. refl) unowned (λ i busy. no-some unowned busy.0))
+      shut-idle may last calm (λ k differs. refl) unowned (λ i busy. no-some unowned busy.0))
 
   -- The link fails: its login does, or bytes come that no reply goes on with, or it is lost.
 
@@ -237,7 +244,7 @@ module _ {service : Service} {log : Log} {e : Entry} {lends : Lends} {link : Lin
           let asks : set lends.asks n (Some ask) n ≡ Some ask = set-same lends.asks n (Some ask) in
           let unowned : set lends.owned n None n ≡ None = set-same lends.owned n None in
           let waiting : lends.waiting ++ client ∷ [] ≡ client ∷ [] = ap (λ w. w ++ client ∷ []) at.idle in
-          simp (inside.stage, has, own, none, stands.tag) (shut-came (IsSpoilt spoilt) (λ k. set-other lends.asks n k (Some ask))
+          simp (inside.stage, has, own, none, stands.tag) (shut-came (IsSpoilt spoilt) unquit (λ k. set-other lends.asks n k (Some ask))
           (λ k. set-other lends.owned n k None) unowned (λ another is. subst (AskStands service new n) (some-same ask another (sym asks ∙ is)) later)
           (ItWaits at.idle waiting (record { ask = ask; asks = asks; unowned = unowned })) (Quiet (record {
             busy = λ i was. (let on = (busy-here was).1 in let same : stands.ordinal ≡ i = grind (arith, common_steps, some-same, same-ordinal) in
@@ -252,13 +259,13 @@ module _ {service : Service} {log : Log} {e : Entry} {lends : Lends} {link : Lin
           (Linked link lent owns at.there (On alone c inside.stage has stands.tag)) stands.asked (told c stands has some)))
 
       by-command : (o : Option Handed) → lent.backend.command ≡ o → Owned log lends link at.on.row.turn lent → Failed refusal
-      by-command None has (Own own owns waits) = simp (inside.stage, has, own) (shut-idle (IsSpoilt spoilt) calm
+      by-command None has (Own own owns waits) = simp (inside.stage, has, own) (shut-idle (IsSpoilt spoilt) unquit calm
           (λ k. set-other lends.owned n k None) (set-same lends.owned n None) (λ i busy. grind (arith, common_steps)))
       by-command (Some c) has (Own own owns waits) = begun c has c.sent refl own owns
       by-command None has (Left none gone begins) = cc (has, begins)
       by-command (Some c) has (Left none gone begins) =
           simp (inside.stage, has, id-begun c.sent c.first (begun-sent c (sym (ap is_begun has) ∙ begins)), none)
-          (shut-left none (IsSpoilt spoilt) calm)
+          (shut-left none (IsSpoilt spoilt) unquit calm)
 
 -- Bytes come on a link to a server.
 
@@ -292,8 +299,7 @@ module _ {service : Service} {log : Log} {bytes : List ℕ} {lends : Lends} {lin
       → Makes at (answers link (due_on lent.backend) (nat_eq used (length bytes)) (record lent { backend = left }) (without_link link lends))
   whole {left} used inside rep = elim at.whose [
     | Own own owns waits ↦ grind (arith, common_steps, rep, (inside.stage), id-begun, and-true, finish)
-    | Left none gone begins ↦ simp (inside.stage, rep.is, id-begun rep.command.sent rep.command.first rep.sent, none, and_right clean false refl)
-        (shut-left at none (drops gone clean refl) (calm-inside at.on (λ i. refl) inside))
+    | Left none gone begins ↦ simp (inside.stage, rep.is, id-begun rep.command.sent rep.command.first rep.sent, none) (leaves none gone clean refl)
   ] where
     stands : HandedStands service log (n at) link rep.command
     stands = at.on.row.command rep.command rep.is
@@ -327,7 +333,29 @@ module _ {service : Service} {log : Log} {bytes : List ℕ} {lends : Lends} {lin
               (set-same (set lends.links link.0 None) link.0 (Some now)) owned is in grind (arith, common_steps, (rep.idle)));
         }) at.idle (inl at.unclosed)))
 
-    -- the link of a client that has gone is dropped, whatever it is like
+    -- so is the link of a client that has gone, behind a QUIT where it is clean
+    leaves : lent.owner ≡ None → is_here (n at) log ≡ false → (b : Bool) → clean ≡ b
+        → Makes at (quietly (if b then dropped (is_clean (without_reply left)) link (without_link link lends)
+        else closed link None (without_link link lends)))
+    leaves none gone false unclean =
+        shut-left at none (drops gone false unclean) (unquit at) (calm-inside at.on (λ i. refl) inside)
+    leaves none gone true is = parts (is_clean (without_reply left)) refl where
+      last : is_clean (without_reply left) ≡ true → QuitStands service (new at) link
+      last quiet = (let kept = rep.inside is [] in let in-there = clean-in (without_reply left) quiet in record {
+        backend = without_reply left;
+        row = row-later at.on refl (got-at at.on (Inside kept)) (λ c has. absurd (no-some rep.idle has));
+        inside = in-there.0;
+        said = in-there.1;
+        unbegun = ap is_begun rep.idle;
+        idle = inl (gone-stays service (n at) lent.backend.account log (Got link bytes) (lawful-last Fits log (Got link bytes) at.on.fits).1 at.on.row.user
+            gone);
+      })
+
+      parts : (quits : Bool) → is_clean (without_reply left) ≡ quits → Makes at (quietly (dropped quits link (without_link link lends)))
+      parts true quiet = shut-left at none (drops gone true is) (λ q. last quiet) (calm-inside at.on (λ i. refl) inside)
+      parts false loud = shut-left at none (drops gone true is) (unquit at) (calm-inside at.on (λ i. refl) inside)
+
+    -- it may be, whatever it is like
     drops : is_here (n at) log ≡ false → (b : Bool) → clean ≡ b → Drops at
     drops gone false unclean = IsSpoilt (got-standing at.on (rep.spoilt unclean))
     drops gone true is = Departed

@@ -8,8 +8,8 @@ pub use Rattle.mx_wire.specs.Log.{Log, got_bytes, is_link, is_open, link_of, ope
 pub use Rattle.mx_wire.specs.declared.entry.Entry.TheVariants.{Accepted, Closed, Got, OpenFailed, Opened, Wrote}
 pub use Rattle.promises.specs.Owners.{Owner, is_here, is_refused, owner_of, refused_by, refused_on, talk_with, user_of, user_on}
 pub use Rattle.promises.specs.Service.{Service, Turn, next_turn, open_tries, open_try, turn_of}
-pub use Rattle.router_world.specs.Acts.{IsFarewell, IsFront, IsOurs, asks, awaits, close_of, closes, farewell_of, opens, reads, reply_sent, sends}
-pub use Rattle.router_world.specs.World.{admitted, closed_by, tables_after, told, turn_at, turn_for, turns, turns_behind}
+pub use Rattle.router_world.specs.Acts.{IsFarewell, IsFront, IsOurs, asks, awaits, close_of, closes, farewell_of, quit_of, quit_sent, opens, reads, reply_sent, sends}
+pub use Rattle.router_world.specs.World.{admitted, closed_by, offers, offers_by, tables_after, told, turn_at, turn_for, turns, turns_behind}
 pub use Rattle.std.proofs.Common.{ap, append-nil, append_assoc, arith, inl, inr, length-append, subst, sym, take-append-drop, ◌∙◌}
 pub use Rattle.std.specs.Prelude.{Bool, List, None, Option, Result, Some, [], drop, false, is_some, length, nat_eq, nat_lt, not, refl, suc, take, true, zero, ℕ}
 pub use Rattle.std.specs.Prelude.{◌&&◌, ◌++◌, ◌+◌, ◌<◌, ◌∷◌, ◌≡◌, ◌≢◌, ◌≤◌, ◌⊎◌}

@@ -15,15 +15,21 @@ use Rattle.router_world.specs.Tables.{without_number, without_seat}
 use Rattle.router_world.specs.World.{breaks_off, closed_by, closes_next, ended_on, enters, got_on, late_closes, late_leaves, late_of, on_client}
 use Rattle.router_world.specs.World.{still_entering, tidied}
 use Rattle.client_talk.specs.{Events.said, Going.still, Steps.ended}
-use Rattle.router_world.proofs.Names.{IsFarewell, farewell_of}
+use Rattle.router_world.proofs.Names.{IsFarewell, IsSpoilt, Option, Parting, farewell_of, is_some, offers, offers_by, quit_of, quit_sent}
+use Rattle.lend_core.specs.Changes.{quit_offered}
+use Rattle.promises.proofs.LinkEntries.{lost-stands}
+use Rattle.promises.proofs.LinkLeft.{quit-said}
+use Rattle.promises.specs.{Closes.Quits, Quits.has_quit}
+use Rattle.mx_base.specs.declared.tag.Tag.TheVariants.{Own}
+use Rattle.router_world.specs.World.{offered_to}
 use Rattle.router_world.specs.{Acts.next_close, World.wrote_on}
 use Rattle.std.specs.Prelude.{◌-◌}
 use Rattle.client_talk.specs.Sessions.{is_entering}
 use Rattle.router_world.proofs.Names.{ClientNo}
-use Rattle.router_world.proofs.Comings.{closed-client, closed-late, closed-server, coming-step, nothing-step, offered-step, parting-unlent, parting-unnumbered}
+use Rattle.router_world.proofs.Comings.{closed-client, closed-late, closed-server, coming-step, nothing-step, offered-step, quit-step, parting-unlent, parting-unnumbered}
 use Rattle.router_world.proofs.Going.{broken-client, ended-client, got-client, server-step, working-busy, wrote-client}
 use Rattle.router_world.proofs.Lawful.{ClosesClient, ClosesLate, ClosesServer, IsFor, IsOf, OfClient, OfServer, OpensNext, client-sends, closes-next, counts-more, form_by}
-use Rattle.router_world.proofs.Lawful.{is-of, keeps-more, opens-for, opens-next, reply-front, server-sends, service-of}
+use Rattle.router_world.proofs.Lawful.{is-of, keeps-more, opens-for, opens-next, quit-says, reply-front, server-sends, service-of}
 use Rattle.router_world.proofs.LinksAt.{AtRow, busy-here, failed-came, heard-came, leaving-entry, left-row, wrote-came}
 use Rattle.router_world.proofs.Names.{Address, AllLawful, BackendState, Entry, Fits, Got, Handed, In, IsFront, IsLawful, IsOpen, IsOurs, Keeps, Lends, Lent}
 use Rattle.router_world.proofs.Names.{LinkId, List, Log, MayFollow, MayOpen, None, OpenFailed, Opened, Phase, Seat, Sent as ToSend, ServerAt, ServerId, Serves}
@@ -34,7 +40,7 @@ use Rattle.router_world.proofs.Names.{same_number, some-same, step-other, subst,
 use Rattle.router_world.proofs.Names.{with_lends, with_link, without_ask, ℕ, ◌++◌, ◌<◌, ◌∙◌, ◌∷◌, ◌≡◌, ◌≢◌, ◌≤◌}
 use Rattle.router_world.proofs.Sound.{AreFormed, Busy, Gone, Happens, Known, Linked, Logs, Nobody, NoneParts, On, Own, Parts, Servers, Serves as SeatServes, Sound}
 use Rattle.router_world.proofs.Sound.{Unsent, Waits}
-use Rattle.router_world.proofs.Stepping.{Calm, IsQuiet, OnLink, ask-calm, concerned, done, known-later, later-calm, nobody-waits, steady, unlent, unnumbered}
+use Rattle.router_world.proofs.Stepping.{Calm, IsQuiet, OnLink, ask-calm, concerned, done, known-later, later-calm, nobody-waits, steady, unclosing, unlent, unnumbered}
 use Rattle.router_world.specs.World.{failed_on, lost_on, step}
 use Rattle.client_talk.specs.declared.session.Phase.TheVariants as phase
 use Rattle.mx_wire.specs.declared.entry.Entry.TheVariants as entry
@@ -104,7 +110,7 @@ module _ {service : Service} {log : Log} {server : ServerId} {address : Address}
       stood = stood on.happens.sound.lends (leaving on (record { 0 = 0 }) none-concerned) (
           let goes : RowGoes service log (log ++ failed ∷ []) on.for.client.0 (record { 0 = 0 }) tables.lends left = RowSame refl (λ x is.
           (let row = on.happens.sound.lends.rows (record { 0 = 0 }) x is in left-row on.happens.lawful (fits on) none-concerned row (on.apart row.0)))
-          on.for.waiting.unowned on.for.waiting.unowned refl in
+          on.for.waiting.unowned on.for.waiting.unowned refl refl in
           let waits : Waiters on.for.client.0 tables.lends left = NobodyWaits (ap others on.for.waits) (inr on.for.waits) in
           let unowned : tables.lends.owned on.for.client.0 ≡ None = on.for.waiting.unowned in
           let unasked : left.asks on.for.client.0 ≡ None = set-same tables.lends.asks on.for.client.0 None in
@@ -156,7 +162,7 @@ module _ {service : Service} {log : Log} {server : ServerId} {address : Address}
         opened-row service log (record { server = server; address = address }) link _ on.for.waiting.ask.account on.happens.fits on.next refl
             (on.happens.sound.lends.asks on.for.client.0 on.for.waiting.ask on.for.waiting.asks).account,
         Own refl owned (λ out. (on.for.waiting.ask, on.for.waiting.asks, refl)),
-      ) (λ is. refl) (λ is. none-one tables.lends.closing on.quiet.unclosed is) refl in
+      ) (λ is. refl) (λ is. none-one tables.lends.closing on.quiet.unclosed is) refl refl in
       let waits : Waiters on.for.client.0 tables.lends with-it = NobodyWaits (ap others on.for.waits) (inr on.for.waits) in
       let unlent : (k : ℕ) → tables.lends.owned k ≡ Some link → ⊥ = λ k is. (let it = on.happens.sound.lends.owned k link is in
       cc (shut link (on.happens.sound.lends.rows link it.lent it.there).0.opened, same_number link.0)) in
@@ -308,6 +314,28 @@ late-step {service} {log} {link} {tables} happens clock none unclosed client sea
       left : LinkId → Tables
       left l = record (without_number l (without_seat client tables)) { here = tables.here - 1 }
 
+-- What is offered to the link that closes next.
+
+quits-some : {parting : List Parting} (lends : Lends) (link : LinkId) → parting ≡ [] → lends.closing ≡ link ∷ []
+    → is_some (farewell_of parting lends) ≡ true → lends.quit ≡ Some link
+quits-some {parting} lends link none closing some = by (farewell_of parting lends) refl some where
+  by : (o : Option ToSend) → farewell_of parting lends ≡ o → is_some o ≡ true → lends.quit ≡ Some link
+  by None at says = cc
+  by (Some sent) at says = (quit-says lends link sent none closing at).0
+
+-- a client's is told first
+offers-first : {tables : Tables} {parting : Parting} → tables.parting ≡ parting ∷ [] → offers tables ≡ tables
+offers-first {tables} is = ap (λ p. with_lends (offers_by p tables.lends) tables) is
+
+offers-last : {tables : Tables} {link : LinkId} → tables.parting ≡ [] → tables.lends.closing ≡ link ∷ []
+    → offers tables ≡ with_lends (record tables.lends { quit = None }) tables
+offers-last {tables} none is = ap (λ p. with_lends (offers_by p tables.lends) tables) none ∙ ap (λ c. with_lends (quit_offered c tables.lends) tables) is
+
+-- and where none is to close nothing was
+pub offers-none : {tables : Tables} → IsQuiet tables → offers tables ≡ tables
+offers-none {tables} quiet = ap (λ p. with_lends (offers_by p tables.lends) tables) quiet.unparted
+    ∙ ap (λ c. with_lends (quit_offered c tables.lends) tables) quiet.unclosed
+
 -- A link closes, and what was offered to it before.
 module _ {service : Service} {log : Log} {link : LinkId} {tables : Tables} where
   closed-step : Happens service log (entry.Closed link) tables → ClockStands service log tables → next_close tables ≡ Some link
@@ -320,23 +348,44 @@ module _ {service : Service} {log : Log} {link : LinkId} {tables : Tables} where
   ]
 
   farewell-failed : Happens service log (WriteFailed link) tables → IsFarewell tables link
-      → Sound service (log ++ WriteFailed link ∷ []) (failed_on service.setup link (tables.numbers link.0) tables)
+      → Sound service (log ++ WriteFailed link ∷ []) (failed_on service.setup link (tables.numbers link.0) (offers tables))
   farewell-failed happens ours = elim (closes-next link happens.sound ours.is_next) [
-    | ClosesServer none is ↦ cc (none, ours.some)
-    | ClosesLate none unclosed client seat late there on ↦ cc (none, ours.some)
-    | ClosesClient p stands is on ↦ rw (parting-unnumbered happens stands is on, parting-unlent happens stands is on)
-        (offered-step happens stands is on p.bytes is (inr (refl, refl)) ours.some refl refl (λ n i. refl) refl (assumption) (λ was. refl))
+    | ClosesServer none is ↦ (let at = (happens.sound.lends.closes link is).quits (quits-some tables.lends link none is ours.some) in
+        subst (λ t. Sound service (log ++ WriteFailed link ∷ []) (failed_on service.setup link (tables.numbers link.0) t)) (sym (offers-last none is))
+        (rw (unclosing happens.told happens.sound link is, (happens.sound.lends.closes link is).unlent)
+        (quit-step happens none is at refl (assumption) (λ was. refl) (λ n i. refl)
+        (IsSpoilt (lost-stands (record {
+          lawful = happens.lawful;
+          fits = lawful-more Fits log (WriteFailed link) happens.told happens.fits;
+          row = at.row;
+          names = refl;
+          stays = λ was. refl;
+        }) refl)))))
+    | ClosesLate none unclosed client seat late there on ↦
+        cc (ap (λ p. farewell_of p tables.lends) none ∙ ap (λ c. quit_of c tables.lends.quit) unclosed, ours.some)
+    | ClosesClient p stands is on ↦ subst (λ t. Sound service (log ++ WriteFailed link ∷ []) (failed_on service.setup link (tables.numbers link.0) t))
+        (sym (offers-first is)) (rw (parting-unnumbered happens stands is on, parting-unlent happens stands is on)
+        (offered-step happens stands is on p.bytes is (inr (refl, refl)) ours.some refl refl (λ n i. refl) refl (assumption) (λ was. refl)))
   ]
 
   farewell-wrote : {tag : Tag} {bytes : List ℕ} → Happens service log (Wrote link tag bytes) tables → IsFarewell tables link
-      → IsFront (farewell_of tables.parting) tag bytes
-      → Sound service (log ++ Wrote link tag bytes ∷ []) (wrote_on link (length bytes) (left_in (tables.lends.links link.0)) tables)
+      → IsFront (farewell_of tables.parting tables.lends) tag bytes
+      → Sound service (log ++ Wrote link tag bytes ∷ []) (wrote_on link (length bytes) (left_in (tables.lends.links link.0)) (offers tables))
   farewell-wrote {tag} {bytes} happens ours front = elim (closes-next link happens.sound ours.is_next) [
-    | ClosesServer none is ↦ cc (none, ours.some)
-    | ClosesLate none unclosed client seat late there on ↦ cc (none, ours.some)
-    | ClosesClient p stands is on ↦ rw (parting-unlent happens stands is on, parting-unnumbered happens stands is on) (offered-step happens stands is on []
+    | ClosesServer none is ↦ (let at = (happens.sound.lends.closes link is).quits (quits-some tables.lends link none is ours.some) in
+        let own : tag ≡ Own = front.same_tag ∙ ap (λ (s : ToSend). s.tag) (quit-says tables.lends link front.sent none is front.is).1 in
+        subst (λ t. Sound service (log ++ Wrote link tag bytes ∷ []) (wrote_on link (length bytes) (left_in (tables.lends.links link.0)) t))
+        (sym (offers-last none is)) (rw ((happens.sound.lends.closes link is).unlent, unclosing happens.told happens.sound link is)
+        (subst (λ p. Sound service (log ++ Wrote link tag bytes ∷ [])
+        (record tables { lends = record tables.lends { quit = None }; parting = p })) (none ∙ ap (offered_to link) (sym none))
+        (quit-step happens none is at refl (assumption) (λ was. refl) (λ n i. cc (own))
+        (Quits (subst (λ t. has_quit at.backend.account link (log ++ Wrote link t bytes ∷ []) ≡ true) (sym own) (quit-said at bytes)))))))
+    | ClosesLate none unclosed client seat late there on ↦
+        cc (ap (λ p. farewell_of p tables.lends) none ∙ ap (λ c. quit_of c tables.lends.quit) unclosed, ours.some)
+    | ClosesClient p stands is on ↦ subst (λ t. Sound service (log ++ Wrote link tag bytes ∷ [])
+        (wrote_on link (length bytes) (left_in (tables.lends.links link.0)) t)) (sym (offers-first is)) (rw (parting-unlent happens stands is on, parting-unnumbered happens stands is on) (offered-step happens stands is on []
         (grind (arith, common_steps)) (inl refl) ours.some refl refl (λ n i. cc ((reply-front tag bytes p.bytes (rw is at front)).0)) refl (assumption)
-        (λ was. refl))
+        (λ was. refl)))
   ]
 
 -- What each entry makes of what stands.
@@ -373,10 +422,13 @@ module _ (service : Service) (log : Log) where
     | OfServer lent is ↦ rw (unnumbered on.happens.told on.happens.sound link lent is) (lost-step on refl (λ k i. refl) lent is)
   ])
   entry-step (entry.ReadFailed link) short clock happens next ours = failed-step {tables = now} (assumption) refl refl (λ k i. refl)
-  entry-step (entry.WriteFailed link) short clock happens next (inl ours) = failed-step {tables = now} (assumption) refl refl (λ k i. refl)
+  entry-step (entry.WriteFailed link) short clock happens next (inl ours) = subst
+      (λ t. Sound service (log ++ entry.WriteFailed link ∷ []) (failed_on service.setup link (now.numbers link.0) t))
+      (sym (offers-none (done service.setup now ours))) (failed-step {tables = now} (assumption) refl refl (λ k i. refl))
   entry-step (entry.WriteFailed link) short clock happens next (inr ours) = farewell-failed happens ours
   entry-step (entry.Wrote link tag bytes) short clock happens next (inl ours) = (let on : OnLink service log (Wrote link tag bytes) link now = assumption in
-      elim (whose on) [
+      subst (λ t. Sound service (log ++ Wrote link tag bytes ∷ []) (wrote_on link (length bytes) (left_in (now.lends.links link.0)) t))
+      (sym (offers-none (done service.setup now ours.0))) (elim (whose on) [
         | OfClient client seat number is at ↦ (let reply = reply-front tag bytes seat.session.client.outgoing
             (subst (λ lent. IsFront lent tag bytes) (client-sends on.happens.told on.happens.sound number is at) ours.1) in
             rw (unlent on.happens.told on.happens.sound link client number, number, is, same_number client.0)
@@ -384,7 +436,7 @@ module _ (service : Service) (log : Log) where
             (sym (front-size seat.session.client.outgoing bytes reply.1 reply.2).1)))
         | OfServer lent is ↦ (let sends = server-sends on.happens.told on.happens.sound is in
             rw (is, sym sends ∙ ours.1.is) (wrote-step (subst (λ lent. IsFront lent tag bytes) sends ours.1) on is))
-      ])
+      ]))
   entry-step (entry.Wrote link tag bytes) short clock happens next (inr ours) = farewell-wrote happens ours.0 ours.1
   entry-step (entry.Closed link) short clock happens next ours = closed-step happens clock ours.is_next
   entry-step e short clock happens next ours = nothing-step happens (assumption) (assumption) (λ was. refl)

@@ -1,6 +1,7 @@
 -- What the tables say of the log.
 pub use Rattle.promises.proofs.{Queries.AreFormed, Queries.HandedStands, Queries.IsAsked, Queries.carried_by, ServerLinks.LinkStands}
 pub use Rattle.promises.proofs.Departures.{Done, Parted}
+pub use Rattle.promises.proofs.LinkLeft.{QuitStands}
 use Rattle.promises.proofs.Arrivals.{Counted}
 use Rattle.router_world.proofs.Names.{Account, AllLawful, Arrival, Ask, BackendState, ClientNo, Entry, Fits, For, Handed, In, IsLawful, IsOpen, Lends, Lent}
 use Rattle.router_world.proofs.Names.{LinkId, List, Log, MayDrop, None, Option, Parting, Phase, Seat, SeatAt, Service, Session, Some, Tables, Turn, []}
@@ -101,7 +102,7 @@ pub data PartsStand (service : Service) (log : Log) (numbers : ℕ → Option Cl
   NoneParts : PartsStand service log numbers closing []
   OneParts : (parting : Parting) → PartStands service log numbers closing parting → PartsStand service log numbers closing (parting ∷ [])
 
--- A link to a server that is to be closed.
+-- A link to a server that is to be closed, and maybe to be offered a QUIT before.
 pub record CloseStands (service : Service) (log : Log) (lends : Lends) (link : LinkId) : Type 0 where
   pub opened : IsOpen link log
   pub unlent : lends.links link.0 ≡ None
@@ -109,6 +110,7 @@ pub record CloseStands (service : Service) (log : Log) (lends : Lends) (link : L
   pub is_turn : turn_of service link log ≡ Some turn
   pub may : (user : Account) → user_of service turn.client log ≡ Some user
       → MayDrop service (record { client = turn.client; hostgroup = turn.hostgroup }) user link log
+  pub quits : lends.quit ≡ Some link → QuitStands service log link
 
 -- A seat that a client has, with its number and its command.
 pub record Sits (service : Service) (log : Log) (numbers : ℕ → Option ClientNo) (lends : Lends) (n : ℕ) (seat : Seat) : Type 0 where

@@ -171,10 +171,10 @@ module _ {service : Service} {log : Log} {e : Entry} {n : ℕ} {tables : Tables}
   aside-others = grind (arith, common_steps)
 
   -- The links to servers and all commands stay, and others may be to be closed.
-  pub lends-framed : (closing : List LinkId) → AtMostOne closing
-      → ((link : LinkId) → closing ≡ link ∷ [] → CloseStands service (log ++ e ∷ []) tables.lends link)
-      → LendsSound service (log ++ e ∷ []) (record tables.lends { closing = closing })
-  lends-framed closing one stands = record {
+  pub lends-framed : (closing : List LinkId) (quit : Option LinkId) → AtMostOne closing
+      → ((link : LinkId) → closing ≡ link ∷ [] → CloseStands service (log ++ e ∷ []) (record tables.lends { quit = quit }) link)
+      → LendsSound service (log ++ e ∷ []) (record tables.lends { closing = closing; quit = quit })
+  lends-framed closing quit one stands = record {
     rows = λ link lent is. row-calm service log e aside.happens.lawful aside.happens.fits (before.rows link lent is) (aside.calm _)
         (aside.rows link lent is) refl refl;
     asks = λ k ask is. ask-calm service log e k ask aside.happens.lawful (before.asks k ask is) (aside.calm k);
@@ -186,16 +186,17 @@ module _ {service : Service} {log : Log} {e : Entry} {n : ℕ} {tables : Tables}
   }
 
   pub lends-aside : tables.lends.closing ≡ [] → LendsSound service (log ++ e ∷ []) tables.lends
-  lends-aside none = lends-framed tables.lends.closing before.one_closes (λ link is. absurd (none-one tables.lends.closing none is))
+  lends-aside none = lends-framed tables.lends.closing tables.lends.quit before.one_closes (λ link is. absurd (none-one tables.lends.closing none is))
 
 -- All stands behind it, whatever is to be closed, where no client is changed: there is none with the number 0.
-pub aside-stands : {service : Service} {log : Log} {e : Entry} {tables : Tables} {came here : ℕ} {closing : List LinkId} {parting : List Parting}
+pub aside-stands : {service : Service} {log : Log} {e : Entry} {tables : Tables} {came here : ℕ} {closing : List LinkId} {quit : Option LinkId}
+    {parting : List Parting}
     → Aside service log e 0 tables → Counted (log ++ e ∷ []) came here
-    → LendsSound service (log ++ e ∷ []) (record tables.lends { closing = closing })
+    → LendsSound service (log ++ e ∷ []) (record tables.lends { closing = closing; quit = quit })
     → PartsStand service (log ++ e ∷ []) tables.numbers closing parting
-    → ((link : LinkId) → IsOpen link (log ++ e ∷ []) → Known tables.numbers (record tables.lends { closing = closing }) parting link)
+    → ((link : LinkId) → IsOpen link (log ++ e ∷ []) → Known tables.numbers (record tables.lends { closing = closing; quit = quit }) parting link)
     → Sound service (log ++ e ∷ [])
-    (record tables { came = came; here = here; lends = record tables.lends { closing = closing }; parting = parting })
+    (record tables { came = came; here = here; lends = record tables.lends { closing = closing; quit = quit }; parting = parting })
 aside-stands {tables = tables} aside counted lends parts known = (let seated = aside.happens.sound.seated in
     let nobody : (seat : Seat) → tables.seats 0 ≡ Some seat → ⊥ = λ seat is. (let came = (seated.seats 0 seat is).stands.is_came in cc) in record {
       counted = counted;

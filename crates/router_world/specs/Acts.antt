@@ -2,11 +2,13 @@
 use Rattle.{client_session.specs.Setups.Setup, client_session.specs.Setups.has_server, client_session.specs.declared.setup.ServerAt.ServerAt}
 use Rattle.{client_talk.specs.Sessions.is_read, lend_core.specs.Events.is_waiting, lend_core.specs.Events.left_in}
 use Rattle.{mx_base.specs.Fields.AreBytes, mx_base.specs.Sent.Sent, mx_base.specs.declared.names.ClientNo.ClientNo, mx_base.specs.declared.names.LinkId.LinkId}
-use Rattle.{mx_base.specs.declared.tag.Tag.Tag, mx_base.specs.declared.tag.Tag.TheVariants.Reply, mx_wire.specs.Log.Log}
+use Rattle.{mx_base.specs.declared.tag.Tag.Tag, mx_base.specs.declared.tag.Tag.TheVariants.Own, mx_base.specs.declared.tag.Tag.TheVariants.Reply, mx_wire.specs.Log.Log}
 use Rattle.{mx_wire.specs.declared.entry.Entry.Entry, promises.specs.Closes.was_offered, ready_loop.specs.Drained.MayWait, ready_loop.specs.Machine.Target}
 use Rattle.{router_world.specs.Tables.Tables, router_world.specs.World.late_of, router_world.specs.World.tables_after, router_world.specs.World.wakes_at, router_world.specs.declared.seat.Parting.Parting}
 use Rattle.{router_world.specs.declared.seat.Seat.Seat, std.specs.Option.option_and_then, std.specs.Option.option_map, std.specs.Option.option_or}
 use Rattle.std.specs.Prelude.{Bool, List, None, Option, Some, [], false, if◌then◌else◌, is_some, nat_eq, take, true, ℕ, ◌&&◌, ◌||◌, ◌∷◌, ◌≡◌, ◌⊎◌}
+use Rattle.lend_core.specs.Lends.{Lends as Links}
+use Rattle.promises.specs.Quits.{quit_bytes}
 use Rattle.mx_wire.specs.declared.entry.Entry.TheVariants as entry
 
 -- What is to be written on a link.
@@ -73,9 +75,18 @@ close_of (parting ∷ others) closing late = Some parting.link
 abbrev pub next_close : Tables → Option LinkId
 next_close tables = close_of tables.parting tables.lends.closing (late_link tables)
 
-abbrev pub farewell_of : List Parting → Option Sent
-farewell_of [] = None
-farewell_of (parting ∷ later) = reply_sent parting.bytes
+-- a client's is the error for one for whom there is no room, and a server's a QUIT
+
+abbrev pub quit_sent : Sent
+quit_sent = record { tag = Own; bytes = quit_bytes }
+
+abbrev pub quit_of : List LinkId → (quit : Option LinkId) → Option Sent
+quit_of (link ∷ later) (Some quit) = if nat_eq quit.0 link.0 then Some quit_sent else None
+quit_of _ quit = None
+
+abbrev pub farewell_of : List Parting → Links → Option Sent
+farewell_of [] lends = quit_of lends.closing lends.quit
+farewell_of (parting ∷ later) lends = reply_sent parting.bytes
 
 -- bytes of what is to be written, from its beginning
 pub record IsFront (lent : Option Sent) (tag : Tag) (bytes : List ℕ) : Type 0 where
@@ -88,12 +99,12 @@ pub record IsFront (lent : Option Sent) (tag : Tag) (bytes : List ℕ) : Type 0 
 -- all that was asked for is done, and it is a link's own; or it is the one write that a link is offered before it closes
 pub record IsFarewell (tables : Tables) (link : LinkId) : Type 0 where
   pub is_next : next_close tables ≡ Some link
-  pub some : is_some (farewell_of tables.parting) ≡ true
+  pub some : is_some (farewell_of tables.parting tables.lends) ≡ true
 
 -- it closes behind that write
 pub record IsClosing (tables : Tables) (link : LinkId) (log : Log) : Type 0 where
   pub is_next : next_close tables ≡ Some link
-  pub offered : is_some (farewell_of tables.parting) ≡ true → was_offered link log ≡ true
+  pub offered : is_some (farewell_of tables.parting tables.lends) ≡ true → was_offered link log ≡ true
 
 -- The entries of a log of the router's: it is told of what comes once all that it asked for is done, and does what it asks for.
 abbrev pub IsOurs : Setup → Log → Entry → Type 0
@@ -104,7 +115,7 @@ IsOurs setup log (entry.ReadFailed link) = asks setup (tables_after setup log) �
 IsOurs setup log (entry.WriteFailed link) = (asks setup (tables_after setup log) ≡ false) ⊎ IsFarewell (tables_after setup log) link
 IsOurs setup log (entry.Wrote link tag bytes) =
     ((asks setup (tables_after setup log) ≡ false) × IsFront (sends (tables_after setup log) link) tag bytes) ⊎ (IsFarewell (tables_after setup log) link ×
-    IsFront (farewell_of (tables_after setup log).parting) tag bytes)
+    IsFront (farewell_of (tables_after setup log).parting (tables_after setup log).lends) tag bytes)
 IsOurs setup log (entry.Opened server address link) = awaits setup (tables_after setup log) ≡ Some (record { server = server; address = address })
 IsOurs setup log (entry.OpenFailed server address) = awaits setup (tables_after setup log) ≡ Some (record { server = server; address = address })
 IsOurs setup log (entry.Closed link) = IsClosing (tables_after setup log) link log
@@ -126,7 +137,7 @@ pub record IsWhole (lent : Option Sent) (piece : List ℕ) : Type 0 where
 -- all that was asked for is done, and it is the link's own; or it is for the one write that a link is offered before it closes
 abbrev pub Lends : Setup → Tables → LinkId → (piece : List ℕ) → Type 0
 Lends setup tables link piece = ((asks setup tables ≡ false) × IsWhole (sends tables link) piece) ⊎ (IsFarewell tables link × IsWhole (farewell_of
-    tables.parting) piece)
+    tables.parting tables.lends) piece)
 
 abbrev pub lends : Setup → Log → LinkId → (piece : List ℕ) → Type 0
 lends setup log link piece = Lends setup (tables_after setup log) link piece

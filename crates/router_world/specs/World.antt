@@ -8,7 +8,7 @@ use Rattle.{router_world.specs.declared.seat.Parting.Parting, router_world.specs
 use Rattle.client_talk.specs.{declared.session.Session.Session, Queries.Query, Sessions.new_session, Sessions.account_in, Sessions.is_ending, Sessions.is_entering}
 use Rattle.client_talk.specs.{Sessions.is_finished, Steps.ended, Going.Turned, Going.still, Events.said, Events.answered, Events.taken}
 use Rattle.lend_core.specs.{declared.ask.Answered.Answered, declared.ask.Ask.Ask, Lends.Lends, Lends.Told, Lends.oldest, Changes.taken_on}
-use Rattle.lend_core.specs.{Changes.without_close, Events.asked, Events.opened, Events.open_failed, Events.heard, Events.lost, Events.gone, Lends.set}
+use Rattle.lend_core.specs.{Changes.quit_offered, Changes.without_close, Events.asked, Events.opened, Events.open_failed, Events.heard, Events.lost, Events.gone, Lends.set}
 use Rattle.std.specs.{List.cons_option, Option.option_and_then}
 use Rattle.lend_core.specs.{Events.left_in, declared.lent.Lent.Lent}
 use Rattle.router_world.specs.Tables.{Clock, Tables, no_tables, with_clock, with_seat, without_seat, with_number, without_number, with_lends, to_part}
@@ -164,6 +164,15 @@ abbrev pub wrote_on : LinkId → (n : ℕ) → (left : Option Sent) → Tables �
 wrote_on link n None tables = client_took link n (tables.numbers link.0) tables
 wrote_on link n (Some left) tables = with_lends (taken_on link n tables.lends) tables
 
+-- The one write that is offered to a link to a server, a QUIT, before it closes next.
+
+abbrev pub offers_by : List Parting → Lends → Lends
+offers_by [] lends = quit_offered lends.closing lends
+offers_by (parting ∷ later) lends = lends
+
+abbrev pub offers : Tables → Tables
+offers tables = with_lends (offers_by tables.parting tables.lends) tables
+
 -- A link closes: the oldest of those of clients that are to be closed, where there is none the oldest of those to servers, and where there is none
 -- of these either that of the client who has no more time for its login.
 
@@ -194,8 +203,8 @@ step setup tables (entry.OpenFailed server address) = told setup (open_failed ta
 step setup tables (entry.Got link bytes) = got_on setup link bytes (tables.numbers link.0) tables
 step setup tables (entry.Ended link) = ended_on setup link (tables.numbers link.0) tables
 step setup tables (entry.ReadFailed link) = failed_on setup link (tables.numbers link.0) tables
-step setup tables (entry.WriteFailed link) = failed_on setup link (tables.numbers link.0) tables
-step setup tables (entry.Wrote link tag bytes) = wrote_on link (length bytes) (left_in (tables.lends.links link.0)) tables
+step setup tables (entry.WriteFailed link) = failed_on setup link (tables.numbers link.0) (offers tables)
+step setup tables (entry.Wrote link tag bytes) = wrote_on link (length bytes) (left_in (tables.lends.links link.0)) (offers tables)
 step setup tables (entry.Closed link) = closed_by tables.parting tables
 step setup tables _ = tables
 

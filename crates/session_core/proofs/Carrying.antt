@@ -3,13 +3,15 @@ use Rattle.mx_wire.specs.Log.{AreMarks, Log, is_link, link_of}
 use Rattle.std.specs.Option.{option_and_then, option_map}
 use Rattle.ready_loop.specs.Machine.{Acts, CarriesOver, Closes, HasActed, IsAwaited, IsFarewell, IsHeard, IsToldOf, OwesFarewell}
 use Rattle.mx_base.specs.declared.names.ClientNo.{ClientNo}
-use Rattle.router_world.specs.World.{closed_by, closes_next, late_closes, late_leaves, late_of, step, tables_after, wrote_on}
+use Rattle.router_world.specs.World.{closed_by, closes_next, late_closes, late_leaves, late_of, offers, step, tables_after, wrote_on}
 use Rattle.router_world.specs.declared.seat.Seat.{Seat}
 use Rattle.session_core.specs.Says.{Asked, Becomes, asks, awaits, changed, farewell, next_leaver, on_event, reads, sends, until_of}
 use Rattle.session_core.{proofs.Standing.IsApart, proofs.Standing.acted-after, proofs.Standing.apart-of, proofs.Standing.awaited-after, specs.Stands.Stands}
-use Rattle.session_core.proofs.Standing.{carried, due_in, sends-after, tables-more, waits-after}
+use Rattle.router_world.proofs.{Promises.offers-none, Stepping.done}
+use Rattle.lend_core.specs.Changes.{closes_first}
+use Rattle.session_core.proofs.Standing.{carried, due_in, unasked, sends-after, tables-more, waits-after}
 use Rattle.std.proofs.Common.{ap, append-nil, append_assoc, arith, inl, inr, subst, sym, ◌∙◌}
-use Rattle.std.specs.Prelude.{IfSome, IsSome, List, None, OnOk, Option, Result, Some, [], false, is_some, nat_eq, refl, take, true, ℕ, ◌++◌, ◌∷◌, ◌≡◌}
+use Rattle.std.specs.Prelude.{IfSome, IsSome, List, None, OnOk, Option, Result, Some, [], false, is_some, length, nat_eq, refl, take, true, ℕ, ◌++◌, ◌∷◌, ◌≡◌}
 use Rattle.mx_base.{specs.Fields.AreBytes, specs.Sent.MayTake, specs.Sent.Sent, specs.declared.names.LinkId.LinkId}
 use Rattle.mx_wire.{specs.Growth.bool_cases, specs.Moments.AllLawful, specs.Moments.lawful-more, specs.Tells.Fits, specs.declared.entry.Entry.Entry}
 use Rattle.promises.{proofs.Moments.one-more, specs.Closes.is_write}
@@ -21,12 +23,16 @@ use Rattle.{client_session.specs.Setups.Setup, lend_core.specs.Events.left_in, p
 use Rattle.mx_wire.specs.declared.entry.Entry.TheVariants as entry
 use Rattle.router_world.specs.Acts as acts
 
+-- nothing was offered to a link where none is to close
+idle-offers : (setup : Setup) (tables : Tables) → acts.asks setup tables ≡ false → offers tables ≡ tables
+idle-offers setup tables acted = offers-none (done setup tables acted)
+
 -- an event is told of an entry of the world's, which is the router's
 pub told_carries : {T E : Type 0} (r : Result T E) (old : Core) (known : Known) (event : Event) (bytes : List ℕ) → AreBytes bytes
     → HasActed (asks old) event → OnOk r (Becomes (on_event old.setup event bytes (tables_of old.known)) old.known known)
     → OnOk r ((e : Entry) → IsToldOf (until_of old) (awaits old) event bytes e → CarriesOver Stands due_in old (record old { known = known }) e)
 told_carries r old known event bytes are acted is = on_ok_weaker r (λ becomes e told. carried old known e (λ log is_due held.
-    grind (arith, common_steps, acted-after, awaited-after, waits-after))) is
+    grind (arith, common_steps, acted-after, awaited-after, waits-after, (unasked old), idle-offers))) is
 
 -- no link of a client's is to be closed by then
 pub none_parts : (old : Core) (event : Event) → IsHeard (awaits old) event → HasActed (asks old) event → (tables_of old.known).parting ≡ []
@@ -45,7 +51,9 @@ pub taken_carries : (old : Core) (known : Known) (link : LinkId) (n : ℕ) (sent
     → CarriesOver Stands due_in old (record old { known = known }) (entry.Wrote link sent.tag (take n sent.bytes))
 taken_carries old known link n sent acted may some is = carried old known (entry.Wrote link sent.tag (take n sent.bytes)) (λ log is_due held. record {
   is = is.tables ∙ ap (λ (m : ℕ). wrote_on link m (left_in ((tables_of old.known).lends.links link.0)) (tables_of old.known))
-      (sym (length-take-le n sent.bytes (subst (λ (o : Option Sent). MayTake o n) some may)));
+      (sym (length-take-le n sent.bytes (subst (λ (o : Option Sent). MayTake o n) some may)))
+      ∙ ap (λ (t : Tables). wrote_on link (length (take n sent.bytes)) (left_in ((tables_of old.known).lends.links link.0)) t)
+      (sym (idle-offers old.setup (tables_of old.known) (unasked old acted).1));
   ours = inl (
     acted-after old log acted held,
     record {
@@ -93,9 +101,13 @@ closed-lends [] tables link = next tables.lends.closing where
   late None = refl
   late (Some client) = leaves client (tables.seats client.0)
 
+  first : (closing : List LinkId) → (closes_first closing tables.lends).links link.0 ≡ tables.lends.links link.0
+  first [] = refl
+  first (other ∷ later) = refl
+
   next : (closing : List LinkId) → (closes_next closing tables).lends.links link.0 ≡ tables.lends.links link.0
   next [] = late (late_of tables.clock)
-  next (other ∷ later) = refl
+  next (other ∷ later) = first tables.lends.closing
 closed-lends (parting ∷ later) tables link = refl
 
 -- and of the clients' links no more is to be read or written than was
@@ -136,34 +148,35 @@ record Offered (setup : Setup) (tables : Tables) (log : Log) (link : LinkId) (e 
   write : is_write e ≡ true
 
 farewell-ours : (setup : Setup) (tables : Tables) (log : Log) (link : LinkId) (sent : Option Sent) (e : Entry) → tables ≡ tables_after setup log
-    → acts.next_close tables ≡ Some link → IsApart tables log link → acts.farewell_of tables.parting ≡ sent → IsSome sent → IsFarewell sent link e
+    → acts.next_close tables ≡ Some link → IsApart tables log link → acts.farewell_of tables.parting tables.lends ≡ sent → IsSome sent → IsFarewell sent link e
     → Offered setup tables log link e
 farewell-ours setup tables log link h4 h5 is next apart says some told = grind (arith, common_steps)
 
 lent-of : (known : Known) (link : LinkId) → acts.next_close (tables_of known) ≡ Some link
-    → farewell link (next_leaver known.leaver) ≡ acts.farewell_of (tables_of known).parting
+    → farewell link (next_leaver known.leaver (tables_of known).lends) ≡ acts.farewell_of (tables_of known).parting (tables_of known).lends
 unfolding tables_of
 lent-of known link next = grind (arith, common_steps)
 
 -- The link that is to be closed, once its close is asked for.
 module _ (old : Core) (known : Known) (link : LinkId) (next : acts.next_close (tables_of old.known) ≡ Some link)
-    (is : tables_of known ≡ closed_by (tables_of old.known).parting (tables_of old.known)) (leaver : known.leaver ≡ next_leaver old.known.leaver) where
+    (is : tables_of known ≡ closed_by (tables_of old.known).parting (tables_of old.known)) (leaver : known.leaver ≡ next_leaver old.known.leaver (tables_of old.known).lends) where
   apart : (log : Log) → Stands old log → IsApart (tables_of old.known) log link
   apart log held = apart-of old log link held next
 
   -- what is lent of it is the farewell alone
-  said-last : (log : Log) → Stands old log → sends (record old { known = known }) link ≡ acts.farewell_of (tables_of old.known).parting
+  said-last : (log : Log) → Stands old log → sends (record old { known = known }) link ≡ acts.farewell_of (tables_of old.known).parting (tables_of old.known).lends
   said-last log held = grind (
     arith,
     common_steps,
     (none-said (tables_of old.known) log link (apart log held)),
     (lent-of old.known link next),
+    ((apart log held).unquit),
   )
 
   -- and is the whole of it
   farewell-whole : (log : Log) (sent : Sent) → Stands old log → sends (record old { known = known }) link ≡ Some sent → lends old.setup log link sent.bytes
-  farewell-whole log sent held some = (let says : acts.farewell_of (tables_of old.known).parting ≡ Some sent = sym (said-last log held) ∙ some in inr
-      (subst (λ (t : Tables). acts.IsFarewell t link × IsWhole (acts.farewell_of t.parting) sent.bytes) held.tables
+  farewell-whole log sent held some = (let says : acts.farewell_of (tables_of old.known).parting (tables_of old.known).lends ≡ Some sent = sym (said-last log held) ∙ some in inr
+      (subst (λ (t : Tables). acts.IsFarewell t link × IsWhole (acts.farewell_of t.parting t.lends) sent.bytes) held.tables
       (record { is_next = next; some = ap (λ (o : Option Sent). is_some o) says }, record { sent = sent; is = says; bytes = refl })))
 
   closes : Closes Stands due_in old (record old { known = known }) (sends (record old { known = known }) link) link
@@ -173,7 +186,7 @@ module _ (old : Core) (known : Known) (link : LinkId) (next : acts.next_close (t
       is = is;
       ours = record {
         is_next = sym (ap (λ (t : Tables). acts.next_close t) held.tables) ∙ next;
-        offered = λ some. cc (said-last log held, none, ap (λ (t : Tables). is_some (acts.farewell_of t.parting)) held.tables);
+        offered = λ some. cc (said-last log held, none, ap (λ (t : Tables). is_some (acts.farewell_of t.parting t.lends)) held.tables);
       };
     });
     offered = λ some log e marks told are may closing held. (

@@ -1,12 +1,12 @@
 -- What changes of what the router knows, and which links may have something new.
-use Rattle.lend_core.specs.{Changes.without_close, Lends.oldest, Lends.others}
+use Rattle.lend_core.specs.{Changes.closes_first, Changes.without_close, Lends.oldest}
 use Rattle.lend_core.specs.{Changes.taken_on, Events.asked, Events.gone, declared.ask.Answered.Answered, declared.ask.Ask.Ask, declared.lender.Lender.Lender}
 use Rattle.lend_core.specs.{Events.heard, Events.left_in, Events.lost, Events.open_failed, Events.opened, Lends.Lends, Lends.Told, Lends.lends_of, Lends.set}
 use Rattle.mx_base.specs.{Sent.MayTake, declared.names.ClientNo.ClientNo, declared.names.LinkId.LinkId}
 use Rattle.router_world.specs.{Tables.Tables, Tables.to_part, Tables.with_lends, World.stepped_at}
 use Rattle.router_world.specs.{declared.seat.Parting.Parting, declared.seat.Seat.Seat}
 use Rattle.router_world.specs.{Tables.without_number, Tables.without_seat, World.closed_by, World.closes_next, World.late_closes, World.late_of, World.still_entering, World.tidied, declared.seat.Newcomer.Newcomer}
-use Rattle.session_core.specs.Says.{Becomes, Tells, known_reads, known_sends}
+use Rattle.session_core.specs.Says.{Becomes, Tells, known_reads, known_sends, quit_at, quitter_of}
 use Rattle.session_core.specs.{Known.Marked, Known.parted_by, Known.is_at, Known.is_changed, Known.tables_of, declared.known.Known.Known}
 use Rattle.std.proofs.{Common.ap, Common.arith, Common.sym, Common.◌∙◌, lemmas.Grind.common_steps, lemmas.Result.on_ok_weaker}
 use Rattle.std.specs.Prelude.{IsSome, List, None, OnOk, Option, Result, Some, [], false, nat_eq, refl, true, ℕ, ◌++◌, ◌-◌, ◌||◌, ◌∷◌, ◌≡◌}
@@ -42,6 +42,10 @@ oldest-none : {X : Type 0} (xs : List X) → oldest xs ≡ None → xs ≡ []
 oldest-none [] none = refl
 oldest-none (x ∷ xs) none = cc
 
+-- and no link to a server is offered a QUIT
+pub quits_none : (lends : Lends) → oldest lends.closing ≡ None → quitter_of lends.closing lends.quit ≡ None
+quits_none lends none = ap (λ xs. quitter_of xs lends.quit) (oldest-none lends.closing none)
+
 pub closes_late : (old : Known) (lender : Lender) (new : Known) → old.leaver ≡ None → oldest (lends_of old.lender).closing ≡ None
     → lends_of lender ≡ without_close (lends_of old.lender)
     → tables_of new ≡ late_closes (late_of (tables_of (record old { lender = lender })).clock) (tables_of (record old { lender = lender }))
@@ -56,8 +60,7 @@ closes_late old lender new parted none same is = is ∙ ap (λ (t : Tables). lat
       empty = oldest-none (lends_of old.lender).closing none
 
       unlent : lends_of lender ≡ lends_of old.lender
-      unlent = same ∙ ap (λ xs. record (lends_of old.lender) { closing = others xs }) empty
-          ∙ sym (ap (λ xs. record (lends_of old.lender) { closing = xs }) empty)
+      unlent = same ∙ ap (λ xs. closes_first xs (lends_of old.lender)) empty
 
       unchanged : tables_of (record old { lender = lender }) ≡ tables_of old
       unchanged = ap (λ (l : Lends). record was { lends = l }) unlent
@@ -83,6 +86,7 @@ touched named old new more fewer = grind (arith, common_steps)
 pub record Less (link : LinkId) (new old : Tables) : Type 0 where
   pub read : acts.reads new link ≡ true → acts.reads old link ≡ true
   pub written : IsSome (acts.sends new link) → IsSome (acts.sends old link)
+  pub quit : IsSome (quit_at link new.lends) → IsSome (quit_at link old.lends)
 
 pub becomes : (named : Option LinkId) (old new : Known) (t : Tables) → ((k : LinkId) → is_changed new k ≡ (is_changed old k || is_at k named))
     → tables_of new ≡ t → new.leaver ≡ old.leaver → ((k : LinkId) → is_at k named ≡ false → Less k t (tables_of old)) → Becomes t old new
@@ -95,17 +99,17 @@ unmarked known = record { tables = refl; leaver = refl; changed = λ k. grind (a
 
 -- a link is told something before it is closed
 told-fewer : (k : LinkId) (parting : Parting) (old new : Known) → tables_of new ≡ to_part parting (tables_of old)
-    → new.leaver ≡ Some (record { parting = parting; is_asked = false }) → nat_eq k.0 parting.link.0 ≡ false → Fewer old new k
+    → new.leaver ≡ Some (record { parting = parting; is_asked = false; quits = false }) → nat_eq k.0 parting.link.0 ≡ false → Fewer old new k
 told-fewer k parting old new is leaver off = grind (arith, common_steps)
 
 pub sends_off : (old mid : Known) (parting : Parting) → (tables_of old).parting ≡ [] → Marked (Some parting.link) old mid
-    → Becomes (to_part parting (tables_of old)) old (record mid { leaver = Some (record { parting = parting; is_asked = false }) })
+    → Becomes (to_part parting (tables_of old)) old (record mid { leaver = Some (record { parting = parting; is_asked = false; quits = false }) })
 unfolding tables_of
 sends_off old mid parting none marked = record {
   tables = told;
   changes = touched (Some parting.link) old _ marked.changed (λ k off. told-fewer k parting old _ told refl off);
 } where
-  told : tables_of (record mid { leaver = Some (record { parting = parting; is_asked = false }) }) ≡ to_part parting (tables_of old)
+  told : tables_of (record mid { leaver = Some (record { parting = parting; is_asked = false; quits = false }) }) ≡ to_part parting (tables_of old)
   told = ap (λ (t : Tables). record t { parting = parting ∷ [] }) marked.tables
       ∙ ap (λ (xs : List Parting). record (tables_of old) { parting = xs ++ parting ∷ [] }) (sym none)
 
@@ -120,50 +124,54 @@ own_lends known = refl
 -- a change among them
 lends : (f : Lends → Lends) (named : Option LinkId) (old mid : Known) (lender : Lender) → Marked named old mid → lends_of lender ≡ f (lends_of mid.lender)
     → ((k : LinkId) → is_at k named ≡ false → (f (tables_of old).lends).links k.0 ≡ (tables_of old).lends.links k.0)
+    → ((k : LinkId) → is_at k named ≡ false → IsSome (quit_at k (f (tables_of old).lends)) → IsSome (quit_at k (tables_of old).lends))
     → Becomes (with_lends (f (tables_of old).lends) (tables_of old)) old (record mid { lender = lender })
 unfolding tables_of
-lends f named old mid lender marked is leaves = becomes named old _ (with_lends (f (tables_of old).lends) (tables_of old)) marked.changed
+lends f named old mid lender marked is leaves quits = becomes named old _ (with_lends (f (tables_of old).lends) (tables_of old)) marked.changed
     (ap (λ (l : Lends). with_lends l (tables_of mid)) is ∙ ap (λ (t : Tables). with_lends (f t.lends) t) marked.tables) marked.leaver
-    (λ k off. grind (arith, common_steps, leaves k off))
+    (λ k off. grind (arith, common_steps, leaves k off, quits k off))
 
 module _ (old mid : Known) (lender : Lender) where
   pub asked_lends : (client : ClientNo) (ask : Ask) → Marked ((tables_of old).lends.owned client.0) old mid
       → lends_of lender ≡ asked client ask (lends_of mid.lender)
       → Becomes (with_lends (asked client ask (tables_of old).lends) (tables_of old)) old (record mid { lender = lender })
-  asked_lends client ask marked is = lends (asked client ask) _ old mid lender marked is (λ k off. grind (arith, common_steps))
+  asked_lends client ask marked is = lends (asked client ask) _ old mid lender marked is (λ k off. grind (arith, common_steps)) (λ k off. grind (arith, common_steps))
 
   pub gone_lends : (client : ClientNo) → Marked ((tables_of old).lends.owned client.0) old mid → lends_of lender ≡ gone client (lends_of mid.lender)
       → Becomes (with_lends (gone client (tables_of old).lends) (tables_of old)) old (record mid { lender = lender })
-  gone_lends client marked is = lends (gone client) _ old mid lender marked is (λ k off. grind (arith, common_steps))
+  gone_lends client marked is = lends (gone client) _ old mid lender marked is (λ k off. grind (arith, common_steps)) (λ k off. grind (arith, common_steps))
 
   pub opened_lends : (link : LinkId) → Marked (Some link) old mid → lends_of lender ≡ opened link (lends_of mid.lender)
       → Becomes (with_lends (opened link (tables_of old).lends) (tables_of old)) old (record mid { lender = lender })
-  opened_lends link marked is = lends (opened link) _ old mid lender marked is (λ k off. grind (arith, common_steps))
+  opened_lends link marked is = lends (opened link) _ old mid lender marked is (λ k off. grind (arith, common_steps)) (λ k off. grind (arith, common_steps))
 
 -- one that may answer a command
 tells : (f : Lends → Told) (named : Option LinkId) (old mid : Known) (lender : Lender) (answer : Option Answered) → Marked named old mid
     → lends_of lender ≡ (f (lends_of mid.lender)).lends → answer ≡ (f (lends_of mid.lender)).answer
     → ((k : LinkId) → is_at k named ≡ false → (f (tables_of old).lends).lends.links k.0 ≡ (tables_of old).lends.links k.0)
+    → ((k : LinkId) → is_at k named ≡ false → IsSome (quit_at k (f (tables_of old).lends).lends) → IsSome (quit_at k (tables_of old).lends))
     → Tells (f (tables_of old).lends) answer old (record mid { lender = lender })
 unfolding tables_of
-tells f named old mid lender answer marked is answer_is leaves = record {
+tells f named old mid lender answer marked is answer_is leaves quits = record {
   answer_is = answer_is ∙ ap (λ (t : Tables). (f t.lends).answer) marked.tables;
-  becomes = lends (λ l. (f l).lends) named old mid lender marked is leaves;
+  becomes = lends (λ l. (f l).lends) named old mid lender marked is leaves quits;
 }
 
 pub failed_tells : (old : Known) (lender : Lender) (answer : Option Answered) → lends_of lender ≡ (open_failed (lends_of old.lender)).lends
     → answer ≡ (open_failed (lends_of old.lender)).answer → Tells (open_failed (tables_of old).lends) answer old (record old { lender = lender })
 failed_tells old lender answer is answer_is = tells open_failed None old old lender answer (unmarked old) is answer_is
-    (λ k off. grind (arith, common_steps))
+    (λ k off. grind (arith, common_steps)) (λ k off. grind (arith, common_steps))
 
 module _ (link : LinkId) (old mid : Known) (lender : Lender) (answer : Option Answered) (marked : Marked (Some link) old mid) where
   pub heard_tells : (piece : List ℕ) → lends_of lender ≡ (heard link piece (lends_of mid.lender)).lends
       → answer ≡ (heard link piece (lends_of mid.lender)).answer → Tells (heard link piece (tables_of old).lends) answer old (record mid { lender = lender })
   heard_tells piece is said = tells (heard link piece) _ old mid lender answer marked is said (λ k off. grind (arith, common_steps))
+      (λ k off. grind (arith, common_steps))
 
   pub lost_tells : lends_of lender ≡ (lost link (lends_of mid.lender)).lends → answer ≡ (lost link (lends_of mid.lender)).answer
       → Tells (lost link (tables_of old).lends) answer old (record mid { lender = lender })
   lost_tells is said = tells (lost link) _ old mid lender answer marked is said (λ k off. grind (arith, common_steps))
+      (λ k off. grind (arith, common_steps))
 
 -- so many bytes of what is left for a server were written
 pub server_took : (link : LinkId) (n : ℕ) (old : Known) (lender : Lender) → MayTake (left_in ((tables_of old).lends.links link.0)) n

@@ -1,31 +1,37 @@
 -- What is to be read and written, and what is asked for, by what the router knows; and what the core makes of what it is told.
 use Rattle.client_session.{specs.Setups.Setup, specs.declared.setup.ServerAt.ServerAt}
 use Rattle.client_talk.specs.{Events.answered, Events.said, Going.Turned, Going.still, Steps.ended, declared.session.Session.Session}
-use Rattle.lend_core.specs.{Events.is_waiting, Events.open_failed, Events.opened, Lends.Told, declared.ask.Answered.Answered}
+use Rattle.lend_core.specs.{Events.is_waiting, Events.open_failed, Events.opened, Events.quits_on, Lends.Lends, Lends.Told, declared.ask.Answered.Answered}
 use Rattle.mx_base.specs.declared.names.Port.TheVariants.{Admin, Traffic}
 use Rattle.mx_base.specs.{Sent.Sent, declared.names.Address.Address, declared.names.ClientNo.ClientNo, declared.names.LinkId.LinkId, declared.names.Port.Port}
 use Rattle.ready_loop.specs.{Changes.ChangesOnly, Machine.Target, declared.machines.Act.Act, declared.machines.Event.Event}
 use Rattle.router_world.specs.World.{closed_by, comes, ended_on, failed_on, got_on, told, wakes, wakes_at, welcomes}
 use Rattle.router_world.specs.{Acts.next_close, Tables.Tables, Tables.with_clock, Tables.with_lends}
 use Rattle.session_core.specs.{declared.known.Known.Known, declared.known.Leaver.Leaver, declared.news.News.News, declared.router.Core.Core}
-use Rattle.std.specs.Prelude.{Bool, List, None, Option, Some, if◌then◌else◌, is_some, nat_eq, nat_lt, true, ℕ, ◌+◌, ◌||◌, ◌≡◌}
+use Rattle.std.specs.Prelude.{Bool, List, None, Option, Some, [], false, if◌then◌else◌, is_some, nat_eq, nat_lt, true, ℕ, ◌+◌, ◌∷◌, ◌||◌, ◌≡◌}
 use Rattle.{session_core.specs.Known.is_changed, session_core.specs.Known.tables_of, std.specs.Option.option_map, std.specs.Option.option_or}
 use Rattle.ready_loop.specs.declared.machines.Act.TheVariants as act
 use Rattle.ready_loop.specs.declared.machines.Event.TheVariants as event
 use Rattle.router_world.specs.Acts as acts
 use Rattle.session_core.specs.declared.news.News.TheVariants as news
 
--- The bytes of a link that is to be closed are its own until the next act.
+-- The bytes of a link that is to be closed are its own until the next act; a QUIT is all that there is for one to a server.
+
+abbrev pub leaver_says : Leaver → Option Sent
+leaver_says leaver = if leaver.quits then Some acts.quit_sent else acts.reply_sent leaver.parting.bytes
 
 abbrev pub farewell : LinkId → Option Leaver → Option Sent
 farewell link None = None
-farewell link (Some leaver) = if nat_eq leaver.parting.link.0 link.0 then acts.reply_sent leaver.parting.bytes else None
+farewell link (Some leaver) = if nat_eq leaver.parting.link.0 link.0 then leaver_says leaver else None
+
+abbrev pub quit_at : LinkId → Lends → Option Sent
+quit_at link lends = if quits_on link lends.closing lends.quit then Some acts.quit_sent else None
 
 abbrev pub known_reads : Known → LinkId → Bool
 known_reads known link = acts.reads (tables_of known) link
 
 abbrev pub known_sends : Known → LinkId → Option Sent
-known_sends known link = option_or (farewell link known.leaver) (acts.sends (tables_of known) link)
+known_sends known link = option_or (farewell link known.leaver) (option_or (quit_at link (tables_of known).lends) (acts.sends (tables_of known) link))
 
 -- this becomes of the tables, and but for the links that may have something new nothing more is to be read or written
 pub record Becomes (next : Tables) (old new : Known) : Type 0 where
@@ -78,11 +84,22 @@ on_event setup (event.Failed link) bytes tables = failed_on setup link (tables.n
 abbrev pub changed : Core → LinkId → Bool
 changed core link = is_changed core.known link
 
--- A close is asked for once.
+-- A close is asked for once; a link to a server stays until the next act, where a QUIT is offered to it.
 
-abbrev pub next_leaver : Option Leaver → Option Leaver
-next_leaver None = None
-next_leaver (Some leaver) = if leaver.is_asked then None else Some (record leaver { is_asked = true })
+abbrev pub quitting : LinkId → Leaver
+quitting link = record { parting = record { link = link; bytes = []; is_client = false }; is_asked = true; quits = true }
+
+abbrev pub quitter : LinkId → (quit : Option LinkId) → Option Leaver
+quitter link None = None
+quitter link (Some quit) = if nat_eq quit.0 link.0 then Some (quitting link) else None
+
+abbrev pub quitter_of : List LinkId → (quit : Option LinkId) → Option Leaver
+quitter_of [] quit = None
+quitter_of (link ∷ later) quit = quitter link quit
+
+abbrev pub next_leaver : Option Leaver → Lends → Option Leaver
+next_leaver None lends = quitter_of lends.closing lends.quit
+next_leaver (Some leaver) lends = if leaver.is_asked then quitter_of lends.closing lends.quit else Some (record leaver { is_asked = true })
 
 -- Links are closed before others are opened, which is done where a client waits and a server is configured.
 
@@ -93,7 +110,7 @@ acting None target waiting = if is_waiting waiting then option_map (λ (at : Ser
 pub record Asked (old new : Core) (result : Option Act) : Type 0 where
   pub is : result ≡ acting (next_close (tables_of old.known)) old.setup.target (tables_of old.known).lends.waiting
   pub tables : tables_of new.known ≡ closed_by (tables_of old.known).parting (tables_of old.known)
-  pub leaver : new.known.leaver ≡ next_leaver old.known.leaver
+  pub leaver : new.known.leaver ≡ next_leaver old.known.leaver (tables_of old.known).lends
   pub changed : new.known.changed ≡ old.known.changed
   pub same : new ≡ record old { known = new.known }
 

@@ -1,15 +1,39 @@
 // What the core asks for.
-use crate::known::Known;
+ghost use Rattle.std.specs.Prelude.{◌≡◌};
+ghost use Rattle.session_core.specs.Says.{quitter};
+
+use crate::known::{Known, Leaver};
 use crate::router::Core;
-use mx_base::LinkId;
+use mx_base::{Bytes, LinkId};
 use ready_loop::Act;
+use router_world::Parting;
+use std::alloc::Global;
+
+// A link to a server stays until the next act, where it is the one to which COM_QUIT is offered.
+fn quitter(alloc: Global, link: LinkId, quit: Option<LinkId>) -> Option<Leaver>
+    ensures { result ≡ quitter link quit }
+{
+    let quit = quit?;
+    if quit.0 != link.0 {
+        return None;
+    }
+    Some(Leaver {
+        parting: Parting {
+            link,
+            bytes: Bytes::new(alloc),
+            is_client: false,
+        },
+        is_asked: true,
+        quits: true,
+    })
+}
 
 impl Known {
     ghost use Rattle.std.specs.Prelude.{◌≡◌, true, None, Some};
     ghost use Rattle.router_world.specs.World.{closed_by};
     ghost use Rattle.router_world.specs.Acts.{next_close};
     ghost use Rattle.session_core.specs.Known.{tables_of};
-    ghost use Rattle.session_core.specs.Says.{next_leaver};
+    ghost use Rattle.session_core.specs.Says.{next_leaver, quitter_of};
 
     // The next link to a server that is to be closed, or else that of a client who has no more time for its login.
     #[tactic(auto, unfolding(crate::specs::Known::tables_of))]
@@ -17,11 +41,15 @@ impl Known {
         requires { self.old.leaver ≡ None }
         ensures link { result ≡ next_close (tables_of self.old) }
         ensures tables { tables_of self.new ≡ closed_by (tables_of self.old).parting (tables_of self.old) }
-        ensures leaver { self.new.leaver ≡ None }
+        ensures leaver { self.new.leaver ≡ quitter_of (tables_of self.old).lends.closing (tables_of self.old).lends.quit }
         ensures changed { self.new.changed ≡ self.old.changed }
     {
+        let quit = self.lender.quit();
         match self.lender.next_close() {
-            Some(link) => Some(link),
+            Some(link) => {
+                self.leaver = quitter(self.alloc, link, quit);
+                Some(link)
+            }
             None => self.next_late(),
         }
     }
@@ -32,7 +60,7 @@ impl Known {
     pub(crate) fn next_close(&mut self) -> Option<LinkId>
         ensures link { result ≡ next_close (tables_of self.old) }
         ensures tables { tables_of self.new ≡ closed_by (tables_of self.old).parting (tables_of self.old) }
-        ensures leaver { self.new.leaver ≡ next_leaver self.old.leaver }
+        ensures leaver { self.new.leaver ≡ next_leaver self.old.leaver (tables_of self.old).lends }
         ensures changed { self.new.changed ≡ self.old.changed }
     {
         if let Some(leaver) = &mut self.leaver {

@@ -13,12 +13,14 @@ use router_world::{Newcomer, Parting, Seat};
 use std::alloc::Global;
 use std::collections::{HashMap, VecDeque};
 
-/// A client's link that is to be closed. It stays here until the next act, so that its bytes can be offered to one write.
+/// A link that is to be closed. It stays here until the next act, so that its bytes can be offered to one write.
 #[derive(Drop)]
 pub struct Leaver {
     pub parting: Parting,
     /// Whether the close was asked for.
     pub is_asked: bool,
+    /// Whether it is one to a server, to which COM_QUIT is offered.
+    pub quits: bool,
 }
 
 /// What the router knows of its clients and of their links.
@@ -35,7 +37,8 @@ pub struct Known {
     pub numbers: HashMap<u64, ClientNo>,
     /// The links to servers, and the commands that go there.
     pub lender: Lender,
-    /// The client's link that is to be closed. There is one at most, since it is closed before another event is told of.
+    /// The client's link that is to be closed. There is one at most, since it is closed before another event is told of. Or one to a
+    /// server whose close was asked for, and to which COM_QUIT is offered.
     pub leaver: Option<Leaver>,
     /// The moment of the last wake, in milliseconds.
     pub moment: u64,
@@ -238,6 +241,7 @@ impl Known {
                 is_client,
             },
             is_asked: false,
+            quits: false,
         });
     }
 
@@ -254,6 +258,7 @@ impl Known {
                 is_client: true,
             },
             is_asked: false,
+            quits: false,
         });
         Ok(())
     }

@@ -1,9 +1,10 @@
 // What is to be read and written on the links.
-ghost use Rattle.std.specs.Prelude.{◌≡◌};
+ghost use Rattle.std.specs.Prelude.{◌≡◌, Some};
 ghost use Rattle.mx_base.specs.Sent.{IsLent};
-ghost use Rattle.router_world.specs.Acts.{reply_sent};
+ghost use Rattle.router_world.specs.Acts.{quit_sent, reply_sent};
+ghost use Rattle.session_core.specs.Says.{leaver_says};
 
-use crate::known::Known;
+use crate::known::{Known, Leaver};
 use client_talk::{is_read, left, taken};
 use mx_base::{ClientNo, LinkId, Piece, Tag};
 use router_world::Seat;
@@ -21,14 +22,36 @@ fn reply(bytes: &[u8]) -> Option<Piece<'_>>
     })
 }
 
+// COM_QUIT, which is offered to a link to a server before it closes (client/server protocol, "COM_QUIT").
+const QUIT: &[u8] = b"\x01\0\0\0\x01";
+
+fn quit() -> Piece<'static>
+    ensures { IsLent (Some result) (Some quit_sent) }
+{
+    Piece {
+        tag: Tag::Own,
+        bytes: QUIT,
+    }
+}
+
+fn leaver_says(leaver: &Leaver) -> Option<Piece<'_>>
+    ensures { IsLent result (leaver_says leaver.now) }
+{
+    if leaver.quits {
+        Some(quit())
+    } else {
+        reply(leaver.parting.bytes.as_slice())
+    }
+}
+
 impl Known {
     ghost use Rattle.std.specs.Prelude.{◌≡◌, []};
     ghost use Rattle.mx_base.specs.Sent.{IsLent, MayTake};
     ghost use Rattle.client_talk.specs.Events.{taken};
     ghost use Rattle.lend_core.specs.Events.{left_in};
-    ghost use Rattle.std.specs.Option.{option_copied};
+    ghost use Rattle.std.specs.Option.{option_copied, option_or};
     ghost use Rattle.session_core.specs.Known.{tables_of};
-    ghost use Rattle.session_core.specs.Says.{farewell, known_reads, known_sends, Becomes};
+    ghost use Rattle.session_core.specs.Says.{farewell, quit_at, known_reads, known_sends, Becomes};
     ghost use Rattle.router_world.specs.Acts.{seat_on, seat_sends, sends};
     ghost use Rattle.router_world.specs.World.{stepped_at, client_took, wrote_on};
     ghost use Rattle.lend_core.specs.Changes.{taken_on};
@@ -91,12 +114,33 @@ impl Known {
         match &self.leaver {
             Some(leaver) => {
                 if leaver.parting.link.0 == link.0 {
-                    reply(leaver.parting.bytes.as_slice())
+                    leaver_says(leaver)
                 } else {
                     None
                 }
             }
             None => None,
+        }
+    }
+
+    // And to one whose close isn't asked for yet.
+    #[tactic(auto, unfolding(crate::specs::Known::tables_of))]
+    fn quit_at(&self, link: LinkId) -> Option<Piece<'_>>
+        ensures { IsLent result (quit_at link (tables_of self.now).lends) }
+    {
+        if self.lender.quits_on(link) {
+            Some(quit())
+        } else {
+            None
+        }
+    }
+
+    fn left_there(&self, link: LinkId) -> Option<Piece<'_>>
+        ensures { IsLent result (option_or (quit_at link (tables_of self.now).lends) (sends (tables_of self.now) link)) }
+    {
+        match self.quit_at(link) {
+            Some(piece) => Some(piece),
+            None => self.left_for(link),
         }
     }
 
@@ -106,7 +150,7 @@ impl Known {
     {
         match self.farewell(link) {
             Some(piece) => Some(piece),
-            None => self.left_for(link),
+            None => self.left_there(link),
         }
     }
 
