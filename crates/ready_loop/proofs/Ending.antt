@@ -9,7 +9,7 @@ use Rattle.mx_base.specs.declared.names.LinkId.{LinkId}
 use Rattle.ready_loop.specs.Drained.{DrainedFor}
 use Rattle.mx_base.specs.Sent.{Sent}
 use Rattle.ready_loop.specs.Machine.{StandsFor}
-use Rattle.ready_loop.specs.Serving.{TracksFor, WokeFor, EndsWith, IsUnwritten, StoodFor, BusyFor, SpentFor, EndsSo, Ends, Breaks}
+use Rattle.ready_loop.specs.Serving.{TracksFor, WokeFor, EndsWith, WantsMemory, StoodFor, BusyFor, SpentFor, EndsSo, Ends, Breaks}
 use Rattle.ready_loop.specs.declared.table.Table.{Table}
 use Rattle.ready_loop.specs.declared.ends.ServeEnd.{ServeEnd}
 use Rattle.ready_loop.specs.declared.ends.ServeEnd.TheVariants as ended
@@ -30,11 +30,11 @@ woke_on table told now e held tells names same = record {
 
 -- Memory was refused by the answer of a call, or after it.
 
-pub stood_before : {M : Type 0} (stands : M → Log → Type 0) (machine : M) (old new : Option Log) (e : Entry) → IsUnwritten e → StandsFor stands machine old → Tells old e new → StoodFor stands new
-stood_before stands machine old new e unwritten held tells = record {
+pub stood_before : {M : Type 0} (stands : M → Log → Type 0) (machine : M) (old new : Option Log) (e : Entry) → WantsMemory e → StandsFor stands machine old → Tells old e new → StoodFor stands new
+stood_before stands machine old new e wants held tells = record {
   holds = λ log is.
       let call = tells.appended log is in
-      record { machine = machine; before = call.0; stood = held.holds call.0 call.1; but = inr (e, unwritten, call.2) };
+      record { machine = machine; before = call.0; stood = held.holds call.0 call.1; but = inr (e, wants, call.2) };
 }
 
 pub stood_now : {M : Type 0} (stands : M → Log → Type 0) (machine : M) (told : Option Log) → StandsFor stands machine told → StoodFor stands told

@@ -12,7 +12,7 @@ use Rattle.ready_loop.specs.Links.{dry_of, dry_step, is_read_dry}
 use Rattle.ready_loop.specs.Machine.{Target, IsToldOf}
 use Rattle.ready_loop.specs.Round.{round_step}
 use Rattle.mx_base.specs.Sent.{Sent}
-use Rattle.ready_loop.specs.Serving.{IsUnwritten, call_of}
+use Rattle.ready_loop.specs.Serving.{IsUnwritten, IsNoListen, WantsMemory, call_of}
 use Rattle.ready_loop.specs.declared.heard.Heard.{Heard}
 use Rattle.ready_loop.specs.declared.links.Links.{Links}
 use Rattle.ready_loop.specs.declared.round.Round.{Round}
@@ -58,6 +58,19 @@ unwritten link into (got.Got n) = tt
 unwritten link into got.NotReady = tt
 unwritten link into got.End = tt
 unwritten link into got.Failed = tt
+
+pub unlistened : (link : LinkId) (into : List ℕ) (g : Got) → IsNoListen (got_entry link into g)
+unlistened link into (got.Got n) = tt
+unlistened link into got.NotReady = tt
+unlistened link into got.End = tt
+unlistened link into got.Failed = tt
+
+-- what is told of may want memory
+pub wants : (link : LinkId) (into : List ℕ) (g : Got) (h : Heard) → heard_of link g ≡ Some h → WantsMemory (got_entry link into g)
+wants link into (got.Got n) h is = tt
+wants link into got.NotReady h is = cc
+wants link into got.End h is = tt
+wants link into got.Failed h is = tt
 
 pub due : {M : Type 0} (reads : M → LinkId → Bool) (sends : M → LinkId → Option Sent) (asks : M → Bool) (machine : M) (log : Log) (link : LinkId) (into : List ℕ) (g : Got) → IsDue reads sends asks machine log (got_entry link into g)
 due reads sends asks machine log link into (got.Got n) = tt

@@ -43,6 +43,45 @@ pub record IsGoing {M : Type 0} (stands : M → Log → Type 0) (reads : M → L
   pub going : is_stopped core ≡ false
   pub acted : asks core ≡ false
 
+-- the calls of a log, without the marks
+abbrev pub is_call : Entry → Bool
+is_call (entry.Exec link) = false
+is_call (entry.Drop link) = false
+is_call _ = true
+
+abbrev pub calls_of : Log → Log
+calls_of log = filter is_call log
+
+-- the log begins by listening at both addresses, traffic first
+abbrev pub IsListening : Address → Address → Log → Type 0
+IsListening traffic admin log = (rest : Log) × (calls_of log ≡ entry.Listening port.Traffic traffic ∷ entry.Listening port.Admin admin ∷ rest)
+
+-- What was listened at before the entry: before any other call both addresses, before the call for the second of them the first, and before the call
+-- for the first nothing. So there is no third call of `listen`.
+abbrev pub ListensBefore : Address → Address → Log → Entry → Type 0
+ListensBefore traffic admin log (entry.Listening port.Traffic address) = (calls_of log ≡ []) × (address ≡ traffic)
+ListensBefore traffic admin log (entry.ListenFailed port.Traffic) = calls_of log ≡ []
+ListensBefore traffic admin log (entry.Listening port.Admin address) = (calls_of log ≡ entry.Listening port.Traffic traffic ∷ []) × (address ≡ admin)
+ListensBefore traffic admin log (entry.ListenFailed port.Admin) = calls_of log ≡ entry.Listening port.Traffic traffic ∷ []
+ListensBefore traffic admin log (entry.Exec link) = Unit {0}
+ListensBefore traffic admin log (entry.Drop link) = Unit {0}
+ListensBefore traffic admin log _ = IsListening traffic admin log
+
+-- the router listened at both addresses, first of all, and at no others
+pub record ListensFirst (traffic admin : Address) (told : Option Log) : Type 0 where
+  pub holds : (log : Log) → told ≡ Some log → AllLawful (ListensBefore traffic admin) log
+
+-- so far so, and it has listened at both
+pub record ListeningFor (traffic admin : Address) (told : Option Log) : Type 0 where
+  pub first : ListensFirst traffic admin told
+  pub done : (log : Log) → told ≡ Some log → IsListening traffic admin log
+
+-- the entry is no answer of `listen`
+abbrev pub IsNoListen : Entry → Type 0
+IsNoListen (entry.Listening at address) = ⊥
+IsNoListen (entry.ListenFailed at) = ⊥
+IsNoListen _ = Unit {0}
+
 -- the log only grows, and failures are only added to
 pub record Advances {W R : Type 0} (told : W → Option Log) (ruled_by : W → R) (port_faults faults : W → ℕ) (old new : W) : Type 0 where
   pub ruled : ruled_by new ≡ ruled_by old
@@ -51,11 +90,19 @@ pub record Advances {W R : Type 0} (told : W → Option Log) (ruled_by : W → R
   pub links_failed : faults old ≤ faults new
 
 -- The wire advances, and the machine serves by what it served by; each write was offered all that is owed.
+pub record Begins {M W R S : Type 0} (service : M → S) (owes : S → Log → LinkId → (piece : List ℕ) → Type 0) (told : W → Option Log) (ruled_by : W → R) (takes : R → Log → LinkId → (piece taken : List ℕ) → Type 0) (port_faults faults : W → ℕ)
+    (core next : M) (old new : W) : Type 0 where
+  pub advances : Advances told ruled_by port_faults faults old new
+  pub serves_by : service next ≡ service core
+  pub offered : HasOffered (owes (service core)) (takes (ruled_by old)) (told old) → HasOffered (owes (service next)) (takes (ruled_by new)) (told new)
+
+-- So it does once it has listened, and it listens nowhere else.
 pub record Proceeds {M W R S : Type 0} (service : M → S) (owes : S → Log → LinkId → (piece : List ℕ) → Type 0) (told : W → Option Log) (ruled_by : W → R) (takes : R → Log → LinkId → (piece taken : List ℕ) → Type 0) (port_faults faults : W → ℕ)
     (core next : M) (old new : W) : Type 0 where
   pub advances : Advances told ruled_by port_faults faults old new
   pub serves_by : service next ≡ service core
   pub offered : HasOffered (owes (service core)) (takes (ruled_by old)) (told old) → HasOffered (owes (service next)) (takes (ruled_by new)) (told new)
+  pub listens : (traffic admin : Address) → ListeningFor traffic admin (told old) → ListeningFor traffic admin (told new)
 
 -- the call of which the entry is the answer, where a wake may owe it
 abbrev pub call_of : Entry → Option Call
@@ -178,12 +225,25 @@ abbrev pub IsUnwritten : Entry → Type 0
 IsUnwritten (entry.Wrote link tag bytes) = ⊥
 IsUnwritten _ = Unit {0}
 
+-- an answer of a call for which memory may be wanted: a wake, a name, a link that came, an open that failed, or what was heard of a link
+abbrev pub WantsMemory : Entry → Type 0
+WantsMemory (entry.Woke until_ms now_ms) = Unit {0}
+WantsMemory (entry.Named link) = Unit {0}
+WantsMemory (entry.Accepted at link salt) = Unit {0}
+WantsMemory (entry.Opened server address link) = Unit {0}
+WantsMemory (entry.OpenFailed server address) = Unit {0}
+WantsMemory (entry.Got link bytes) = Unit {0}
+WantsMemory (entry.Ended link) = Unit {0}
+WantsMemory (entry.ReadFailed link) = Unit {0}
+WantsMemory (entry.WriteFailed link) = Unit {0}
+WantsMemory _ = ⊥
+
 -- A machine stood for the log, but for the call by whose answer memory was refused.
 pub record Stood {M : Type 0} (stands : M → Log → Type 0) (log : Log) : Type 0 where
   pub machine : M
   pub before : Log
   pub stood : stands machine before
-  pub but : (log ≡ before) ⊎ ((e : Entry) × IsUnwritten e × Appends before e log)
+  pub but : (log ≡ before) ⊎ ((e : Entry) × WantsMemory e × Appends before e log)
 
 pub record StoodFor {M : Type 0} (stands : M → Log → Type 0) (told : Option Log) : Type 0 where
   pub holds : (log : Log) → told ≡ Some log → Stood stands log
@@ -215,32 +275,3 @@ pub record HasMade {M W R S A : Type 0} (stands : M → Log → Type 0) (is_stop
   pub wakes : now.wakes ≡ before.wakes
   pub ends : IfErr result (Breaks stands is_stopped now.wakes next (told new) (port_faults old) (port_faults new))
   pub proceeds : Proceeds service owes told ruled_by takes port_faults faults core next old new
-
--- the calls of a log, without the marks
-abbrev pub is_call : Entry → Bool
-is_call (entry.Exec link) = false
-is_call (entry.Drop link) = false
-is_call _ = true
-
-abbrev pub calls_of : Log → Log
-calls_of log = filter is_call log
-
--- the log begins by listening at both addresses, traffic first
-abbrev pub IsListening : Address → Address → Log → Type 0
-IsListening traffic admin log = (rest : Log) × (calls_of log ≡ entry.Listening port.Traffic traffic ∷ entry.Listening port.Admin admin ∷ rest)
-
-pub record ListeningFor (traffic admin : Address) (told : Option Log) : Type 0 where
-  pub holds : (log : Log) → told ≡ Some log → IsListening traffic admin log
-
-abbrev pub IsWait : Entry → Type 0
-IsWait (entry.Woke until_ms now_ms) = Unit {0}
-IsWait entry.WaitFailed = Unit {0}
-IsWait entry.Over = Unit {0}
-IsWait _ = ⊥
-
-abbrev pub ListensBefore : Address → Address → Log → Entry → Type 0
-ListensBefore traffic admin log e = IsWait e → IsListening traffic admin log
-
--- before each wait the loop listened
-pub record ListensFirst (traffic admin : Address) (told : Option Log) : Type 0 where
-  pub holds : (log : Log) → told ≡ Some log → AllLawful (ListensBefore traffic admin) log

@@ -4,7 +4,7 @@ ghost use Rattle.mx_wire.specs.Tells.{Tells};
 ghost use Rattle.mx_wire.specs.declared.entry.Entry.TheVariants as entry;
 ghost use Rattle.ready_loop.specs.Drained.{DrainedFor};
 ghost use Rattle.ready_loop.specs.Links.{is_read_dry, is_write_dry};
-ghost use Rattle.ready_loop.specs.Serving.{Serves, IsGoing, Breaks, Proceeds, HasMade};
+ghost use Rattle.ready_loop.specs.Serving.{Serves, IsGoing, Breaks, Begins, Proceeds, HasMade};
 
 use crate::acts::come;
 use crate::ends::unless_refused;
@@ -30,7 +30,7 @@ pub fn listen_once<M: Machine, W: Wire>(
     ensures round { OnOk result (table.new.round ≡ record table.old.round { calls = table.old.round.calls + 1 }) }
     ensures wakes { table.new.round.wakes ≡ table.old.round.wakes }
     ensures ends { IfErr result (Breaks M.stands M.is_stopped table.new.round.wakes core.now (W.told wire.new) (W.port_faults wire.old) (W.port_faults wire.new)) }
-    ensures proceeds { Proceeds M.serves_by M.owes W.told W.ruled_by W.takes W.port_faults W.faults core.now core.now wire.old wire.new }
+    ensures proceeds { Begins M.serves_by M.owes W.told W.ruled_by W.takes W.port_faults W.faults core.now core.now wire.old wire.new }
 {
     M::quiet();
     table.round.calls += 1;

@@ -7,7 +7,7 @@ ghost use Rattle.ready_loop.specs.Drained.{DrainedFor};
 ghost use Rattle.ready_loop.specs.Links.{mark_of};
 ghost use Rattle.ready_loop.specs.Machine.{StandsFor};
 ghost use Rattle.ready_loop.specs.Round.{CountsOf};
-ghost use Rattle.ready_loop.specs.Serving.{Serves, IsGoing, Breaks, Ends, StoodFor, EndsWith, IsOver, IsPortFault, SpentFor, WokeFor, ListensFirst, ListeningFor, Proceeds, HasMade, IsOwed};
+ghost use Rattle.ready_loop.specs.Serving.{Serves, IsGoing, Breaks, Ends, StoodFor, EndsWith, IsOver, IsPortFault, SpentFor, WokeFor, ListensFirst, ListeningFor, Begins, Proceeds, HasMade, IsOwed};
 
 use crate::acts::do_acts;
 use crate::calls::{accept_once, listen_once, name_once, read_once, wait_once, write_once};
@@ -151,7 +151,7 @@ fn start<M: Machine, W: Wire>(core: &M, wire: &mut W, table: &mut Table) -> Resu
     ensures listening { OnOk result (ListeningFor (M.address_of core.now Port.Traffic) (M.address_of core.now Port.Admin) (W.told wire.new)) }
     ensures listens { OnErr result (ListensFirst (M.address_of core.now Port.Traffic) (M.address_of core.now Port.Admin) (W.told wire.new)) }
     ensures ends { IfErr result (Breaks M.stands M.is_stopped table.new.round.wakes core.now (W.told wire.new) (W.port_faults wire.old) (W.port_faults wire.new)) }
-    ensures proceeds { Proceeds M.serves_by M.owes W.told W.ruled_by W.takes W.port_faults W.faults core.now core.now wire.old wire.new }
+    ensures proceeds { Begins M.serves_by M.owes W.told W.ruled_by W.takes W.port_faults W.faults core.now core.now wire.old wire.new }
 {
     wire.reserve(core.most_links())?;
     listen_once(core, wire, table, Port::Traffic)?;

@@ -33,7 +33,7 @@ pub returns-in-Failed-clause-broke : goal.returns-in-Failed-clause-broke
 returns-in-Failed-clause-broke g c = on_err c.take.result _ (stood_before _ _ _ _ _ tt c.requires.serves.standing c.in-Failed.ensures.told)
 
 pub returns-in-Link-clause-proceeds : goal.returns-in-Link-clause-proceeds
-returns-in-Link-clause-proceeds g c = proceeded _ _ _ _ _ _ _ _ _ _ _ _ c.in-Link.ensures.told tt c.in-Link.ensures.rule c.in-Link.ensures.port_faults c.in-Link.ensures.cause.later c.come.ensures.serves_by
+returns-in-Link-clause-proceeds g c = proceeded _ _ _ _ _ _ _ _ _ _ _ _ c.in-Link.ensures.told tt tt c.in-Link.ensures.rule c.in-Link.ensures.port_faults c.in-Link.ensures.cause.later c.come.ensures.serves_by
 
 pub returns-in-Failed-clause-proceeds : goal.returns-in-Failed-clause-proceeds
-returns-in-Failed-clause-proceeds g c = proceeded _ _ _ _ _ _ _ _ _ _ _ _ c.in-Failed.ensures.told tt c.in-Failed.ensures.rule c.in-Failed.ensures.port_faults c.in-Failed.ensures.cause.later c.take.ensures.serves_by
+returns-in-Failed-clause-proceeds g c = proceeded _ _ _ _ _ _ _ _ _ _ _ _ c.in-Failed.ensures.told tt tt c.in-Failed.ensures.rule c.in-Failed.ensures.port_faults c.in-Failed.ensures.cause.later c.take.ensures.serves_by

@@ -29,7 +29,7 @@ returns-in_default-clause-made g c = record {
   more = search rules;
   wakes = search rules;
   ends = search rules;
-  proceeds = proceeded _ _ _ _ _ _ _ _ _ _ _ _ c.read.ensures.told (hearing.unwritten _ _ c.read.result) c.read.ensures.rule c.read.ensures.port_faults c.read.ensures.cause.later (search rules);
+  proceeds = proceeded _ _ _ _ _ _ _ _ _ _ _ _ c.read.ensures.told (hearing.unwritten _ _ c.read.result) (hearing.unlistened _ _ c.read.result) c.read.ensures.rule c.read.ensures.port_faults c.read.ensures.cause.later (search rules);
 }
 
 pub returns-clause-serves : goal.returns-clause-serves
@@ -46,6 +46,6 @@ returns-clause-made g c = record {
   made_it = record { entry_of = _; tells = c.read.ensures.told; is = hearing.made _ _ c.read.result };
   more = search rules;
   wakes = search rules;
-  ends = refused _ _ _ _ _ _ _ _ c.unless_refused.ensures.err (stood_before _ _ _ _ _ (hearing.unwritten _ _ c.read.result) c.requires.going.serves.standing c.read.ensures.told);
-  proceeds = proceeded _ _ _ _ _ _ _ _ _ _ _ _ c.read.ensures.told (hearing.unwritten _ _ c.read.result) c.read.ensures.rule c.read.ensures.port_faults c.read.ensures.cause.later (search rules);
+  ends = refused _ _ _ _ _ _ _ _ c.unless_refused.ensures.err (stood_before _ _ _ _ _ (hearing.wants _ _ c.read.result _ (sym c.hear.ensures ∙ c.in-Some.is)) c.requires.going.serves.standing c.read.ensures.told);
+  proceeds = proceeded _ _ _ _ _ _ _ _ _ _ _ _ c.read.ensures.told (hearing.unwritten _ _ c.read.result) (hearing.unlistened _ _ c.read.result) c.read.ensures.rule c.read.ensures.port_faults c.read.ensures.cause.later (search rules);
 }
