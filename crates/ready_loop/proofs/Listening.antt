@@ -8,7 +8,7 @@ use Rattle.mx_wire.specs.Moments.{AllLawful, lawful-more}
 use Rattle.mx_wire.specs.Tells.{Tells}
 use Rattle.mx_wire.specs.declared.entry.Entry.{Entry}
 use Rattle.mx_wire.specs.declared.entry.Entry.TheVariants as entry
-use Rattle.ready_loop.specs.Serving.{is_call, calls_of, IsListening, IsNoListen, ListeningFor, ListensBefore, ListensFirst}
+use Rattle.ready_loop.specs.Serving.{is_call, calls_of, IsListening, ListeningFor, ListensBefore, ListensFirst}
 
 calls-append : (xs ys : Log) → calls_of (xs ++ ys) ≡ calls_of xs ++ calls_of ys
 calls-append xs ys = filter-append is_call xs ys
@@ -33,6 +33,12 @@ calls-more before marks log e all call is =
 -- a log that listened goes on so
 listening-on : (traffic admin : Address) (log more : Log) → IsListening traffic admin log → IsListening traffic admin (log ++ more)
 listening-on traffic admin log more was = (was.0 ++ calls_of more, calls-append log more ∙ ap (λ (l : Log). l ++ calls_of more) was.1)
+
+-- the entry is no answer of `listen`
+abbrev pub IsNoListen : Entry → Type 0
+IsNoListen (entry.Listening at address) = ⊥
+IsNoListen (entry.ListenFailed at) = ⊥
+IsNoListen _ = Unit {0}
 
 -- what comes once the loop has listened
 after-listening : (traffic admin : Address) (log : Log) (e : Entry) → IsListening traffic admin log → IsNoListen e → ListensBefore traffic admin log e

@@ -15,8 +15,8 @@ use Rattle.mx_base.specs.declared.piece.Piece.{Piece}
 use Rattle.ready_loop.specs.declared.machines.Act.TheVariants as act
 use Rattle.ready_loop.specs.Machine.{StandsFor, OwesFarewell}
 use Rattle.mx_base.specs.Sent.{IsLent, Sent}
-use Rattle.ready_loop.specs.Serving.{Begins, Proceeds, IsUnwritten, IsNoListen, ListeningFor, OwedFor}
-use Rattle.ready_loop.proofs.Listening.{listens-on}
+use Rattle.ready_loop.specs.Serving.{Begins, Proceeds, ListeningFor, OwedFor}
+use Rattle.ready_loop.proofs.Listening.{IsNoListen, listens-on}
 use Rattle.ready_loop.proofs.Steps.{IsStill, after_marks}
 
 abbrev Owes : Type 1
@@ -26,6 +26,10 @@ abbrev Takes : Type 1
 Takes = Log → LinkId → (piece taken : List ℕ) → Type 0
 
 -- An entry that is no write.
+
+abbrev pub IsUnwritten : Entry → Type 0
+IsUnwritten (entry.Wrote link tag bytes) = ⊥
+IsUnwritten _ = Unit {0}
 
 unwritten-so : (owes : Owes) (takes : Takes) (log : Log) (e : Entry) → IsUnwritten e → Offers owes takes log e
 unwritten-so owes takes log (entry.Wrote link tag bytes) none = absurd none
