@@ -238,15 +238,16 @@ pub record Refuses {M : Type 0} (wanted : M → Log → Entry → Type 0) (machi
   pub follows : MayFollow (before ++ marks) last
   pub is : log ≡ before ++ marks ++ last ∷ []
 
--- A machine stood for the log, but for the call by whose answer memory was refused, which it wanted.
-pub record Stood {M : Type 0} (stands : M → Log → Type 0) (wanted : M → Log → Entry → Type 0) (log : Log) : Type 0 where
+-- A machine that serves by what this one serves by stood for the log, but for the call by whose answer memory was refused, which it wanted.
+pub record Stood {M S : Type 0} (stands : M → Log → Type 0) (wanted : M → Log → Entry → Type 0) (service : M → S) (core : M) (log : Log) : Type 0 where
   pub machine : M
+  pub serves_by : service machine ≡ service core
   pub before : Log
   pub stood : stands machine before
   pub but : (log ≡ before) ⊎ Refuses wanted machine before log
 
-pub record StoodFor {M : Type 0} (stands : M → Log → Type 0) (wanted : M → Log → Entry → Type 0) (told : Option Log) : Type 0 where
-  pub holds : (log : Log) → told ≡ Some log → Stood stands wanted log
+pub record StoodFor {M S : Type 0} (stands : M → Log → Type 0) (wanted : M → Log → Entry → Type 0) (service : M → S) (core : M) (told : Option Log) : Type 0 where
+  pub holds : (log : Log) → told ≡ Some log → Stood stands wanted service core log
 
 -- how the loop ends, and what stands then
 pub record EndsSo {M : Type 0} (stands : M → Log → Type 0) (wakes : ℕ) (core : M) (told : Option Log) (is should : Bool) (last : Option Log → Type 0) : Type 0 where
@@ -255,16 +256,16 @@ pub record EndsSo {M : Type 0} (stands : M → Log → Type 0) (wakes : ℕ) (co
   pub woke : WokeFor wakes told
   pub so : last told
 
-abbrev pub Ends : {M : Type 0} → (M → Log → Type 0) → (M → Log → Entry → Type 0) → (M → Bool) → ℕ → (Option Log → Type 0) → M → Option Log → ServeEnd → Type 0
-Ends stands wanted is_stopped wakes spent core told Stopped = EndsSo stands wakes core told (is_stopped core) true (λ t. Unit {0})
-Ends stands wanted is_stopped wakes spent core told Over = EndsSo stands wakes core told (is_stopped core) false (EndsWith IsOver)
-Ends stands wanted is_stopped wakes spent core told ListenFault = EndsSo stands wakes core told (is_stopped core) false (EndsWith IsPortFault)
-Ends stands wanted is_stopped wakes spent core told TurnsSpent = EndsSo stands wakes core told (is_stopped core) false spent
-Ends stands wanted is_stopped wakes spent core told OutOfMemory = StoodFor stands wanted told
+abbrev pub Ends : {M S : Type 0} → (M → Log → Type 0) → (M → Log → Entry → Type 0) → (M → S) → (M → Bool) → ℕ → (Option Log → Type 0) → M → Option Log → ServeEnd → Type 0
+Ends stands wanted service is_stopped wakes spent core told Stopped = EndsSo stands wakes core told (is_stopped core) true (λ t. Unit {0})
+Ends stands wanted service is_stopped wakes spent core told Over = EndsSo stands wakes core told (is_stopped core) false (EndsWith IsOver)
+Ends stands wanted service is_stopped wakes spent core told ListenFault = EndsSo stands wakes core told (is_stopped core) false (EndsWith IsPortFault)
+Ends stands wanted service is_stopped wakes spent core told TurnsSpent = EndsSo stands wakes core told (is_stopped core) false spent
+Ends stands wanted service is_stopped wakes spent core told OutOfMemory = StoodFor stands wanted service core told
 
 -- how the loop ends, and that a fault of a port has its cause
-pub record Breaks {M : Type 0} (stands : M → Log → Type 0) (wanted : M → Log → Entry → Type 0) (is_stopped : M → Bool) (wakes : ℕ) (core : M) (told : Option Log) (faults_before faults_now : ℕ) (end : ServeEnd) : Type 0 where
-  pub ends : Ends stands wanted is_stopped wakes BusyFor core told end
+pub record Breaks {M S : Type 0} (stands : M → Log → Type 0) (wanted : M → Log → Entry → Type 0) (service : M → S) (is_stopped : M → Bool) (wakes : ℕ) (core : M) (told : Option Log) (faults_before faults_now : ℕ) (end : ServeEnd) : Type 0 where
+  pub ends : Ends stands wanted service is_stopped wakes BusyFor core told end
   pub rose : end ≡ ListenFault → faults_before < faults_now
 
 -- the call was made, and no other, and is counted; the loop goes on, or ends by what the call answered
@@ -273,5 +274,5 @@ pub record HasMade {M W R S A : Type 0} (stands : M → Log → Type 0) (wanted 
   pub made_it : Makes made (told old) (told new)
   pub more : OnOk result (before.calls < now.calls)
   pub wakes : now.wakes ≡ before.wakes
-  pub ends : IfErr result (Breaks stands wanted is_stopped now.wakes next (told new) (port_faults old) (port_faults new))
+  pub ends : IfErr result (Breaks stands wanted service is_stopped now.wakes next (told new) (port_faults old) (port_faults new))
   pub proceeds : Proceeds service owes told ruled_by takes port_faults faults core next old new

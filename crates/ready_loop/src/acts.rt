@@ -50,7 +50,7 @@ fn open_link<M: Machine, W: Wire>(
     ensures serves { OnOk result (Serves M.stands M.reads M.sends M.changed core.new table.new (W.told wire.new)) }
     ensures more { OnOk result (table.old.round.calls < table.new.round.calls) }
     ensures wakes { table.new.round.wakes ≡ table.old.round.wakes }
-    ensures broke { OnErr result (StoodFor M.stands (IsWanted M.reads M.sends M.asks M.until M.awaits) (W.told wire.new)) }
+    ensures broke { OnErr result (StoodFor M.stands (IsWanted M.reads M.sends M.asks M.until M.awaits) M.serves_by core.new (W.told wire.new)) }
     ensures proceeds { Proceeds M.serves_by M.owes W.told W.ruled_by W.takes W.port_faults W.faults core.old core.new wire.old wire.new }
 {
     M::quiet();
@@ -111,7 +111,7 @@ fn act_once<M: Machine, W: Wire>(
     ensures none { IfOk result (λ went. went ≡ false → table.new.round ≡ table.old.round) }
     ensures acted { IfOk result (λ went. went ≡ false → M.asks core.new ≡ false) }
     ensures wakes { table.new.round.wakes ≡ table.old.round.wakes }
-    ensures broke { OnErr result (StoodFor M.stands (IsWanted M.reads M.sends M.asks M.until M.awaits) (W.told wire.new)) }
+    ensures broke { OnErr result (StoodFor M.stands (IsWanted M.reads M.sends M.asks M.until M.awaits) M.serves_by core.new (W.told wire.new)) }
     ensures proceeds { Proceeds M.serves_by M.owes W.told W.ruled_by W.takes W.port_faults W.faults core.old core.new wire.old wire.new }
 {
     M::quiet();
@@ -141,7 +141,7 @@ pub fn do_acts<M: Machine, W: Wire>(
     ensures room { OnOk result (table.new.round.calls < 4294967296) }
     ensures more { OnOk result (table.old.round.calls ≤ table.new.round.calls) }
     ensures wakes { table.new.round.wakes ≡ table.old.round.wakes }
-    ensures ends { IfErr result (Breaks M.stands (IsWanted M.reads M.sends M.asks M.until M.awaits) M.is_stopped table.new.round.wakes core.new (W.told wire.new) (W.port_faults wire.old) (W.port_faults wire.new)) }
+    ensures ends { IfErr result (Breaks M.stands (IsWanted M.reads M.sends M.asks M.until M.awaits) M.serves_by M.is_stopped table.new.round.wakes core.new (W.told wire.new) (W.port_faults wire.old) (W.port_faults wire.new)) }
     ensures proceeds { Proceeds M.serves_by M.owes W.told W.ruled_by W.takes W.port_faults W.faults core.old core.new wire.old wire.new }
 {
     while table.round.calls < CALLS_PER_WAKE {

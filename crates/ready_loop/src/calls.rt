@@ -29,7 +29,7 @@ pub fn listen_once<M: Machine, W: Wire>(
     ensures failed { OnErr result (Tells (W.told wire.old) (entry.ListenFailed port) (W.told wire.new)) }
     ensures round { OnOk result (table.new.round ≡ record table.old.round { calls = table.old.round.calls + 1 }) }
     ensures wakes { table.new.round.wakes ≡ table.old.round.wakes }
-    ensures ends { IfErr result (Breaks M.stands (IsWanted M.reads M.sends M.asks M.until M.awaits) M.is_stopped table.new.round.wakes core.now (W.told wire.new) (W.port_faults wire.old) (W.port_faults wire.new)) }
+    ensures ends { IfErr result (Breaks M.stands (IsWanted M.reads M.sends M.asks M.until M.awaits) M.serves_by M.is_stopped table.new.round.wakes core.now (W.told wire.new) (W.port_faults wire.old) (W.port_faults wire.new)) }
     ensures proceeds { Begins M.serves_by M.owes W.told W.ruled_by W.takes W.port_faults W.faults core.now core.now wire.old wire.new }
 {
     M::quiet();
@@ -53,7 +53,7 @@ pub fn wait_once<M: Machine, W: Wire>(
     ensures calls { OnOk result (table.new.round.calls ≡ 0) }
     ensures wakes { OnOk result (table.new.round.wakes ≡ table.old.round.wakes + 1) }
     ensures slept { OnErr result (table.new.round.wakes ≡ table.old.round.wakes) }
-    ensures ends { IfErr result (Breaks M.stands (IsWanted M.reads M.sends M.asks M.until M.awaits) M.is_stopped table.new.round.wakes core.new (W.told wire.new) (W.port_faults wire.old) (W.port_faults wire.new)) }
+    ensures ends { IfErr result (Breaks M.stands (IsWanted M.reads M.sends M.asks M.until M.awaits) M.serves_by M.is_stopped table.new.round.wakes core.new (W.told wire.new) (W.port_faults wire.old) (W.port_faults wire.new)) }
     ensures proceeds { Proceeds M.serves_by M.owes W.told W.ruled_by W.takes W.port_faults W.faults core.old core.new wire.old wire.new }
 {
     M::quiet();

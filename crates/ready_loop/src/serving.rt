@@ -35,7 +35,7 @@ fn queue_changed<M: Machine, W: Wire>(
     ensures stopped { M.is_stopped core.new ≡ M.is_stopped core.old }
     ensures acted { M.asks core.new ≡ M.asks core.old }
     ensures round { table.new.round ≡ table.old.round }
-    ensures broke { OnErr result (StoodFor M.stands (IsWanted M.reads M.sends M.asks M.until M.awaits) (W.told wire.now)) }
+    ensures broke { OnErr result (StoodFor M.stands (IsWanted M.reads M.sends M.asks M.until M.awaits) M.serves_by core.new (W.told wire.now)) }
     ensures serves_by { M.serves_by core.new ≡ M.serves_by core.old }
 {
     while let Some(link) = core.next_changed() {
@@ -56,7 +56,7 @@ fn follow<M: Machine, W: Wire>(
     ensures room { OnOk result (table.new.round.calls < 4294967296) }
     ensures more { OnOk result (table.old.round.calls ≤ table.new.round.calls) }
     ensures wakes { table.new.round.wakes ≡ table.old.round.wakes }
-    ensures ends { IfErr result (Breaks M.stands (IsWanted M.reads M.sends M.asks M.until M.awaits) M.is_stopped table.new.round.wakes core.new (W.told wire.new) (W.port_faults wire.old) (W.port_faults wire.new)) }
+    ensures ends { IfErr result (Breaks M.stands (IsWanted M.reads M.sends M.asks M.until M.awaits) M.serves_by M.is_stopped table.new.round.wakes core.new (W.told wire.new) (W.port_faults wire.old) (W.port_faults wire.new)) }
     ensures proceeds { Proceeds M.serves_by M.owes W.told W.ruled_by W.takes W.port_faults W.faults core.old core.new wire.old wire.new }
 {
     do_acts(core, wire, table)?;
@@ -100,7 +100,7 @@ fn settle<M: Machine, W: Wire>(
     ensures going { OnOk result (IsGoing M.stands M.reads M.sends M.changed M.is_stopped M.asks core.new table.new (W.told wire.new)) }
     ensures drained { OnOk result (DrainedFor (M.reads core.new) (M.sends core.new) (W.told wire.new)) }
     ensures wakes { table.new.round.wakes ≡ table.old.round.wakes }
-    ensures ends { IfErr result (Breaks M.stands (IsWanted M.reads M.sends M.asks M.until M.awaits) M.is_stopped table.new.round.wakes core.new (W.told wire.new) (W.port_faults wire.old) (W.port_faults wire.new)) }
+    ensures ends { IfErr result (Breaks M.stands (IsWanted M.reads M.sends M.asks M.until M.awaits) M.serves_by M.is_stopped table.new.round.wakes core.new (W.told wire.new) (W.port_faults wire.old) (W.port_faults wire.new)) }
     ensures proceeds { Proceeds M.serves_by M.owes W.told W.ruled_by W.takes W.port_faults W.faults core.old core.new wire.old wire.new }
 {
     loop {
@@ -122,7 +122,7 @@ fn serve_turns<M: Machine, W: Wire>(
     requires whole { length buffer.old ≡ 65536 }
     requires wakes { table.old.round.wakes ≡ 0 }
     requires serves { Serves M.stands M.reads M.sends M.changed core.old table.old (W.told wire.old) }
-    ensures ends { Ends M.stands (IsWanted M.reads M.sends M.asks M.until M.awaits) M.is_stopped turns (SpentFor turns (M.reads core.new) (M.sends core.new)) core.new (W.told wire.new) result }
+    ensures ends { Ends M.stands (IsWanted M.reads M.sends M.asks M.until M.awaits) M.serves_by M.is_stopped turns (SpentFor turns (M.reads core.new) (M.sends core.new)) core.new (W.told wire.new) result }
     ensures rose { result ≡ ServeEnd.ListenFault → W.port_faults wire.old < W.port_faults wire.new }
     ensures proceeds { Proceeds M.serves_by M.owes W.told W.ruled_by W.takes W.port_faults W.faults core.old core.new wire.old wire.new }
 {
@@ -150,7 +150,7 @@ fn start<M: Machine, W: Wire>(core: &M, wire: &mut W, table: &mut Table) -> Resu
     ensures wakes { table.new.round.wakes ≡ table.old.round.wakes }
     ensures listening { OnOk result (ListeningFor (M.address_of core.now Port.Traffic) (M.address_of core.now Port.Admin) (W.told wire.new)) }
     ensures listens { OnErr result (ListensFirst (M.address_of core.now Port.Traffic) (M.address_of core.now Port.Admin) (W.told wire.new)) }
-    ensures ends { IfErr result (Breaks M.stands (IsWanted M.reads M.sends M.asks M.until M.awaits) M.is_stopped table.new.round.wakes core.now (W.told wire.new) (W.port_faults wire.old) (W.port_faults wire.new)) }
+    ensures ends { IfErr result (Breaks M.stands (IsWanted M.reads M.sends M.asks M.until M.awaits) M.serves_by M.is_stopped table.new.round.wakes core.now (W.told wire.new) (W.port_faults wire.old) (W.port_faults wire.new)) }
     ensures proceeds { Begins M.serves_by M.owes W.told W.ruled_by W.takes W.port_faults W.faults core.now core.now wire.old wire.new }
 {
     wire.reserve(core.most_links())?;
@@ -189,7 +189,7 @@ pub fn serve<M: Machine, W: Wire>(alloc: Global, core: &mut M, wire: &mut W, tur
     requires stands { StandsFor M.stands core.old (W.told wire.old) }
     requires going { M.is_stopped core.old ≡ false }
     ensures stands { result ≢ ServeEnd.OutOfMemory → StandsFor M.stands core.new (W.told wire.new) }
-    ensures broke { result ≡ ServeEnd.OutOfMemory → StoodFor M.stands (IsWanted M.reads M.sends M.asks M.until M.awaits) (W.told wire.new) }
+    ensures broke { result ≡ ServeEnd.OutOfMemory → StoodFor M.stands (IsWanted M.reads M.sends M.asks M.until M.awaits) M.serves_by core.new (W.told wire.new) }
     ensures stopped { result ≡ ServeEnd.Stopped → M.is_stopped core.new ≡ true }
     ensures going { result ≢ ServeEnd.Stopped → result ≢ ServeEnd.OutOfMemory → M.is_stopped core.new ≡ false }
     ensures over { result ≡ ServeEnd.Over → EndsWith IsOver (W.told wire.new) }

@@ -1,4 +1,4 @@
-use Rattle.std.proofs.Common.{rules, refl, ap, ◌∙◌}
+use Rattle.std.proofs.Common.{rules, refl, ap, ◌∙◌, sym}
 use Rattle.ready_loop.proofs.Offering.{proceeded}
 use Rattle.ready_loop.proofs.Steps.{goes_on, stays}
 use Rattle.ready_loop.proofs.Counting.{unnamed, named}
@@ -25,7 +25,7 @@ returns-in-Link-clause-made g c = record {
   made_it = search rules;
   more = search rules;
   wakes = search rules;
-  ends = refused _ _ _ _ _ _ _ _ _ c.unless_refused.ensures.err (stood_before _ _ _ _ _ _ (λ log marks is all. c.requires.going.acted) c.requires.going.serves.standing c.in-Link.ensures.told);
+  ends = refused _ _ _ _ _ _ _ _ _ _ c.unless_refused.ensures.err (stood_before _ _ _ _ _ _ _ _ (λ log marks is all. c.requires.going.acted) c.requires.going.serves.standing c.in-Link.ensures.told (sym c.come.ensures.serves_by));
   proceeds = proceeded _ _ _ _ _ _ _ _ _ _ _ _ c.in-Link.ensures.told tt tt c.in-Link.ensures.rule c.in-Link.ensures.cause.later c.in-Link.ensures.faults (search rules);
 }
 

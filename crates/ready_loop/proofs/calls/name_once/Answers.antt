@@ -26,7 +26,7 @@ returns-in-Some-clause-made g c = record {
   made_it = search rules;
   more = search rules;
   wakes = search rules;
-  ends = refused _ _ _ _ _ _ _ _ _ c.unless_refused.ensures.err (stood_before _ _ _ _ _ _ (λ log marks is all. tt) c.requires.going.serves.standing c.in-Some.ensures.told);
+  ends = refused _ _ _ _ _ _ _ _ _ _ c.unless_refused.ensures.err (stood_before _ _ _ _ _ _ _ _ (λ log marks is all. tt) c.requires.going.serves.standing c.in-Some.ensures.told refl);
   proceeds = proceeded _ _ _ _ _ _ _ _ _ _ _ _ c.in-Some.ensures.told tt tt c.in-Some.ensures.rule c.in-Some.ensures.port_faults c.in-Some.ensures.faults (search rules);
 }
 

@@ -46,6 +46,6 @@ returns-clause-made g c = record {
   made_it = record { entry_of = _; tells = c.read-got.ensures.told; is = hearing.made _ _ c.read-got.result };
   more = search rules;
   wakes = search rules;
-  ends = refused _ _ _ _ _ _ _ _ _ c.unless_refused.ensures.err (stood_before _ _ _ _ _ _ (λ log marks is all. hearing.wanted g.M.Machine.reads g.M.Machine.sends g.M.Machine.asks g.M.Machine.until g.M.Machine.awaits c.args.core.now (log ++ marks) _ _ c.read-got.result _ c.requires.going.acted c.are_bytes.ensures (sym c.hear.ensures ∙ c.in-Some.is)) c.requires.going.serves.standing c.read-got.ensures.told);
+  ends = refused _ _ _ _ _ _ _ _ _ _ c.unless_refused.ensures.err (stood_before _ _ _ _ _ _ _ _ (λ log marks is all. hearing.wanted g.M.Machine.reads g.M.Machine.sends g.M.Machine.asks g.M.Machine.until g.M.Machine.awaits c.args.core.now (log ++ marks) _ _ c.read-got.result _ c.requires.going.acted c.are_bytes.ensures (sym c.hear.ensures ∙ c.in-Some.is)) c.requires.going.serves.standing c.read-got.ensures.told (sym c.take.ensures.serves_by));
   proceeds = proceeded _ _ _ _ _ _ _ _ _ _ _ _ c.read-got.ensures.told (hearing.unwritten _ _ c.read-got.result) (hearing.unlistened _ _ c.read-got.result) c.read-got.ensures.rule c.read-got.ensures.port_faults c.read-got.ensures.cause.later (search rules);
 }

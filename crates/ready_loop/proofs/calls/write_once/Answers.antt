@@ -1,5 +1,5 @@
 use Rattle.ready_loop.proofs.Ending.{stood_before, refused, both, on_ok}
-use Rattle.std.proofs.Common.{rules, refl, inr}
+use Rattle.std.proofs.Common.{rules, refl, inr, sym}
 use Rattle.ready_loop.proofs.Offering.{owed-for, proceeded, proceeds-so, write-offers}
 use Rattle.ready_loop.proofs.Steps.{goes_on, stays, written, may_take}
 use Rattle.ready_loop.proofs.Counting.{named}
@@ -41,7 +41,7 @@ returns-in-Failed-clause-made g c = record {
   made_it = search rules;
   more = search rules;
   wakes = search rules;
-  ends = refused _ _ _ _ _ _ _ _ _ c.unless_refused.ensures.err (stood_before _ _ _ _ _ _ (λ log marks is all. c.requires.going.acted) c.requires.going.serves.standing c.in-Failed.ensures.told);
+  ends = refused _ _ _ _ _ _ _ _ _ _ c.unless_refused.ensures.err (stood_before _ _ _ _ _ _ _ _ (λ log marks is all. c.requires.going.acted) c.requires.going.serves.standing c.in-Failed.ensures.told (sym c.take.ensures.serves_by));
   proceeds = proceeded _ _ _ _ _ _ _ _ _ _ _ _ c.in-Failed.ensures.told tt tt c.in-Failed.ensures.rule c.in-Failed.ensures.port_faults c.in-Failed.ensures.cause.later (search rules);
 }
 

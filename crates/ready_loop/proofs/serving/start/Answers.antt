@@ -5,7 +5,7 @@ use Rattle.ready_loop.proofs.Listening.{both-done, first-failed, second-failed}
 use Rattle.ready_loop.proofs.serving.start.Goals as goal
 
 pub returns-in_err-reserve-clause-ends : goal.returns-in_err-reserve-clause-ends
-returns-in_err-reserve-clause-ends g c = broke _ _ _ _ _ _ _ _ _ c.from_residual.ensures.1 (rw c.reserve.ensures.told (stood_now _ _ _ _ c.requires.serves.standing))
+returns-in_err-reserve-clause-ends g c = broke _ _ _ _ _ _ _ _ _ _ c.from_residual.ensures.1 (rw c.reserve.ensures.told (stood_now _ _ _ _ _ c.requires.serves.standing))
 
 pub returns-in_err-listen_once-clause-listens : goal.returns-in_err-listen_once-clause-listens
 returns-in_err-listen_once-clause-listens g c =
