@@ -3,12 +3,12 @@ use Rattle.mx_wire.specs.Outside.{HasUnder, Takes, TakesFront}
 use Rattle.std.specs.Prelude.{Bool, Err, List, None, Ok, Option, Some, [], ℕ, ◌++◌, ◌<◌, ◌∷◌, ◌≡◌, ◌≤◌}
 use Rattle.mem_wire.{specs.Play.IsPlay, specs.Told.Played}
 use Rattle.mx_config.{specs.Reading.reading_of, specs.Values.Agrees, specs.declared.config.Config.Config, specs.declared.fault.ConfigFault.ConfigFault}
-use Rattle.mx_wire.{specs.Log.Log, specs.declared.entry.Entry.TheVariants.Over}
+use Rattle.mx_wire.{specs.Log.Log, specs.Moments.AllLawful, specs.Tells.Fits, specs.declared.entry.Entry.TheVariants.Over}
 use Rattle.promises.{specs.Replay.KeepsSized, specs.Replay.ReplaysTo}
 use Rattle.proxy_run.{specs.Words.Named, specs.Words.replay_words, specs.declared.stop.Stop.Stop}
 use Rattle.recording.{specs.Recording.recording_of, specs.Transcript.transcript_of, specs.declared.entry.RecordEntry.RecordEntry}
 use Rattle.recording.{specs.declared.fault.RecordFault.RecordFault}
-use Rattle.{client_session.specs.Setups.Setup, ready_loop.specs.Round.calls_since_wake, session_core.specs.Cores.setup_of}
+use Rattle.{ready_loop.specs.Round.calls_since_wake, ready_loop.specs.Serving.ListensBefore, session_core.specs.Cores.setup_of}
 use Rattle.proxy_run.specs.declared.stop.Stop.TheVariants as stop
 
 -- names with their bytes, where they are told
@@ -44,22 +44,30 @@ pub record IsFaulty (name : List ℕ) (held : Held) (fault : RecordFault) : Type
   pub under : HasUnder name bytes held
   pub said : recording_of bytes ≡ Err fault
 
+-- A log of a run by the configuration: it fits its wire, so that moments never fall, no two links have one number, and calls name open links
+-- alone; and the router listened at both addresses of the configuration before any other call, and at no others.
+pub record IsRunBy (config : Config) (log : Log) : Type 0 where
+  pub fits : AllLawful Fits log
+  pub listens : AllLawful (ListensBefore config.proxy.listen config.proxy.admin_listen) log
+
 -- The promises are kept by one service, and each read and write took as much as it could. The last wait came at rest, after which the wire has
 -- nothing more.
-pub record ServesToEnd (setup : Setup) (entries : List RecordEntry) (log : Log) : Type 0 where
-  pub keeps : KeepsSized setup entries log
+pub record ServesToEnd (config : Config) (entries : List RecordEntry) (log : Log) : Type 0 where
+  pub run : IsRunBy config log
+  pub keeps : KeepsSized (setup_of config) entries log
   pub before : Log
   pub over : log ≡ before ++ Over ∷ []
 
 -- what a tape tells that has played these entries
-pub record HasPlayed (setup : Setup) (entries : List RecordEntry) (tape : Played) : Type 0 where
+pub record HasPlayed (config : Config) (entries : List RecordEntry) (tape : Played) : Type 0 where
   pub plays : (log : Log) → IsPlay tape.recording log → IsPlay entries log
-  pub serves : (log : Log) → tape.told ≡ Some log → IsPlay entries log → ServesToEnd setup entries log
+  pub serves : (log : Log) → tape.told ≡ Some log → IsPlay entries log → ServesToEnd config entries log
 
 -- a play of which the same holds, in which one wake took as many calls as it may
-pub record IsSpent (setup : Setup) (entries : List RecordEntry) (log : Log) : Type 0 where
+pub record IsSpent (config : Config) (entries : List RecordEntry) (log : Log) : Type 0 where
   pub play : IsPlay entries log
-  pub keeps : KeepsSized setup entries log
+  pub run : IsRunBy config log
+  pub keeps : KeepsSized (setup_of config) entries log
   pub spent : 4294967296 ≤ calls_since_wake log
 
 abbrev pub ConfigStops : Stop → List ℕ → Held → (before now : ℕ) → Type 0
@@ -74,10 +82,10 @@ ReadStops (stop.BadRecording fault) name held before now = IsFaulty name held fa
 ReadStops stop.OutOfMemory name held before now = Unit {0}
 ReadStops _ name held before now = ⊥
 
-abbrev pub PlayStops : Stop → Setup → List RecordEntry → Type 0
-PlayStops stop.OutOfMemory setup entries = Unit {0}
-PlayStops stop.TurnsSpent setup entries = (log : Log) × IsSpent setup entries log
-PlayStops _ setup entries = ⊥
+abbrev pub PlayStops : Stop → Config → List RecordEntry → Type 0
+PlayStops stop.OutOfMemory config entries = Unit {0}
+PlayStops stop.TurnsSpent config entries = (log : Log) × IsSpent config entries log
+PlayStops _ config entries = ⊥
 
 -- the transcript of the log is put
 pub record Puts (tape : Played) (old new : Option (List ℕ)) : Type 0 where
@@ -111,6 +119,7 @@ pub record IsReplay (words : List (List ℕ)) (held : Held) (log : Log) : Type 0
   pub configured : IsConfigured names.config held
   pub entries : List RecordEntry
   pub under : IsUnder names.recording held entries
+  pub run : IsRunBy configured.config log
   pub replays : ReplaysTo (setup_of configured.config) entries log
 
 -- and the transcript of that log is put
@@ -144,7 +153,7 @@ pub record RanOut (words : List (List ℕ)) (held : Held) : Type 0 where
   pub entries : List RecordEntry
   pub under : IsUnder names.recording held entries
   pub log : Log
-  pub spent : IsSpent (setup_of configured.config) entries log
+  pub spent : IsSpent configured.config entries log
 
 pub record IsUnread (words : List (List ℕ)) (before now : ℕ) : Type 0 where
   pub names : Named

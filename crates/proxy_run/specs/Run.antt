@@ -10,7 +10,7 @@ use Rattle.proxy_run.specs.declared.stop.Stop.TheVariants as stop
 use Rattle.ready_loop.specs.Serving.{EndsWith, IsOver, IsPortFault}
 use Rattle.proxy_run.specs.Words.{Named, replay_words, serve_words, text_words}
 use Rattle.proxy_run.specs.Replay.{Held, IsMisconfigured, Replayed, ReplayedInPart, IsUnconfigured, IsRefused, RanOut, IsUnread}
-use Rattle.proxy_run.specs.Serve.{Served, IsWornOut}
+use Rattle.proxy_run.specs.Serve.{Served, ServedUntil, IsUntouched, IsWornOut}
 
 -- a front of the line was put, and the sink failed
 pub record FailsAt (line : List ℕ) (old : Option (List ℕ)) (before : ℕ) (new : Option (List ℕ)) (now : ℕ) : Type 0 where
@@ -38,10 +38,6 @@ table_name table =
 
 unfoldable pub config_line : ConfigFault → List ℕ
 config_line fault = codes "config: " ++ (decimal fault.kind ++ (codes " " ++ (table_name fault.table ++ (codes " " ++ (decimal fault.row ++ (codes " " ++ (fault.key ++ codes "\n")))))))
-
--- a wire that tells its log tells of no call
-pub record IsUntouched (told : Option Log) : Type 0 where
-  pub empty : (log : Log) → told ≡ Some log → log ≡ []
 
 -- nothing is said
 pub record Silent (old : Option (List ℕ)) (before : ℕ) (new : Option (List ℕ)) (now : ℕ) : Type 0 where
@@ -79,7 +75,7 @@ pub data ServeOutcome (name : List ℕ) (held : Held) (read_before read_now : �
   ServedOut : Served name held (EndsWith IsOver) told → Silent old before new now → ServeOutcome name held read_before read_now told ports_before ports_now old before new now 0
   Misconfigured : (fault : ConfigFault) → IsMisconfigured name held fault → Says (config_line fault) old before new now → ServeOutcome name held read_before read_now told ports_before ports_now old before new now 1
   NotRead : read_before < read_now → Says (codes "read fault\n") old before new now → ServeOutcome name held read_before read_now told ports_before ports_now old before new now 3
-  RefusedMemory : Says (codes "out of memory\n") old before new now → ServeOutcome name held read_before read_now told ports_before ports_now old before new now 5
+  RefusedMemory : ServedUntil name held told → Says (codes "out of memory\n") old before new now → ServeOutcome name held read_before read_now told ports_before ports_now old before new now 5
   PortFailed : Served name held (EndsWith IsPortFault) told → ports_before < ports_now → Says (codes "listen fault\n") old before new now → ServeOutcome name held read_before read_now told ports_before ports_now old before new now 6
   WornOut : Served name held IsWornOut told → Says (codes "turns spent\n") old before new now → ServeOutcome name held read_before read_now told ports_before ports_now old before new now 8
 
@@ -103,3 +99,9 @@ OutcomeBy None words held read_before read_now told ports_before ports_now old b
 
 abbrev pub Outcome : List (List ℕ) → Held → (read_before read_now : ℕ) → Option Log → (ports_before ports_now : ℕ) → Option (List ℕ) → ℕ → Option (List ℕ) → ℕ → ℕ → Type 0
 Outcome words held read_before read_now told ports_before ports_now old before new now status = OutcomeBy (text_words words) words held read_before read_now told ports_before ports_now old before new now status
+
+-- The wire that was handed in is left as it was, by words that don't ask for serving, and where the configuration can't be read or is refused.
+pub record LeavesWire {W : Type 0} (served : Option (List ℕ)) (status : ℕ) (old new : W) : Type 0 where
+  pub unasked : served ≡ None → new ≡ old
+  pub unconfigured : status ≡ 1 → new ≡ old
+  pub unread : status ≡ 3 → new ≡ old

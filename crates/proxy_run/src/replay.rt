@@ -3,7 +3,6 @@ ghost use Rattle.std.specs.Prelude.{◌≡◌, ◌≤◌, OnOk, IfOk, IfErr};
 ghost use Rattle.recording.specs.Playable.{IsPlayable};
 ghost use Rattle.mx_config.specs.Lawful.{IsLawful};
 ghost use Rattle.proxy_run.specs.Words.{texts};
-ghost use Rattle.session_core.specs.Cores.{setup_of};
 ghost use Rattle.proxy_run.specs.Replay.{Configures, ConfigStops, IsUnder, HasPlayed, ReadStops, PlayStops, PutStops, Puts, Replayed, Stops};
 
 use crate::stop::Stop;
@@ -58,8 +57,8 @@ fn read<F: Files>(alloc: Global, name: &str, files: &mut F) -> Result<Vec<Record
 fn play(alloc: Global, config: &Config, entries: Vec<RecordEntry>) -> Result<Tape, Stop>
     requires playable { IsPlayable entries.items }
     requires lawful { IsLawful config.now }
-    ensures ok { IfOk result (λ tape. HasPlayed (setup_of config.now) entries.items tape) }
-    ensures err { IfErr result (λ stop. PlayStops stop (setup_of config.now) entries.items) }
+    ensures ok { IfOk result (λ tape. HasPlayed config.now entries.items tape) }
+    ensures err { IfErr result (λ stop. PlayStops stop config.now entries.items) }
 {
     let turns = 2 * entries.len() as u64 + 16;
     let mut core = Core::new(alloc, config)?;

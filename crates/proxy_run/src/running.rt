@@ -1,9 +1,9 @@
 // The call that `main` makes.
-ghost use Rattle.std.specs.Prelude.{◌≡◌, ◌≢◌, ◌↔◌, [], Option, Some, None, IfOk};
+ghost use Rattle.std.specs.Prelude.{◌≡◌, ◌≢◌, ◌↔◌, [], Option, Some, None, IsSome, IfOk};
 ghost use Rattle.mx_wire.specs.Log.{Log};
 ghost use Rattle.std.specs.Option.{option_map};
 ghost use Rattle.proxy_run.specs.Words.{texts, replay_words, serve_words, text_word, text_words, IsNoCommand, IsUnknown};
-ghost use Rattle.proxy_run.specs.Run.{Says, Told, TextPut, ServeOutcome, ReplayOutcome, Outcome, OutcomeOf, table_name, config_line};
+ghost use Rattle.proxy_run.specs.Run.{Says, Told, TextPut, ServeOutcome, ReplayOutcome, Outcome, OutcomeOf, LeavesWire, table_name, config_line};
 
 use crate::replay::replay;
 use crate::serving::serve_by;
@@ -152,6 +152,8 @@ fn run_serve<W: Wire, F: Files, O: Sink>(
 ) -> Status
     requires fresh { (log : Log) → W.told wire.old ≡ Some log → log ≡ [] }
     ensures outcome { ServeOutcome name.now (F.held files.old) (F.faults files.old) (F.faults files.new) (W.told wire.new) (W.port_faults wire.old) (W.port_faults wire.new) (O.taken out.old) (O.faults out.old) (O.taken out.new) (O.faults out.new) result.0 }
+    ensures unconfigured { result.0 ≡ 1 → wire.new ≡ wire.old }
+    ensures unread { result.0 ≡ 3 → wire.new ≡ wire.old }
     ensures usage { result.0 ≢ 2 }
 {
     match serve_by(alloc, name, files, wire) {
@@ -186,6 +188,7 @@ fn run_command<W: Wire, F: Files, O: Sink>(
 ) -> Status
     requires fresh { (log : Log) → W.told wire.old ≡ Some log → log ≡ [] }
     ensures outcome { OutcomeOf (serve_words (texts words.now)) (texts words.now) (F.held files.old) (F.faults files.old) (F.faults files.new) (W.told wire.new) (W.port_faults wire.old) (W.port_faults wire.new) (O.taken out.old) (O.faults out.old) (O.taken out.new) (O.faults out.new) result.0 }
+    ensures wire { LeavesWire (serve_words (texts words.now)) result.0 wire.old wire.new }
     ensures usage { (result.0 ≡ 2) ↔ IsUnknown (texts words.now) }
 {
     match serve_words(words) {
@@ -198,6 +201,15 @@ fn run_command<W: Wire, F: Files, O: Sink>(
 /// serves by it over the wire, until that has nothing more. `replay <config> <recording>` judges a configuration, then replays a
 /// recording over a wire of its own, and puts the transcript of its log. `--help` and `--version` put these texts, and touch nothing else.
 ///
+/// The wire that is handed in is for `serve` alone: any other words leave it as it was, and so does a configuration that can't be read or is
+/// refused. `serve` and a replay listen at both addresses of the configuration, that for clients first, before any other call of their wire,
+/// and at no others. Their logs fit the wire: moments never fall, no two links have one number, and calls name open links alone.
+/// docs/PROMISES.md says what else is so of these logs.
+///
+/// This is said of every wire, files and sink as far as they tell what they answered, hold and took, and those of the shipped program
+/// (`MioWire`, `DiskFiles`, `StandardOut`) tell nothing: of them it says which words have which statuses, that the causes of 3, 4 and 6 are
+/// counted, and that a wire is left as it was.
+///
 /// | Status | Comes | Line |
 /// |---|---|---|
 /// | 0 | the wire had nothing more; of a replay the transcript was put; the text that was asked for was put | none |
@@ -205,7 +217,7 @@ fn run_command<W: Wire, F: Files, O: Sink>(
 /// | 2 | exactly where the words are no command | the usage |
 /// | 3 | only where a read failed | `read fault` |
 /// | 4 | only where the sink failed, in a replay or with a text that was asked for | none |
-/// | 5 | memory was refused | `out of memory` |
+/// | 5 | memory was refused. In `serve` what is so of a log is so up to the call, with its answer, by which it was refused | `out of memory` |
 /// | 6 | only where a port or a wait failed, in `serve` | `listen fault` |
 /// | 7 | only where the recording is refused | `recording: line <line> kind <kind>` |
 /// | 8 | only where one wake made 4,294,967,296 calls of the wire, or `serve` woke 4,611,686,018,427,387,904 times | `turns spent` |
@@ -219,6 +231,8 @@ pub fn run<R: Threads + Sync, W: Wire, F: Files, O: Sink>(
 ) -> Status
     requires fresh { (log : Log) → W.told wire.old ≡ Some log → log ≡ [] }
     ensures outcome { Outcome (texts words.now) (F.held files.old) (F.faults files.old) (F.faults files.new) (W.told wire.new) (W.port_faults wire.old) (W.port_faults wire.new) (O.taken out.old) (O.faults out.old) (O.taken out.new) (O.faults out.new) result.0 }
+    ensures wire { LeavesWire (serve_words (texts words.now)) result.0 wire.old wire.new }
+    ensures files { IsSome (text_words (texts words.now)) → files.new ≡ files.old }
     ensures usage { (result.0 ≡ 2) ↔ IsNoCommand (texts words.now) }
 {
     match text_words(words) {

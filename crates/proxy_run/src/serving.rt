@@ -2,7 +2,7 @@
 ghost use Rattle.std.specs.Prelude.{◌≡◌, ◌<◌, [], Some, OnOk, IfErr};
 ghost use Rattle.mx_config.specs.Lawful.{IsLawful};
 ghost use Rattle.mx_wire.specs.Log.{Log};
-ghost use Rattle.proxy_run.specs.Serve.{Attended, AttendStops, Served, ServeStops};
+ghost use Rattle.proxy_run.specs.Serve.{Attended, AttendStops, IsEarly, Served, ServeStops};
 ghost use Rattle.ready_loop.specs.Serving.{EndsWith, IsOver};
 
 use crate::replay::configure;
@@ -44,6 +44,7 @@ pub fn serve_by<F: Files, W: Wire>(
 ) -> Result<(), Stop>
     requires fresh { (log : Log) → W.told wire.old ≡ Some log → log ≡ [] }
     ensures ok { OnOk result (Served name.now (F.held files.old) (EndsWith IsOver) (W.told wire.new)) }
+    ensures untouched { IfErr result (λ stop. IsEarly stop → wire.new ≡ wire.old) }
     ensures err { IfErr result (λ stop. ServeStops stop name.now (F.held files.old) (F.faults files.old) (F.faults files.new) (W.told wire.new) (W.port_faults wire.old) (W.port_faults wire.new)) }
 {
     let config = configure(alloc, name, files)?;

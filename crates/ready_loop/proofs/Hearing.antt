@@ -1,5 +1,5 @@
 -- What a machine is told of a read.
-use Rattle.std.proofs.Common.{◌≡◌, ℕ, ◌+◌, Bool, false, List, Option, Some, None, take, refl, subst, inl}
+use Rattle.std.proofs.Common.{◌≡◌, ℕ, zero, suc, ◌+◌, Bool, false, List, [], ◌∷◌, Option, Some, None, take, arith, refl, subst, inl}
 use Rattle.mx_base.specs.declared.names.LinkId.{LinkId}
 use Rattle.mx_wire.specs.Log.{Log, link_of}
 use Rattle.mx_wire.specs.Answers.{got_entry}
@@ -11,12 +11,15 @@ use Rattle.ready_loop.specs.Heard.{heard_of}
 use Rattle.ready_loop.specs.Links.{dry_of, dry_step, is_read_dry}
 use Rattle.ready_loop.specs.Machine.{Target, IsToldOf}
 use Rattle.ready_loop.specs.Round.{round_step}
+use Rattle.mx_base.specs.Fields.{AreBytes}
 use Rattle.mx_base.specs.Sent.{Sent}
-use Rattle.ready_loop.specs.Serving.{IsUnwritten, call_of}
+use Rattle.ready_loop.specs.Serving.{IsWanted, call_of}
 use Rattle.ready_loop.specs.declared.heard.Heard.{Heard}
 use Rattle.ready_loop.specs.declared.links.Links.{Links}
 use Rattle.ready_loop.specs.declared.round.Round.{Round}
 use Rattle.ready_loop.specs.declared.table.Call.TheVariants as call
+use Rattle.ready_loop.proofs.Listening.{IsNoListen}
+use Rattle.ready_loop.proofs.Offering.{IsUnwritten}
 use Rattle.ready_loop.proofs.Marking as marking
 
 pub nothing : (link : LinkId) (into : List ℕ) (g : Got) → heard_of link g ≡ None → got_entry link into g ≡ entry.ReadNothing link
@@ -58,6 +61,26 @@ unwritten link into (got.Got n) = tt
 unwritten link into got.NotReady = tt
 unwritten link into got.End = tt
 unwritten link into got.Failed = tt
+
+pub unlistened : (link : LinkId) (into : List ℕ) (g : Got) → IsNoListen (got_entry link into g)
+unlistened link into (got.Got n) = tt
+unlistened link into got.NotReady = tt
+unlistened link into got.End = tt
+unlistened link into got.Failed = tt
+
+front-bytes : (n : ℕ) (into : List ℕ) → AreBytes into → AreBytes (take n into)
+front-bytes zero into are i = search arith
+front-bytes (suc n) [] are i = search arith
+front-bytes (suc n) (b ∷ into) are zero = are 0
+front-bytes (suc n) (b ∷ into) are (suc i) = front-bytes n into (λ j. are (suc j)) i
+
+-- what is told of was wanted
+pub wanted : {M : Type 0} (reads : M → LinkId → Bool) (sends : M → LinkId → Option Sent) (asks : M → Bool) (until : M → ℕ) (awaits : M → Option Target) (machine : M) (log : Log) (link : LinkId) (into : List ℕ) (g : Got) (h : Heard)
+    → asks machine ≡ false → AreBytes into → heard_of link g ≡ Some h → IsWanted reads sends asks until awaits machine log (got_entry link into g)
+wanted reads sends asks until awaits machine log link into (got.Got n) h acted are is = (acted, front-bytes n into are)
+wanted reads sends asks until awaits machine log link into got.NotReady h acted are is = cc
+wanted reads sends asks until awaits machine log link into got.End h acted are is = acted
+wanted reads sends asks until awaits machine log link into got.Failed h acted are is = acted
 
 pub due : {M : Type 0} (reads : M → LinkId → Bool) (sends : M → LinkId → Option Sent) (asks : M → Bool) (machine : M) (log : Log) (link : LinkId) (into : List ℕ) (g : Got) → IsDue reads sends asks machine log (got_entry link into g)
 due reads sends asks machine log link into (got.Got n) = tt

@@ -1,15 +1,14 @@
--- The loop listens before it waits.
+-- The loop listens first of all, and nowhere else.
 use Rattle.std.proofs.Common.{◌≡◌, ℕ, true, [], ◌∷◌, ◌++◌, Option, Some, refl, sym, ◌∙◌, ap, subst, append_assoc, append-nil}
 use Rattle.std.proofs.lemmas.List.Elements.{filter-append}
-use Rattle.mx_base.specs.declared.names.Port.{Port}
 use Rattle.mx_base.specs.declared.names.Port.TheVariants as port
 use Rattle.mx_base.specs.declared.names.Address.{Address}
 use Rattle.mx_wire.specs.Log.{Log, IsMark, AreMarks}
-use Rattle.mx_wire.specs.Moments.{LawfulAfter, AllLawful, lawful-more}
+use Rattle.mx_wire.specs.Moments.{AllLawful, lawful-more}
 use Rattle.mx_wire.specs.Tells.{Tells}
 use Rattle.mx_wire.specs.declared.entry.Entry.{Entry}
 use Rattle.mx_wire.specs.declared.entry.Entry.TheVariants as entry
-use Rattle.ready_loop.specs.Serving.{Advances, is_call, calls_of, ListeningFor, IsWait, ListensBefore, ListensFirst}
+use Rattle.ready_loop.specs.Serving.{is_call, calls_of, IsListening, ListeningFor, ListensBefore, ListensFirst}
 
 calls-append : (xs ys : Log) → calls_of (xs ++ ys) ≡ calls_of xs ++ calls_of ys
 calls-append xs ys = filter-append is_call xs ys
@@ -21,82 +20,102 @@ calls-marks (entry.Exec link ∷ marks) all = calls-marks marks all.1
 calls-marks (entry.Drop link ∷ marks) all = calls-marks marks all.1
 calls-marks (_ ∷ marks) all = absurd all.0
 
+calls-behind : (log marks : Log) → AreMarks marks → calls_of (log ++ marks) ≡ calls_of log
+calls-behind log marks all = calls-append log marks ∙ ap (λ (l : Log). calls_of log ++ l) (calls-marks marks all) ∙ append-nil (calls_of log)
+
 -- the calls of a log, with a call more
-pub calls-more : (before marks log : Log) (e : Entry) → AreMarks marks → is_call e ≡ true → log ≡ before ++ marks ++ e ∷ [] → calls_of log ≡ calls_of before ++ e ∷ []
+calls-more : (before marks log : Log) (e : Entry) → AreMarks marks → is_call e ≡ true → log ≡ before ++ marks ++ e ∷ [] → calls_of log ≡ calls_of before ++ e ∷ []
 calls-more before marks log e all call is =
     let one : calls_of (e ∷ []) ≡ e ∷ [] = rw call refl in
-    ap calls_of is ∙ calls-append (before ++ marks) (e ∷ []) ∙ ap (λ (l : Log). l ++ calls_of (e ∷ [])) (calls-append before marks)
-    ∙ ap (λ (l : Log). calls_of before ++ l ++ calls_of (e ∷ [])) (calls-marks marks all)
-    ∙ ap (λ (l : Log). l ++ calls_of (e ∷ [])) (append-nil (calls_of before)) ∙ ap (λ (l : Log). calls_of before ++ l) one
+    ap calls_of is ∙ calls-append (before ++ marks) (e ∷ []) ∙ ap (λ (l : Log). l ++ calls_of (e ∷ [])) (calls-behind before marks all)
+    ∙ ap (λ (l : Log). calls_of before ++ l) one
 
-pub listening : (traffic admin : Address) (first second third : Option Log) → ((log : Log) → first ≡ Some log → log ≡ []) → Tells first (entry.Listening port.Traffic traffic) second → Tells second (entry.Listening port.Admin admin) third → ListeningFor traffic admin third
-listening traffic admin first second third fresh one two = record {
-  holds = λ log is.
-      let later = two.appended log is in
-      let sooner = one.appended later.0 later.1 in (
-        [],
-        calls-more later.0 later.2.marks log (entry.Listening port.Admin admin) later.2.only_marks refl later.2.is
-            ∙ ap (λ (l : Log). l ++ entry.Listening port.Admin admin ∷ []) (calls-more sooner.0 sooner.2.marks later.0 (entry.Listening port.Traffic traffic) sooner.2.only_marks refl sooner.2.is)
-            ∙ ap (λ (l : Log). calls_of l ++ entry.Listening port.Traffic traffic ∷ [] ++ entry.Listening port.Admin admin ∷ []) (fresh sooner.0 sooner.1),
-      );
-}
+-- a log that listened goes on so
+listening-on : (traffic admin : Address) (log more : Log) → IsListening traffic admin log → IsListening traffic admin (log ++ more)
+listening-on traffic admin log more was = (was.0 ++ calls_of more, calls-append log more ∙ ap (λ (l : Log). l ++ calls_of more) was.1)
 
-wait_is_call : (e : Entry) → IsWait e → is_call e ≡ true
-wait_is_call (entry.Woke until_ms now_ms) wait = refl
-wait_is_call entry.WaitFailed wait = refl
-wait_is_call entry.Over wait = refl
-wait_is_call _ wait = absurd wait
+-- the entry is no answer of `listen`
+abbrev pub IsNoListen : Entry → Type 0
+IsNoListen (entry.Listening at address) = ⊥
+IsNoListen (entry.ListenFailed at) = ⊥
+IsNoListen _ = Unit {0}
 
-wait_listens_not : (e : Entry) (at : Port) (address : Address) → IsWait e → e ≡ entry.Listening at address → ⊥
-wait_listens_not (entry.Woke until_ms now_ms) at address wait is = cc
-wait_listens_not entry.WaitFailed at address wait is = cc
-wait_listens_not entry.Over at address wait is = cc
-wait_listens_not _ at address wait is = absurd wait
+-- what comes once the loop has listened
+after-listening : (traffic admin : Address) (log : Log) (e : Entry) → IsListening traffic admin log → IsNoListen e → ListensBefore traffic admin log e
+after-listening traffic admin log (entry.Listening at address) listened not = absurd not
+after-listening traffic admin log (entry.ListenFailed at) listened not = absurd not
+after-listening traffic admin log (entry.Exec link) listened not = tt
+after-listening traffic admin log (entry.Drop link) listened not = tt
+after-listening traffic admin log _ listened not = listened
 
--- no wait stands among the first two calls of a log that begins by listening
-front_of : (traffic admin : Address) (front rest tail : Log) (e : Entry) → IsWait e → front ++ e ∷ rest ≡ entry.Listening port.Traffic traffic ∷ entry.Listening port.Admin admin ∷ tail → (more : Log) × (front ≡ entry.Listening port.Traffic traffic ∷ entry.Listening port.Admin admin ∷ more)
-front_of traffic admin [] rest tail e wait is = absurd (wait_listens_not e port.Traffic traffic wait (cc))
-front_of traffic admin (x ∷ []) rest tail e wait is = absurd (wait_listens_not e port.Admin admin wait (cc))
-front_of traffic admin (x ∷ y ∷ more) rest tail e wait is = (more, cc)
+mark-listens-not : (traffic admin : Address) (log : Log) (e : Entry) → IsMark e → ListensBefore traffic admin log e
+mark-listens-not traffic admin log (entry.Exec link) mark = tt
+mark-listens-not traffic admin log (entry.Drop link) mark = tt
+mark-listens-not traffic admin log _ mark = absurd mark
 
-lawful_listening : (traffic admin : Address) (before log tail : Log) → calls_of (before ++ log) ≡ entry.Listening port.Traffic traffic ∷ entry.Listening port.Admin admin ∷ tail → LawfulAfter (ListensBefore traffic admin) before log
-lawful_listening traffic admin before [] tail is = tt
-lawful_listening traffic admin before (e ∷ later) tail is = (
-  (λ wait.
-      let call : calls_of (e ∷ later) ≡ e ∷ calls_of later = rw (wait_is_call e wait) refl in
-      front_of traffic admin (calls_of before) (calls_of later) tail e wait (ap (λ (l : Log). calls_of before ++ l) (sym call) ∙ sym (calls-append before (e ∷ later)) ∙ is)),
-  lawful_listening traffic admin (before ++ e ∷ []) later tail (ap calls_of (append_assoc before (e ∷ []) later) ∙ is),
-)
-
--- a loop that listened goes on so
-pub listens_grown : {W R : Type 0} (told : W → Option Log) (rule : W → R) (port_faults faults : W → ℕ) (traffic admin : Address) (old new : W) → ListeningFor traffic admin (told old) → Advances told rule port_faults faults old new → ListensFirst traffic admin (told new)
-listens_grown told rule port_faults faults traffic admin old new began advances = record {
-  holds = λ log is.
-      let grew = advances.grew log is in
-      let first = began.holds grew.0 grew.1 in
-      lawful_listening traffic admin [] log (first.0 ++ calls_of grew.2.0)
-      (ap calls_of grew.2.1 ∙ calls-append grew.0 grew.2.0 ∙ ap (λ (l : Log). l ++ calls_of grew.2.0) first.1);
-}
-
-mark_waits_not : (e : Entry) → IsMark e → IsWait e → ⊥
-mark_waits_not (entry.Exec link) mark wait = wait
-mark_waits_not (entry.Drop link) mark wait = wait
-mark_waits_not _ mark wait = absurd mark
-
-lawful_marks : (traffic admin : Address) (log marks : Log) → AreMarks marks → AllLawful (ListensBefore traffic admin) log → AllLawful (ListensBefore traffic admin) (log ++ marks)
-lawful_marks traffic admin log [] all was = subst (AllLawful (ListensBefore traffic admin)) (sym (append-nil log)) was
-lawful_marks traffic admin log (e ∷ marks) all was =
+marks-listen-not : (traffic admin : Address) (log marks : Log) → AreMarks marks → AllLawful (ListensBefore traffic admin) log → AllLawful (ListensBefore traffic admin) (log ++ marks)
+marks-listen-not traffic admin log [] all was = subst (AllLawful (ListensBefore traffic admin)) (sym (append-nil log)) was
+marks-listen-not traffic admin log (e ∷ marks) all was =
     subst (AllLawful (ListensBefore traffic admin)) (append_assoc log (e ∷ []) marks)
-    (lawful_marks traffic admin (log ++ e ∷ []) marks all.1 (lawful-more (ListensBefore traffic admin) log e was (λ wait. absurd (mark_waits_not e all.0 wait))))
+    (marks-listen-not traffic admin (log ++ e ∷ []) marks all.1 (lawful-more (ListensBefore traffic admin) log e was (mark-listens-not traffic admin log e all.0)))
 
--- a call that isn't a wait
-pub listens_more : (traffic admin : Address) (old new : Option Log) (e : Entry) → ListensFirst traffic admin old → Tells old e new → (IsWait e → ⊥) → ListensFirst traffic admin new
-listens_more traffic admin old new e before tells not = record {
+-- a call that comes in its place
+call-listens : (traffic admin : Address) (old new : Option Log) (e : Entry) → ListensFirst traffic admin old → Tells old e new
+    → ((log marks : Log) → old ≡ Some log → AreMarks marks → ListensBefore traffic admin (log ++ marks) e) → ListensFirst traffic admin new
+call-listens traffic admin old new e before tells so = record {
   holds = λ log is.
       let call = tells.appended log is in
+      let marks = call.2.marks in
       subst (AllLawful (ListensBefore traffic admin)) (sym call.2.is)
-      (lawful-more (ListensBefore traffic admin) (call.0 ++ call.2.marks) e (lawful_marks traffic admin call.0 call.2.marks call.2.only_marks (before.holds call.0 call.1)) (λ wait. absurd (not wait)));
+      (lawful-more (ListensBefore traffic admin) (call.0 ++ marks) e (marks-listen-not traffic admin call.0 marks call.2.only_marks (before.holds call.0 call.1))
+      (so call.0 marks call.1 call.2.only_marks));
 }
 
-pub listens_fresh : (traffic admin : Address) (told : Option Log) → ((log : Log) → told ≡ Some log → log ≡ []) → ListensFirst traffic admin told
-listens_fresh traffic admin told fresh = record { holds = λ log is. subst (AllLawful (ListensBefore traffic admin)) (sym (fresh log is)) tt }
+pub listens-fresh : (traffic admin : Address) (told : Option Log) → ((log : Log) → told ≡ Some log → log ≡ []) → ListensFirst traffic admin told
+listens-fresh traffic admin told fresh = record { holds = λ log is. subst (AllLawful (ListensBefore traffic admin)) (sym (fresh log is)) tt }
+
+-- The two calls of `listen`, on a wire of which no call was made.
+module _ (traffic admin : Address) (first : Option Log) (fresh : (log : Log) → first ≡ Some log → log ≡ []) where
+  none-before : (log marks : Log) → first ≡ Some log → AreMarks marks → calls_of (log ++ marks) ≡ []
+  none-before log marks is all = calls-behind log marks all ∙ ap calls_of (fresh log is)
+
+  pub first-failed : (second : Option Log) → Tells first (entry.ListenFailed port.Traffic) second → ListensFirst traffic admin second
+  first-failed second failed = call-listens traffic admin first second (entry.ListenFailed port.Traffic) (listens-fresh traffic admin first fresh) failed none-before
+
+  module _ (second : Option Log) (one : Tells first (entry.Listening port.Traffic traffic) second) where
+    first-done : ListensFirst traffic admin second
+    first-done = call-listens traffic admin first second (entry.Listening port.Traffic traffic) (listens-fresh traffic admin first fresh) one
+        (λ log marks is all. (none-before log marks is all, refl))
+
+    one-call : (log : Log) → second ≡ Some log → calls_of log ≡ entry.Listening port.Traffic traffic ∷ []
+    one-call log is =
+        let call = one.appended log is in
+        calls-more call.0 call.2.marks log (entry.Listening port.Traffic traffic) call.2.only_marks refl call.2.is
+        ∙ ap (λ (l : Log). calls_of l ++ entry.Listening port.Traffic traffic ∷ []) (fresh call.0 call.1)
+
+    one-before : (log marks : Log) → second ≡ Some log → AreMarks marks → calls_of (log ++ marks) ≡ entry.Listening port.Traffic traffic ∷ []
+    one-before log marks is all = calls-behind log marks all ∙ one-call log is
+
+    pub second-failed : (third : Option Log) → Tells second (entry.ListenFailed port.Admin) third → ListensFirst traffic admin third
+    second-failed third failed = call-listens traffic admin second third (entry.ListenFailed port.Admin) first-done failed one-before
+
+    pub both-done : (third : Option Log) → Tells second (entry.Listening port.Admin admin) third → ListeningFor traffic admin third
+    both-done third two = record {
+      first = call-listens traffic admin second third (entry.Listening port.Admin admin) first-done two (λ log marks is all. (one-before log marks is all, refl));
+      done = λ log is.
+          let call = two.appended log is in (
+            [],
+            calls-more call.0 call.2.marks log (entry.Listening port.Admin admin) call.2.only_marks refl call.2.is
+                ∙ ap (λ (l : Log). l ++ entry.Listening port.Admin admin ∷ []) (one-call call.0 call.1),
+          );
+    }
+
+-- a call behind both that is none of them
+pub listens-on : (traffic admin : Address) (old new : Option Log) (e : Entry) → Tells old e new → IsNoListen e → ListeningFor traffic admin old → ListeningFor traffic admin new
+listens-on traffic admin old new e tells not was = record {
+  first = call-listens traffic admin old new e was.first tells (λ log marks is all. after-listening traffic admin (log ++ marks) e (listening-on traffic admin log marks (was.done log is)) not);
+  done = λ log is.
+      let call = tells.appended log is in
+      subst (IsListening traffic admin) (sym call.2.is)
+      (listening-on traffic admin (call.0 ++ call.2.marks) (e ∷ []) (listening-on traffic admin call.0 call.2.marks (was.done call.0 call.1)));
+}

@@ -15,7 +15,8 @@ use Rattle.mx_base.specs.declared.piece.Piece.{Piece}
 use Rattle.ready_loop.specs.declared.machines.Act.TheVariants as act
 use Rattle.ready_loop.specs.Machine.{StandsFor, OwesFarewell}
 use Rattle.mx_base.specs.Sent.{IsLent, Sent}
-use Rattle.ready_loop.specs.Serving.{Proceeds, IsUnwritten, OwedFor}
+use Rattle.ready_loop.specs.Serving.{Begins, Proceeds, ListeningFor, OwedFor}
+use Rattle.ready_loop.proofs.Listening.{IsNoListen, listens-on}
 use Rattle.ready_loop.proofs.Steps.{IsStill, after_marks}
 
 abbrev Owes : Type 1
@@ -25,6 +26,10 @@ abbrev Takes : Type 1
 Takes = Log → LinkId → (piece taken : List ℕ) → Type 0
 
 -- An entry that is no write.
+
+abbrev pub IsUnwritten : Entry → Type 0
+IsUnwritten (entry.Wrote link tag bytes) = ⊥
+IsUnwritten _ = Unit {0}
 
 unwritten-so : (owes : Owes) (takes : Takes) (log : Log) (e : Entry) → IsUnwritten e → Offers owes takes log e
 unwritten-so owes takes log (entry.Wrote link tag bytes) none = absurd none
@@ -78,6 +83,11 @@ write-offers owes takes old new link tag piece lent (took.Took n) tells by is_le
 write-offers owes takes old new link tag piece lent took.NotReady tells by is_lent owed was = unwritten-offers owes takes old new (entry.WriteNothing link) tells tt was
 write-offers owes takes old new link tag piece lent took.Failed tells by is_lent owed was = unwritten-offers owes takes old new (entry.WriteFailed link) tells tt was
 
+pub took-elsewhere : (link : LinkId) (tag : Tag) (piece : List ℕ) (answer : Took) → IsNoListen (took_entry link tag piece answer)
+took-elsewhere link tag piece (took.Took n) = tt
+took-elsewhere link tag piece took.NotReady = tt
+took-elsewhere link tag piece took.Failed = tt
+
 -- what a machine that stands for the log lends is owed
 pub owed-for : {M : Type 0} (stands : M → Log → Type 0) (reads : M → LinkId → Bool) (sends : M → LinkId → Option Sent) (asks : M → Bool) → IsStill stands reads sends asks → (owes : Owes) (machine : M) (told : Option Log) (lent : Option Sent) (link : LinkId)
     → StandsFor stands machine told → ((log : Log) (sent : Sent) → stands machine log → lent ≡ Some sent → owes log link sent.bytes) → OwedFor owes lent link told
@@ -94,10 +104,11 @@ fresh-offers owes takes told fresh = record { holds = λ log is. subst (AllLawfu
 offers-as : {R S : Type 0} (owes : S → Owes) (takes : R → Takes) (s t : S) (r q : R) (told : Option Log) → t ≡ s → q ≡ r → HasOffered (owes s) (takes r) told → HasOffered (owes t) (takes q) told
 offers-as owes takes s t r q told same alike has = subst (λ x. HasOffered (owes x) (takes q) told) (sym same) (subst (λ x. HasOffered (owes s) (takes x) told) (sym alike) has)
 
-pub proceeds-so : {M W R S : Type 0} (service : M → S) (owes : S → Owes) (told : W → Option Log) (ruled_by : W → R) (takes : R → Takes) (port_faults faults : W → ℕ) (core next : M) (old new : W) (e : Entry)
+-- of which no machine need know
+pub begins-so : {M W R S : Type 0} (service : M → S) (owes : S → Owes) (told : W → Option Log) (ruled_by : W → R) (takes : R → Takes) (port_faults faults : W → ℕ) (core next : M) (old new : W) (e : Entry)
     → Tells (told old) e (told new) → ruled_by new ≡ ruled_by old → port_faults old ≤ port_faults new → faults old ≤ faults new → service next ≡ service core
-    → (HasOffered (owes (service core)) (takes (ruled_by old)) (told old) → HasOffered (owes (service core)) (takes (ruled_by old)) (told new)) → Proceeds service owes told ruled_by takes port_faults faults core next old new
-proceeds-so service owes told ruled_by takes port_faults faults core next old new e tells ruled ports links same offers = record {
+    → (HasOffered (owes (service core)) (takes (ruled_by old)) (told old) → HasOffered (owes (service core)) (takes (ruled_by old)) (told new)) → Begins service owes told ruled_by takes port_faults faults core next old new
+begins-so service owes told ruled_by takes port_faults faults core next old new e tells ruled ports links same offers = record {
   advances = record {
     ruled = ruled;
     grew = λ log is. let call = tells.appended log is in (call.0, call.1, (call.2.marks ++ e ∷ [], call.2.is ∙ append_assoc call.0 call.2.marks (e ∷ [])));
@@ -109,10 +120,28 @@ proceeds-so service owes told ruled_by takes port_faults faults core next old ne
 }
 
 -- one that writes nothing
+pub begun : {M W R S : Type 0} (service : M → S) (owes : S → Owes) (told : W → Option Log) (ruled_by : W → R) (takes : R → Takes) (port_faults faults : W → ℕ) (core next : M) (old new : W) (e : Entry)
+    → Tells (told old) e (told new) → IsUnwritten e → ruled_by new ≡ ruled_by old → port_faults old ≤ port_faults new → faults old ≤ faults new → service next ≡ service core → Begins service owes told ruled_by takes port_faults faults core next old new
+begun service owes told ruled_by takes port_faults faults core next old new e tells none ruled ports links same =
+    begins-so service owes told ruled_by takes port_faults faults core next old new e tells ruled ports links same (unwritten-offers (owes (service core)) (takes (ruled_by old)) (told old) (told new) e tells none)
+
+-- and listens nowhere
+pub proceeds-so : {M W R S : Type 0} (service : M → S) (owes : S → Owes) (told : W → Option Log) (ruled_by : W → R) (takes : R → Takes) (port_faults faults : W → ℕ) (core next : M) (old new : W) (e : Entry)
+    → Tells (told old) e (told new) → IsNoListen e → ruled_by new ≡ ruled_by old → port_faults old ≤ port_faults new → faults old ≤ faults new → service next ≡ service core
+    → (HasOffered (owes (service core)) (takes (ruled_by old)) (told old) → HasOffered (owes (service core)) (takes (ruled_by old)) (told new)) → Proceeds service owes told ruled_by takes port_faults faults core next old new
+proceeds-so service owes told ruled_by takes port_faults faults core next old new e tells elsewhere ruled ports links same offers =
+    let begins = begins-so service owes told ruled_by takes port_faults faults core next old new e tells ruled ports links same offers in
+    record {
+      advances = begins.advances;
+      serves_by = begins.serves_by;
+      offered = begins.offered;
+      listens = λ traffic admin was. listens-on traffic admin (told old) (told new) e tells elsewhere was;
+    }
+
 pub proceeded : {M W R S : Type 0} (service : M → S) (owes : S → Owes) (told : W → Option Log) (ruled_by : W → R) (takes : R → Takes) (port_faults faults : W → ℕ) (core next : M) (old new : W) (e : Entry)
-    → Tells (told old) e (told new) → IsUnwritten e → ruled_by new ≡ ruled_by old → port_faults old ≤ port_faults new → faults old ≤ faults new → service next ≡ service core → Proceeds service owes told ruled_by takes port_faults faults core next old new
-proceeded service owes told ruled_by takes port_faults faults core next old new e tells none ruled ports links same =
-    proceeds-so service owes told ruled_by takes port_faults faults core next old new e tells ruled ports links same (unwritten-offers (owes (service core)) (takes (ruled_by old)) (told old) (told new) e tells none)
+    → Tells (told old) e (told new) → IsUnwritten e → IsNoListen e → ruled_by new ≡ ruled_by old → port_faults old ≤ port_faults new → faults old ≤ faults new → service next ≡ service core → Proceeds service owes told ruled_by takes port_faults faults core next old new
+proceeded service owes told ruled_by takes port_faults faults core next old new e tells none elsewhere ruled ports links same =
+    proceeds-so service owes told ruled_by takes port_faults faults core next old new e tells elsewhere ruled ports links same (unwritten-offers (owes (service core)) (takes (ruled_by old)) (told old) (told new) e tells none)
 
 -- and of the whole of a serving
 pub offered-in-all : {M W R S : Type 0} (service : M → S) (owes : S → Owes) (told : W → Option Log) (ruled_by : W → R) (takes : R → Takes) (port_faults faults : W → ℕ) (core next : M) (old new : W)
@@ -135,6 +164,7 @@ proceeds-then service owes told ruled_by takes port_faults faults core mid next 
   };
   serves_by = two.serves_by ∙ one.serves_by;
   offered = λ was. two.offered (one.offered was);
+  listens = λ traffic admin was. two.listens traffic admin (one.listens traffic admin was);
 }
 
 -- what is lent for the one write before a close
@@ -150,4 +180,5 @@ proceeds-same service owes told ruled_by takes port_faults faults core old new s
   advances = record { ruled = ruled; grew = λ log is. (log, sym same ∙ is, ([], sym (append-nil log))); ports_failed = ports; links_failed = links };
   serves_by = refl;
   offered = λ was. offers-as owes takes (service core) (service core) (ruled_by old) (ruled_by new) (told new) refl ruled (subst (HasOffered (owes (service core)) (takes (ruled_by old))) (sym same) was);
+  listens = λ traffic admin was. subst (ListeningFor traffic admin) (sym same) was;
 }

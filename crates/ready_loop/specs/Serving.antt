@@ -5,13 +5,14 @@ use Rattle.mx_base.specs.declared.names.Port.TheVariants as port
 use Rattle.mx_base.specs.declared.names.Address.{Address}
 use Rattle.mx_wire.specs.Log.{Log, AreMarks}
 use Rattle.mx_wire.specs.Moments.{AllLawful}
-use Rattle.mx_wire.specs.Tells.{Appends, Tells}
+use Rattle.mx_wire.specs.Tells.{MayFollow, Tells}
 use Rattle.mx_wire.specs.Offers.{HasOffered}
 use Rattle.mx_wire.specs.declared.entry.Entry.{Entry}
 use Rattle.mx_wire.specs.declared.entry.Entry.TheVariants as entry
+use Rattle.mx_base.specs.Fields.{AreBytes}
 use Rattle.mx_base.specs.Sent.{Sent}
-use Rattle.ready_loop.specs.Machine.{StandsFor, IsFarewell}
-use Rattle.ready_loop.specs.Drained.{IsDrained}
+use Rattle.ready_loop.specs.Machine.{StandsFor, IsFarewell, Target}
+use Rattle.ready_loop.specs.Drained.{IsDrained, MayWait}
 use Rattle.ready_loop.specs.Links.{dry_in, dry_of, is_read_dry, is_write_dry, mark_of}
 use Rattle.ready_loop.specs.Queued.{Watches, IsSettled}
 use Rattle.ready_loop.specs.Round.{CountsOf, calls_since_wake, wakes_of}
@@ -43,6 +44,39 @@ pub record IsGoing {M : Type 0} (stands : M → Log → Type 0) (reads : M → L
   pub going : is_stopped core ≡ false
   pub acted : asks core ≡ false
 
+-- the calls of a log, without the marks
+abbrev pub is_call : Entry → Bool
+is_call (entry.Exec link) = false
+is_call (entry.Drop link) = false
+is_call _ = true
+
+abbrev pub calls_of : Log → Log
+calls_of log = filter is_call log
+
+-- the log begins by listening at both addresses, traffic first
+abbrev pub IsListening : Address → Address → Log → Type 0
+IsListening traffic admin log = (rest : Log) × (calls_of log ≡ entry.Listening port.Traffic traffic ∷ entry.Listening port.Admin admin ∷ rest)
+
+-- What was listened at before the entry: before any other call both addresses, before the call for the second of them the first, and before the call
+-- for the first nothing. So there is no third call of `listen`.
+abbrev pub ListensBefore : Address → Address → Log → Entry → Type 0
+ListensBefore traffic admin log (entry.Listening port.Traffic address) = (calls_of log ≡ []) × (address ≡ traffic)
+ListensBefore traffic admin log (entry.ListenFailed port.Traffic) = calls_of log ≡ []
+ListensBefore traffic admin log (entry.Listening port.Admin address) = (calls_of log ≡ entry.Listening port.Traffic traffic ∷ []) × (address ≡ admin)
+ListensBefore traffic admin log (entry.ListenFailed port.Admin) = calls_of log ≡ entry.Listening port.Traffic traffic ∷ []
+ListensBefore traffic admin log (entry.Exec link) = Unit {0}
+ListensBefore traffic admin log (entry.Drop link) = Unit {0}
+ListensBefore traffic admin log _ = IsListening traffic admin log
+
+-- the router listened at both addresses, first of all, and at no others
+pub record ListensFirst (traffic admin : Address) (told : Option Log) : Type 0 where
+  pub holds : (log : Log) → told ≡ Some log → AllLawful (ListensBefore traffic admin) log
+
+-- so far so, and it has listened at both
+pub record ListeningFor (traffic admin : Address) (told : Option Log) : Type 0 where
+  pub first : ListensFirst traffic admin told
+  pub done : (log : Log) → told ≡ Some log → IsListening traffic admin log
+
 -- the log only grows, and failures are only added to
 pub record Advances {W R : Type 0} (told : W → Option Log) (ruled_by : W → R) (port_faults faults : W → ℕ) (old new : W) : Type 0 where
   pub ruled : ruled_by new ≡ ruled_by old
@@ -51,11 +85,19 @@ pub record Advances {W R : Type 0} (told : W → Option Log) (ruled_by : W → R
   pub links_failed : faults old ≤ faults new
 
 -- The wire advances, and the machine serves by what it served by; each write was offered all that is owed.
+pub record Begins {M W R S : Type 0} (service : M → S) (owes : S → Log → LinkId → (piece : List ℕ) → Type 0) (told : W → Option Log) (ruled_by : W → R) (takes : R → Log → LinkId → (piece taken : List ℕ) → Type 0) (port_faults faults : W → ℕ)
+    (core next : M) (old new : W) : Type 0 where
+  pub advances : Advances told ruled_by port_faults faults old new
+  pub serves_by : service next ≡ service core
+  pub offered : HasOffered (owes (service core)) (takes (ruled_by old)) (told old) → HasOffered (owes (service next)) (takes (ruled_by new)) (told new)
+
+-- So it does once it has listened, and it listens nowhere else.
 pub record Proceeds {M W R S : Type 0} (service : M → S) (owes : S → Log → LinkId → (piece : List ℕ) → Type 0) (told : W → Option Log) (ruled_by : W → R) (takes : R → Log → LinkId → (piece taken : List ℕ) → Type 0) (port_faults faults : W → ℕ)
     (core next : M) (old new : W) : Type 0 where
   pub advances : Advances told ruled_by port_faults faults old new
   pub serves_by : service next ≡ service core
   pub offered : HasOffered (owes (service core)) (takes (ruled_by old)) (told old) → HasOffered (owes (service next)) (takes (ruled_by new)) (told new)
+  pub listens : (traffic admin : Address) → ListeningFor traffic admin (told old) → ListeningFor traffic admin (told new)
 
 -- the call of which the entry is the answer, where a wake may owe it
 abbrev pub call_of : Entry → Option Call
@@ -173,20 +215,39 @@ pub record SpentFor (turns : ℕ) (reads : LinkId → Bool) (sends : LinkId → 
 pub record WokeFor (most : ℕ) (told : Option Log) : Type 0 where
   pub holds : (log : Log) → told ≡ Some log → wakes_of log ≤ most
 
--- no byte was written by the call
-abbrev pub IsUnwritten : Entry → Type 0
-IsUnwritten (entry.Wrote link tag bytes) = ⊥
-IsUnwritten _ = Unit {0}
+-- The machine wanted the call whose answer the entry is, and memory may be wanted for that answer: it was told all there was before a wait, which is
+-- until the moment that it named; an open is the one that it awaits; and all that it asked for was done before a link was accepted, read or written.
+abbrev pub IsWanted : {M : Type 0} → (M → LinkId → Bool) → (M → LinkId → Option Sent) → (M → Bool) → (M → ℕ) → (M → Option Target) → M → Log → Entry → Type 0
+IsWanted reads sends asks until awaits machine log (entry.Woke until_ms now_ms) = MayWait (reads machine) (sends machine) (asks machine) log × (until_ms ≡ until machine)
+IsWanted reads sends asks until awaits machine log (entry.Named link) = Unit {0}
+IsWanted reads sends asks until awaits machine log (entry.Accepted at link salt) = asks machine ≡ false
+IsWanted reads sends asks until awaits machine log (entry.Opened server address link) = awaits machine ≡ Some (record { server = server; address = address })
+IsWanted reads sends asks until awaits machine log (entry.OpenFailed server address) = awaits machine ≡ Some (record { server = server; address = address })
+IsWanted reads sends asks until awaits machine log (entry.Got link bytes) = (asks machine ≡ false) × AreBytes bytes
+IsWanted reads sends asks until awaits machine log (entry.Ended link) = asks machine ≡ false
+IsWanted reads sends asks until awaits machine log (entry.ReadFailed link) = asks machine ≡ false
+IsWanted reads sends asks until awaits machine log (entry.WriteFailed link) = asks machine ≡ false
+IsWanted reads sends asks until awaits machine log _ = ⊥
 
--- A machine stood for the log, but for the call by whose answer memory was refused.
-pub record Stood {M : Type 0} (stands : M → Log → Type 0) (log : Log) : Type 0 where
+-- the last call of a log, by whose answer memory was refused
+pub record Refuses {M : Type 0} (wanted : M → Log → Entry → Type 0) (machine : M) (before log : Log) : Type 0 where
+  pub marks : Log
+  pub only_marks : AreMarks marks
+  pub last : Entry
+  pub is_wanted : wanted machine (before ++ marks) last
+  pub follows : MayFollow (before ++ marks) last
+  pub is : log ≡ before ++ marks ++ last ∷ []
+
+-- A machine that serves by what this one serves by stood for the log, but for the call by whose answer memory was refused, which it wanted.
+pub record Stood {M S : Type 0} (stands : M → Log → Type 0) (wanted : M → Log → Entry → Type 0) (service : M → S) (core : M) (log : Log) : Type 0 where
   pub machine : M
+  pub serves_by : service machine ≡ service core
   pub before : Log
   pub stood : stands machine before
-  pub but : (log ≡ before) ⊎ ((e : Entry) × IsUnwritten e × Appends before e log)
+  pub but : (log ≡ before) ⊎ Refuses wanted machine before log
 
-pub record StoodFor {M : Type 0} (stands : M → Log → Type 0) (told : Option Log) : Type 0 where
-  pub holds : (log : Log) → told ≡ Some log → Stood stands log
+pub record StoodFor {M S : Type 0} (stands : M → Log → Type 0) (wanted : M → Log → Entry → Type 0) (service : M → S) (core : M) (told : Option Log) : Type 0 where
+  pub holds : (log : Log) → told ≡ Some log → Stood stands wanted service core log
 
 -- how the loop ends, and what stands then
 pub record EndsSo {M : Type 0} (stands : M → Log → Type 0) (wakes : ℕ) (core : M) (told : Option Log) (is should : Bool) (last : Option Log → Type 0) : Type 0 where
@@ -195,52 +256,23 @@ pub record EndsSo {M : Type 0} (stands : M → Log → Type 0) (wakes : ℕ) (co
   pub woke : WokeFor wakes told
   pub so : last told
 
-abbrev pub Ends : {M : Type 0} → (M → Log → Type 0) → (M → Bool) → ℕ → (Option Log → Type 0) → M → Option Log → ServeEnd → Type 0
-Ends stands is_stopped wakes spent core told Stopped = EndsSo stands wakes core told (is_stopped core) true (λ t. Unit {0})
-Ends stands is_stopped wakes spent core told Over = EndsSo stands wakes core told (is_stopped core) false (EndsWith IsOver)
-Ends stands is_stopped wakes spent core told ListenFault = EndsSo stands wakes core told (is_stopped core) false (EndsWith IsPortFault)
-Ends stands is_stopped wakes spent core told TurnsSpent = EndsSo stands wakes core told (is_stopped core) false spent
-Ends stands is_stopped wakes spent core told OutOfMemory = StoodFor stands told
+abbrev pub Ends : {M S : Type 0} → (M → Log → Type 0) → (M → Log → Entry → Type 0) → (M → S) → (M → Bool) → ℕ → (Option Log → Type 0) → M → Option Log → ServeEnd → Type 0
+Ends stands wanted service is_stopped wakes spent core told Stopped = EndsSo stands wakes core told (is_stopped core) true (λ t. Unit {0})
+Ends stands wanted service is_stopped wakes spent core told Over = EndsSo stands wakes core told (is_stopped core) false (EndsWith IsOver)
+Ends stands wanted service is_stopped wakes spent core told ListenFault = EndsSo stands wakes core told (is_stopped core) false (EndsWith IsPortFault)
+Ends stands wanted service is_stopped wakes spent core told TurnsSpent = EndsSo stands wakes core told (is_stopped core) false spent
+Ends stands wanted service is_stopped wakes spent core told OutOfMemory = StoodFor stands wanted service core told
 
 -- how the loop ends, and that a fault of a port has its cause
-pub record Breaks {M : Type 0} (stands : M → Log → Type 0) (is_stopped : M → Bool) (wakes : ℕ) (core : M) (told : Option Log) (faults_before faults_now : ℕ) (end : ServeEnd) : Type 0 where
-  pub ends : Ends stands is_stopped wakes BusyFor core told end
+pub record Breaks {M S : Type 0} (stands : M → Log → Type 0) (wanted : M → Log → Entry → Type 0) (service : M → S) (is_stopped : M → Bool) (wakes : ℕ) (core : M) (told : Option Log) (faults_before faults_now : ℕ) (end : ServeEnd) : Type 0 where
+  pub ends : Ends stands wanted service is_stopped wakes BusyFor core told end
   pub rose : end ≡ ListenFault → faults_before < faults_now
 
 -- the call was made, and no other, and is counted; the loop goes on, or ends by what the call answered
-pub record HasMade {M W R S A : Type 0} (stands : M → Log → Type 0) (is_stopped : M → Bool) (service : M → S) (owes : S → Log → LinkId → (piece : List ℕ) → Type 0) (told : W → Option Log) (ruled_by : W → R)
+pub record HasMade {M W R S A : Type 0} (stands : M → Log → Type 0) (wanted : M → Log → Entry → Type 0) (is_stopped : M → Bool) (service : M → S) (owes : S → Log → LinkId → (piece : List ℕ) → Type 0) (told : W → Option Log) (ruled_by : W → R)
     (takes : R → Log → LinkId → (piece taken : List ℕ) → Type 0) (port_faults faults : W → ℕ) (made : Call) (core next : M) (old new : W) (before now : Round) (result : Result A ServeEnd) : Type 0 where
   pub made_it : Makes made (told old) (told new)
   pub more : OnOk result (before.calls < now.calls)
   pub wakes : now.wakes ≡ before.wakes
-  pub ends : IfErr result (Breaks stands is_stopped now.wakes next (told new) (port_faults old) (port_faults new))
+  pub ends : IfErr result (Breaks stands wanted service is_stopped now.wakes next (told new) (port_faults old) (port_faults new))
   pub proceeds : Proceeds service owes told ruled_by takes port_faults faults core next old new
-
--- the calls of a log, without the marks
-abbrev pub is_call : Entry → Bool
-is_call (entry.Exec link) = false
-is_call (entry.Drop link) = false
-is_call _ = true
-
-abbrev pub calls_of : Log → Log
-calls_of log = filter is_call log
-
--- the log begins by listening at both addresses, traffic first
-abbrev pub IsListening : Address → Address → Log → Type 0
-IsListening traffic admin log = (rest : Log) × (calls_of log ≡ entry.Listening port.Traffic traffic ∷ entry.Listening port.Admin admin ∷ rest)
-
-pub record ListeningFor (traffic admin : Address) (told : Option Log) : Type 0 where
-  pub holds : (log : Log) → told ≡ Some log → IsListening traffic admin log
-
-abbrev pub IsWait : Entry → Type 0
-IsWait (entry.Woke until_ms now_ms) = Unit {0}
-IsWait entry.WaitFailed = Unit {0}
-IsWait entry.Over = Unit {0}
-IsWait _ = ⊥
-
-abbrev pub ListensBefore : Address → Address → Log → Entry → Type 0
-ListensBefore traffic admin log e = IsWait e → IsListening traffic admin log
-
--- before each wait the loop listened
-pub record ListensFirst (traffic admin : Address) (told : Option Log) : Type 0 where
-  pub holds : (log : Log) → told ≡ Some log → AllLawful (ListensBefore traffic admin) log

@@ -5,7 +5,7 @@ ghost use Rattle.mx_wire.specs.declared.entry.Entry.{Entry};
 ghost use Rattle.ready_loop.specs.Changes.{ChangesOnly};
 ghost use Rattle.ready_loop.specs.Drained.{IsDue};
 ghost use Rattle.ready_loop.specs.Machine.{Target, IsHeard, HasActed, IsToldOf, CarriesOver};
-ghost use Rattle.ready_loop.specs.Serving.{Serves, Breaks, StoodFor, Proceeds, TracksFor, IsOffered, OwedFor, Parts, offered_round};
+ghost use Rattle.ready_loop.specs.Serving.{IsWanted, Serves, Breaks, StoodFor, Proceeds, TracksFor, IsOffered, OwedFor, Parts, offered_round};
 ghost use Rattle.ready_loop.specs.Links.{Marks};
 
 use crate::table::Table;
@@ -50,7 +50,7 @@ fn open_link<M: Machine, W: Wire>(
     ensures serves { OnOk result (Serves M.stands M.reads M.sends M.changed core.new table.new (W.told wire.new)) }
     ensures more { OnOk result (table.old.round.calls < table.new.round.calls) }
     ensures wakes { table.new.round.wakes ≡ table.old.round.wakes }
-    ensures broke { OnErr result (StoodFor M.stands (W.told wire.new)) }
+    ensures broke { OnErr result (StoodFor M.stands (IsWanted M.reads M.sends M.asks M.until M.awaits) M.serves_by core.new (W.told wire.new)) }
     ensures proceeds { Proceeds M.serves_by M.owes W.told W.ruled_by W.takes W.port_faults W.faults core.old core.new wire.old wire.new }
 {
     M::quiet();
@@ -111,7 +111,7 @@ fn act_once<M: Machine, W: Wire>(
     ensures none { IfOk result (λ went. went ≡ false → table.new.round ≡ table.old.round) }
     ensures acted { IfOk result (λ went. went ≡ false → M.asks core.new ≡ false) }
     ensures wakes { table.new.round.wakes ≡ table.old.round.wakes }
-    ensures broke { OnErr result (StoodFor M.stands (W.told wire.new)) }
+    ensures broke { OnErr result (StoodFor M.stands (IsWanted M.reads M.sends M.asks M.until M.awaits) M.serves_by core.new (W.told wire.new)) }
     ensures proceeds { Proceeds M.serves_by M.owes W.told W.ruled_by W.takes W.port_faults W.faults core.old core.new wire.old wire.new }
 {
     M::quiet();
@@ -141,7 +141,7 @@ pub fn do_acts<M: Machine, W: Wire>(
     ensures room { OnOk result (table.new.round.calls < 4294967296) }
     ensures more { OnOk result (table.old.round.calls ≤ table.new.round.calls) }
     ensures wakes { table.new.round.wakes ≡ table.old.round.wakes }
-    ensures ends { IfErr result (Breaks M.stands M.is_stopped table.new.round.wakes core.new (W.told wire.new) (W.port_faults wire.old) (W.port_faults wire.new)) }
+    ensures ends { IfErr result (Breaks M.stands (IsWanted M.reads M.sends M.asks M.until M.awaits) M.serves_by M.is_stopped table.new.round.wakes core.new (W.told wire.new) (W.port_faults wire.old) (W.port_faults wire.new)) }
     ensures proceeds { Proceeds M.serves_by M.owes W.told W.ruled_by W.takes W.port_faults W.faults core.old core.new wire.old wire.new }
 {
     while table.round.calls < CALLS_PER_WAKE {

@@ -4,11 +4,11 @@ ghost use Rattle.mx_wire.specs.Tells.{Tells};
 ghost use Rattle.mx_wire.specs.declared.entry.Entry.TheVariants as entry;
 ghost use Rattle.ready_loop.specs.Drained.{DrainedFor};
 ghost use Rattle.ready_loop.specs.Links.{is_read_dry, is_write_dry};
-ghost use Rattle.ready_loop.specs.Serving.{Serves, IsGoing, Breaks, Proceeds, HasMade};
+ghost use Rattle.ready_loop.specs.Serving.{IsWanted, Serves, IsGoing, Breaks, Begins, Proceeds, HasMade};
 
 use crate::acts::come;
 use crate::ends::unless_refused;
-use crate::heard::hear;
+use crate::heard::{are_bytes, hear};
 use crate::table::{Call, Table};
 use crate::{Event, Machine, ServeEnd};
 use mx_base::{LinkId, Port};
@@ -29,8 +29,8 @@ pub fn listen_once<M: Machine, W: Wire>(
     ensures failed { OnErr result (Tells (W.told wire.old) (entry.ListenFailed port) (W.told wire.new)) }
     ensures round { OnOk result (table.new.round ≡ record table.old.round { calls = table.old.round.calls + 1 }) }
     ensures wakes { table.new.round.wakes ≡ table.old.round.wakes }
-    ensures ends { IfErr result (Breaks M.stands M.is_stopped table.new.round.wakes core.now (W.told wire.new) (W.port_faults wire.old) (W.port_faults wire.new)) }
-    ensures proceeds { Proceeds M.serves_by M.owes W.told W.ruled_by W.takes W.port_faults W.faults core.now core.now wire.old wire.new }
+    ensures ends { IfErr result (Breaks M.stands (IsWanted M.reads M.sends M.asks M.until M.awaits) M.serves_by M.is_stopped table.new.round.wakes core.now (W.told wire.new) (W.port_faults wire.old) (W.port_faults wire.new)) }
+    ensures proceeds { Begins M.serves_by M.owes W.told W.ruled_by W.takes W.port_faults W.faults core.now core.now wire.old wire.new }
 {
     M::quiet();
     table.round.calls += 1;
@@ -53,7 +53,7 @@ pub fn wait_once<M: Machine, W: Wire>(
     ensures calls { OnOk result (table.new.round.calls ≡ 0) }
     ensures wakes { OnOk result (table.new.round.wakes ≡ table.old.round.wakes + 1) }
     ensures slept { OnErr result (table.new.round.wakes ≡ table.old.round.wakes) }
-    ensures ends { IfErr result (Breaks M.stands M.is_stopped table.new.round.wakes core.new (W.told wire.new) (W.port_faults wire.old) (W.port_faults wire.new)) }
+    ensures ends { IfErr result (Breaks M.stands (IsWanted M.reads M.sends M.asks M.until M.awaits) M.serves_by M.is_stopped table.new.round.wakes core.new (W.told wire.new) (W.port_faults wire.old) (W.port_faults wire.new)) }
     ensures proceeds { Proceeds M.serves_by M.owes W.told W.ruled_by W.takes W.port_faults W.faults core.old core.new wire.old wire.new }
 {
     M::quiet();
@@ -78,7 +78,7 @@ pub fn accept_once<M: Machine, W: Wire>(
     requires room { table.old.round.calls < 4294967296 }
     requires going { IsGoing M.stands M.reads M.sends M.changed M.is_stopped M.asks core.old table.old (W.told wire.old) }
     ensures serves { OnOk result (Serves M.stands M.reads M.sends M.changed core.new table.new (W.told wire.new)) }
-    ensures made { HasMade M.stands M.is_stopped M.serves_by M.owes W.told W.ruled_by W.takes W.port_faults W.faults (Call.Accept port) core.old core.new wire.old wire.new table.old.round table.new.round result }
+    ensures made { HasMade M.stands (IsWanted M.reads M.sends M.asks M.until M.awaits) M.is_stopped M.serves_by M.owes W.told W.ruled_by W.takes W.port_faults W.faults (Call.Accept port) core.old core.new wire.old wire.new table.old.round table.new.round result }
 {
     M::quiet();
     table.round.calls += 1;
@@ -104,7 +104,7 @@ pub fn name_once<M: Machine, W: Wire>(
     requires room { table.old.round.calls < 4294967296 }
     requires going { IsGoing M.stands M.reads M.sends M.changed M.is_stopped M.asks core.now table.old (W.told wire.old) }
     ensures serves { OnOk result (Serves M.stands M.reads M.sends M.changed core.now table.new (W.told wire.new)) }
-    ensures made { HasMade M.stands M.is_stopped M.serves_by M.owes W.told W.ruled_by W.takes W.port_faults W.faults (Call.Name) core.now core.now wire.old wire.new table.old.round table.new.round result }
+    ensures made { HasMade M.stands (IsWanted M.reads M.sends M.asks M.until M.awaits) M.is_stopped M.serves_by M.owes W.told W.ruled_by W.takes W.port_faults W.faults (Call.Name) core.now core.now wire.old wire.new table.old.round table.new.round result }
 {
     M::quiet();
     table.round.calls += 1;
@@ -130,11 +130,13 @@ pub fn read_once<M: Machine, W: Wire>(
     requires wet { is_read_dry table.old.links link ≡ Some false }
     requires going { IsGoing M.stands M.reads M.sends M.changed M.is_stopped M.asks core.old table.old (W.told wire.old) }
     ensures serves { OnOk result (Serves M.stands M.reads M.sends M.changed core.new table.new (W.told wire.new)) }
-    ensures made { HasMade M.stands M.is_stopped M.serves_by M.owes W.told W.ruled_by W.takes W.port_faults W.faults (Call.Read link) core.old core.new wire.old wire.new table.old.round table.new.round result }
+    ensures made { HasMade M.stands (IsWanted M.reads M.sends M.asks M.until M.awaits) M.is_stopped M.serves_by M.owes W.told W.ruled_by W.takes W.port_faults W.faults (Call.Read link) core.old core.new wire.old wire.new table.old.round table.new.round result }
 {
     M::quiet();
     table.round.calls += 1;
-    let Some(told) = hear(link, wire.read(link, buffer)) else {
+    let got = wire.read(link, buffer);
+    are_bytes(buffer);
+    let Some(told) = hear(link, got) else {
         table.links.read_dry(link);
         return Ok(());
     };
@@ -153,7 +155,7 @@ pub fn write_once<M: Machine, W: Wire>(
     requires wet { is_write_dry table.old.links link ≡ Some false }
     requires going { IsGoing M.stands M.reads M.sends M.changed M.is_stopped M.asks core.old table.old (W.told wire.old) }
     ensures serves { OnOk result (Serves M.stands M.reads M.sends M.changed core.new table.new (W.told wire.new)) }
-    ensures made { HasMade M.stands M.is_stopped M.serves_by M.owes W.told W.ruled_by W.takes W.port_faults W.faults (Call.Write link) core.old core.new wire.old wire.new table.old.round table.new.round result }
+    ensures made { HasMade M.stands (IsWanted M.reads M.sends M.asks M.until M.awaits) M.is_stopped M.serves_by M.owes W.told W.ruled_by W.takes W.port_faults W.faults (Call.Write link) core.old core.new wire.old wire.new table.old.round table.new.round result }
 {
     M::quiet();
     M::lends();

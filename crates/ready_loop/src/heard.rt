@@ -1,6 +1,7 @@
 // What a machine is told of a read.
 ghost use Rattle.std.specs.Prelude.{◌≡◌};
 ghost use Rattle.ready_loop.specs.Heard.{heard_of};
+ghost use Rattle.mx_base.specs.Fields.{AreBytes};
 
 use crate::Event;
 use mx_base::LinkId;
@@ -32,4 +33,11 @@ pub fn hear(link: LinkId, got: Got) -> Option<Heard>
             length: 0,
         }),
     }
+}
+
+/// Each item is a byte. Does nothing.
+pub fn are_bytes(bytes: &[u8])
+    ensures { AreBytes bytes.now }
+{
+    let _size = bytes.len();
 }

@@ -7,7 +7,7 @@ ghost use Rattle.ready_loop.specs.Drained.{DrainedFor};
 ghost use Rattle.ready_loop.specs.Links.{mark_of};
 ghost use Rattle.ready_loop.specs.Machine.{StandsFor};
 ghost use Rattle.ready_loop.specs.Round.{CountsOf};
-ghost use Rattle.ready_loop.specs.Serving.{Serves, IsGoing, Breaks, Ends, StoodFor, EndsWith, IsOver, IsPortFault, SpentFor, WokeFor, ListensFirst, ListeningFor, Proceeds, HasMade, IsOwed};
+ghost use Rattle.ready_loop.specs.Serving.{IsWanted, Serves, IsGoing, Breaks, Ends, StoodFor, EndsWith, IsOver, IsPortFault, SpentFor, WokeFor, ListensFirst, ListeningFor, Begins, Proceeds, HasMade, IsOwed};
 
 use crate::acts::do_acts;
 use crate::calls::{accept_once, listen_once, name_once, read_once, wait_once, write_once};
@@ -35,7 +35,7 @@ fn queue_changed<M: Machine, W: Wire>(
     ensures stopped { M.is_stopped core.new ≡ M.is_stopped core.old }
     ensures acted { M.asks core.new ≡ M.asks core.old }
     ensures round { table.new.round ≡ table.old.round }
-    ensures broke { OnErr result (StoodFor M.stands (W.told wire.now)) }
+    ensures broke { OnErr result (StoodFor M.stands (IsWanted M.reads M.sends M.asks M.until M.awaits) M.serves_by core.new (W.told wire.now)) }
     ensures serves_by { M.serves_by core.new ≡ M.serves_by core.old }
 {
     while let Some(link) = core.next_changed() {
@@ -56,7 +56,7 @@ fn follow<M: Machine, W: Wire>(
     ensures room { OnOk result (table.new.round.calls < 4294967296) }
     ensures more { OnOk result (table.old.round.calls ≤ table.new.round.calls) }
     ensures wakes { table.new.round.wakes ≡ table.old.round.wakes }
-    ensures ends { IfErr result (Breaks M.stands M.is_stopped table.new.round.wakes core.new (W.told wire.new) (W.port_faults wire.old) (W.port_faults wire.new)) }
+    ensures ends { IfErr result (Breaks M.stands (IsWanted M.reads M.sends M.asks M.until M.awaits) M.serves_by M.is_stopped table.new.round.wakes core.new (W.told wire.new) (W.port_faults wire.old) (W.port_faults wire.new)) }
     ensures proceeds { Proceeds M.serves_by M.owes W.told W.ruled_by W.takes W.port_faults W.faults core.old core.new wire.old wire.new }
 {
     do_acts(core, wire, table)?;
@@ -78,7 +78,7 @@ fn make_call<M: Machine, W: Wire>(
     requires going { IsGoing M.stands M.reads M.sends M.changed M.is_stopped M.asks core.old table.old (W.told wire.old) }
     requires owed { IsOwed (M.reads core.old) (M.sends core.old) table.old call }
     ensures serves { OnOk result (Serves M.stands M.reads M.sends M.changed core.new table.new (W.told wire.new)) }
-    ensures made { HasMade M.stands M.is_stopped M.serves_by M.owes W.told W.ruled_by W.takes W.port_faults W.faults call core.old core.new wire.old wire.new table.old.round table.new.round result }
+    ensures made { HasMade M.stands (IsWanted M.reads M.sends M.asks M.until M.awaits) M.is_stopped M.serves_by M.owes W.told W.ruled_by W.takes W.port_faults W.faults call core.old core.new wire.old wire.new table.old.round table.new.round result }
 {
     match call {
         Call::Accept { port } => accept_once(core, wire, table, port),
@@ -100,7 +100,7 @@ fn settle<M: Machine, W: Wire>(
     ensures going { OnOk result (IsGoing M.stands M.reads M.sends M.changed M.is_stopped M.asks core.new table.new (W.told wire.new)) }
     ensures drained { OnOk result (DrainedFor (M.reads core.new) (M.sends core.new) (W.told wire.new)) }
     ensures wakes { table.new.round.wakes ≡ table.old.round.wakes }
-    ensures ends { IfErr result (Breaks M.stands M.is_stopped table.new.round.wakes core.new (W.told wire.new) (W.port_faults wire.old) (W.port_faults wire.new)) }
+    ensures ends { IfErr result (Breaks M.stands (IsWanted M.reads M.sends M.asks M.until M.awaits) M.serves_by M.is_stopped table.new.round.wakes core.new (W.told wire.new) (W.port_faults wire.old) (W.port_faults wire.new)) }
     ensures proceeds { Proceeds M.serves_by M.owes W.told W.ruled_by W.takes W.port_faults W.faults core.old core.new wire.old wire.new }
 {
     loop {
@@ -122,7 +122,7 @@ fn serve_turns<M: Machine, W: Wire>(
     requires whole { length buffer.old ≡ 65536 }
     requires wakes { table.old.round.wakes ≡ 0 }
     requires serves { Serves M.stands M.reads M.sends M.changed core.old table.old (W.told wire.old) }
-    ensures ends { Ends M.stands M.is_stopped turns (SpentFor turns (M.reads core.new) (M.sends core.new)) core.new (W.told wire.new) result }
+    ensures ends { Ends M.stands (IsWanted M.reads M.sends M.asks M.until M.awaits) M.serves_by M.is_stopped turns (SpentFor turns (M.reads core.new) (M.sends core.new)) core.new (W.told wire.new) result }
     ensures rose { result ≡ ServeEnd.ListenFault → W.port_faults wire.old < W.port_faults wire.new }
     ensures proceeds { Proceeds M.serves_by M.owes W.told W.ruled_by W.takes W.port_faults W.faults core.old core.new wire.old wire.new }
 {
@@ -150,8 +150,8 @@ fn start<M: Machine, W: Wire>(core: &M, wire: &mut W, table: &mut Table) -> Resu
     ensures wakes { table.new.round.wakes ≡ table.old.round.wakes }
     ensures listening { OnOk result (ListeningFor (M.address_of core.now Port.Traffic) (M.address_of core.now Port.Admin) (W.told wire.new)) }
     ensures listens { OnErr result (ListensFirst (M.address_of core.now Port.Traffic) (M.address_of core.now Port.Admin) (W.told wire.new)) }
-    ensures ends { IfErr result (Breaks M.stands M.is_stopped table.new.round.wakes core.now (W.told wire.new) (W.port_faults wire.old) (W.port_faults wire.new)) }
-    ensures proceeds { Proceeds M.serves_by M.owes W.told W.ruled_by W.takes W.port_faults W.faults core.now core.now wire.old wire.new }
+    ensures ends { IfErr result (Breaks M.stands (IsWanted M.reads M.sends M.asks M.until M.awaits) M.serves_by M.is_stopped table.new.round.wakes core.now (W.told wire.new) (W.port_faults wire.old) (W.port_faults wire.new)) }
+    ensures proceeds { Begins M.serves_by M.owes W.told W.ruled_by W.takes W.port_faults W.faults core.now core.now wire.old wire.new }
 {
     wire.reserve(core.most_links())?;
     listen_once(core, wire, table, Port::Traffic)?;
@@ -174,21 +174,22 @@ fn make_room(alloc: Global, most: u32) -> Result<(Table, Vec<u8>), OutOfMemory>
 }
 
 /// Serves a machine over a wire, for `turns` waits at most. Room for `most_links` links is taken first; then the
-/// loop listens at both addresses, traffic first, does what the machine asks for, and then waits. Each wake is told
-/// to the machine; then clients are accepted, traffic first, ready links are named, and the links are served in the
-/// order named: each is read while the machine wants it and then written while it has something, until the wire is
-/// not ready. After each call the machine's acts are done in order, so that it asks for none at a wait.
+/// loop listens at both addresses, traffic first, before any other call and at no others, does what the machine asks
+/// for, and then waits. Each wake is told to the machine; then clients are accepted, traffic first, ready links are
+/// named, and the links are served in the order named: each is read while the machine wants it and then written while
+/// it has something, until the wire is not ready. After each call the machine's acts are done in order, so that it asks
+/// for none at a wait.
 ///
 /// Stopped comes where the machine stopped, Over where a wait answered Over, ListenFault where a port or a wait
 /// failed, TurnsSpent where a further wait is due after `turns` of them, or 4,294,967,296 calls of the wire were made
 /// since the last wake, and OutOfMemory where memory was refused: by then a machine stood for the log, but for the
-/// last call's answer.
+/// answer of the last call, which it wanted.
 pub fn serve<M: Machine, W: Wire>(alloc: Global, core: &mut M, wire: &mut W, turns: u64) -> ServeEnd
     requires fresh { (log : Log) → W.told wire.old ≡ Some log → log ≡ [] }
     requires stands { StandsFor M.stands core.old (W.told wire.old) }
     requires going { M.is_stopped core.old ≡ false }
     ensures stands { result ≢ ServeEnd.OutOfMemory → StandsFor M.stands core.new (W.told wire.new) }
-    ensures broke { result ≡ ServeEnd.OutOfMemory → StoodFor M.stands (W.told wire.new) }
+    ensures broke { result ≡ ServeEnd.OutOfMemory → StoodFor M.stands (IsWanted M.reads M.sends M.asks M.until M.awaits) M.serves_by core.new (W.told wire.new) }
     ensures stopped { result ≡ ServeEnd.Stopped → M.is_stopped core.new ≡ true }
     ensures going { result ≢ ServeEnd.Stopped → result ≢ ServeEnd.OutOfMemory → M.is_stopped core.new ≡ false }
     ensures over { result ≡ ServeEnd.Over → EndsWith IsOver (W.told wire.new) }

@@ -7,7 +7,7 @@ use Rattle.ready_loop.specs.declared.ends.ServeEnd.TheVariants as ended
 use Rattle.mem_wire.specs.Play.{IsPlay}
 use Rattle.ready_loop.specs.Round.{calls_since_wake, wakes_of}
 use Rattle.ready_loop.specs.Serving.{IsOver, IsOut, IsBusy}
-use Rattle.proxy_run.proofs.Keeping.{sized-so}
+use Rattle.proxy_run.proofs.Keeping.{sized-so, listens-at}
 use Rattle.proxy_run.proofs.Turns.{spent-busy}
 use Rattle.proxy_run.proofs.replay.play.Goals as goal
 
@@ -25,6 +25,7 @@ returns-in-Over-clause-ok c = record {
   serves = λ log is play.
       let stands = (c.serve-end.ensures.stands (λ ran_out. let h : ended.Over ≡ ended.OutOfMemory = sym c.in-Over.is ∙ ran_out in cc)).holds log is in
       record {
+        run = record { fits = stands.fits; listens = (listens-at _ _ _ _ _ c.in_ok-core.ensures.listen c.in_ok-core.ensures.admin_listen c.serve-end.ensures.listens).holds log is };
         keeps = sized-so _ _ _ _ _ log c.serve-end.ensures.serves_by c.in_ok-core.ensures.setup (ap (λ tape. tape.recording) c.new-tape.ensures) stands play (c.serve-end.ensures.offered.holds log is);
         before = (ends log ((c.serve-end.ensures.over c.in-Over.is).last log is)).0;
         over = (ends log ((c.serve-end.ensures.over c.in-Over.is).last log is)).1;
@@ -41,6 +42,7 @@ returns-in-Some-clause-err c =
       log,
       record {
         play = play;
+        run = record { fits = stands.fits; listens = (listens-at _ _ _ _ _ c.in_ok-core.ensures.listen c.in_ok-core.ensures.admin_listen c.serve-end.ensures.listens).holds log is };
         keeps = sized-so _ _ _ _ _ log c.serve-end.ensures.serves_by c.in_ok-core.ensures.setup (ap (λ tape. tape.recording) c.new-tape.ensures) stands play (c.serve-end.ensures.offered.holds log is);
         spent = spent-busy c.args.entries.items log play (subst (λ n. (wakes_of log ≡ 2 * n + 16) ⊎ (4294967296 ≤ calls_since_wake log)) (c.len.ensures ∙ c.args.entries.ok.0) spent);
       },

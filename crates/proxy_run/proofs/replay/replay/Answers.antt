@@ -9,19 +9,19 @@ use Rattle.proxy_run.specs.declared.stop.Stop.{Stop}
 use Rattle.proxy_run.specs.declared.stop.Stop.TheVariants as stop
 use Rattle.recording.specs.Playable.{IsPlayable}
 use Rattle.proxy_run.specs.Words.{Named, replay_words}
-use Rattle.session_core.specs.Cores.{setup_of}
 use Rattle.proxy_run.specs.Replay.{Held, IsConfigured, IsUnder, HasPlayed, IsReplay, PlayStops, PutStops, PutsNothing, Stops}
 use Rattle.proxy_run.proofs.Ending.{played-out}
 use Rattle.proxy_run.proofs.replay.replay.Goals as goal
 
 -- a tape that has played the recording under the name tells a replay
-replay-of : (words : List (List ℕ)) (held : Held) (names : Named) (entries : List RecordEntry) (tape : Played) (log : Log) → replay_words words ≡ Some names → (configured : IsConfigured names.config held) → IsUnder names.recording held entries → IsPlayable entries → HasPlayed (setup_of configured.config) entries tape → tape.told ≡ Some log → IsPlay tape.recording log → IsReplay words held log
+replay-of : (words : List (List ℕ)) (held : Held) (names : Named) (entries : List RecordEntry) (tape : Played) (log : Log) → replay_words words ≡ Some names → (configured : IsConfigured names.config held) → IsUnder names.recording held entries → IsPlayable entries → HasPlayed configured.config entries tape → tape.told ≡ Some log → IsPlay tape.recording log → IsReplay words held log
 replay-of words held names entries tape log named configured under playable played is play = record {
   names = names;
   named = named;
   configured = configured;
   entries = entries;
   under = under;
+  run = (played.serves log is (played.plays log play)).run;
   replays =
       let plays = played.plays log play in
       let serves = played.serves log is plays in
@@ -33,7 +33,7 @@ replay-of words held names entries tape log named configured under playable play
       };
 }
 
-stopped : (given : Stop) (words : List (List ℕ)) (held : Held) (read_before read_now : ℕ) (names : Named) (entries : List RecordEntry) (tape : Played) (old : Option (List ℕ)) (before : ℕ) (new : Option (List ℕ)) (now : ℕ) → replay_words words ≡ Some names → (configured : IsConfigured names.config held) → IsUnder names.recording held entries → IsPlayable entries → HasPlayed (setup_of configured.config) entries tape → PutStops given tape old before new now → Stops given words held read_before read_now old before new now
+stopped : (given : Stop) (words : List (List ℕ)) (held : Held) (read_before read_now : ℕ) (names : Named) (entries : List RecordEntry) (tape : Played) (old : Option (List ℕ)) (before : ℕ) (new : Option (List ℕ)) (now : ℕ) → replay_words words ≡ Some names → (configured : IsConfigured names.config held) → IsUnder names.recording held entries → IsPlayable entries → HasPlayed configured.config entries tape → PutStops given tape old before new now → Stops given words held read_before read_now old before new now
 stopped stop.OutOfMemory words held read_before read_now names entries tape old before new now named configured under playable played stops = ((names, named), stops)
 stopped stop.SinkFault words held read_before read_now names entries tape old before new now named configured under playable played stops = record {
   log = stops.log;
@@ -64,7 +64,7 @@ returns-clause-err g c =
     if-err c.put.result (λ given. stopped given _ _ _ _ _ c.in_ok-entries.entries.items c.in_ok-tape.tape _ _ _ _ (sym c.in-Some.ensures) (record { config = c.in_ok-config.config; said = c.in_ok-config.ensures.ok }) (rw c.in_ok-config.ensures.held at c.in_ok-entries.ensures.under) c.in_ok-entries.ensures.playable c.in_ok-tape.ensures.ok) c.put.ensures.err
 
 -- a play that stops short has put nothing
-unplayed : (given : Stop) (words : List (List ℕ)) (held : Held) (read_before read_now : ℕ) (names : Named) (entries : List RecordEntry) (old : Option (List ℕ)) (before : ℕ) (new : Option (List ℕ)) (now : ℕ) → replay_words words ≡ Some names → (configured : IsConfigured names.config held) → IsUnder names.recording held entries → PlayStops given (setup_of configured.config) entries → PutsNothing old before new now → Stops given words held read_before read_now old before new now
+unplayed : (given : Stop) (words : List (List ℕ)) (held : Held) (read_before read_now : ℕ) (names : Named) (entries : List RecordEntry) (old : Option (List ℕ)) (before : ℕ) (new : Option (List ℕ)) (now : ℕ) → replay_words words ≡ Some names → (configured : IsConfigured names.config held) → IsUnder names.recording held entries → PlayStops given configured.config entries → PutsNothing old before new now → Stops given words held read_before read_now old before new now
 unplayed stop.OutOfMemory words held read_before read_now names entries old before new now named configured under stops nothing = ((names, named), nothing)
 unplayed stop.TurnsSpent words held read_before read_now names entries old before new now named configured under stops nothing = (record { names = names; named = named; configured = configured; entries = entries; under = under; log = stops.0; spent = stops.1 }, nothing)
 unplayed _ words held read_before read_now names entries old before new now named configured under stops nothing = absurd stops

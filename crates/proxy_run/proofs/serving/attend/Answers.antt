@@ -1,6 +1,5 @@
-use Rattle.std.specs.Prelude.{◌≡◌, ◌⊎◌, ℕ, Option}
+use Rattle.std.specs.Prelude.{◌≡◌, ◌⊎◌, ℕ, Option, Some}
 use Rattle.std.proofs.Common.{inl, inr, subst, sym, ◌∙◌}
-use Rattle.mx_base.specs.declared.names.Address.{Address}
 use Rattle.mx_wire.specs.Log.{Log}
 use Rattle.mx_config.specs.declared.config.Config.{Config}
 use Rattle.ready_loop.specs.declared.ends.ServeEnd.TheVariants as ended
@@ -13,18 +12,18 @@ use Rattle.session_core.specs.declared.router.Core.{Core}
 use Rattle.session_core.specs.Cores.{setup_of}
 use Rattle.session_core.specs.Stands.{Stands}
 use Rattle.proxy_run.specs.Serve.{ServesAt}
-use Rattle.proxy_run.proofs.Keeping.{serves-so}
+use Rattle.proxy_run.proofs.Keeping.{Ran, listens-at, ran-of, ran-serves, stood-ran}
 use Rattle.proxy_run.proofs.serving.attend.Goals as goal
 
 -- what a core keeps that ends with the setup of the configuration
-serves : (config : Config) (core : Core) (told : Option Log) → core.setup ≡ setup_of config → StandsFor Stands core told → ListensFirst config.proxy.listen config.proxy.admin_listen told → ServesAt config told
-serves config core told by standing listens = record {
-  listens = listens;
-  serves = λ log is. subst (λ (setup : Setup). Serves setup log) by (serves-so core log (standing.holds log is));
+serves-by : (config : Config) (core : Core) (told : Option Log) → core.setup ≡ setup_of config → ((log : Log) → told ≡ Some log → Ran core.setup log) → ListensFirst config.proxy.listen config.proxy.admin_listen told → ServesAt config told
+serves-by config core told by ran listens = record {
+  run = λ log is. record { fits = (ran log is).fits; listens = listens.holds log is };
+  serves = λ log is. subst (λ (setup : Setup). Serves setup log) by (ran-serves core.setup log (ran log is));
 }
 
-listens-at : (told : Option Log) (traffic admin at_traffic at_admin : Address) → traffic ≡ at_traffic → admin ≡ at_admin → ListensFirst traffic admin told → ListensFirst at_traffic at_admin told
-listens-at told traffic admin at_traffic at_admin same_traffic same_admin listens = rw (same_traffic, same_admin) at listens
+serves : (config : Config) (core : Core) (told : Option Log) → core.setup ≡ setup_of config → StandsFor Stands core told → ListensFirst config.proxy.listen config.proxy.admin_listen told → ServesAt config told
+serves config core told by standing listens = serves-by config core told by (λ log is. ran-of core log (standing.holds log is)) listens
 
 worn : (turns : ℕ) (reads : _) (sends : _) (log : Log) → IsOut turns reads sends log ⊎ IsBusy log → (wakes_of log ≡ turns) ⊎ IsBusy log
 worn turns reads sends log (inl out) = inl out.woke
@@ -56,3 +55,11 @@ returns-in-TurnsSpent-clause-err g c = record {
       (listens-at _ _ _ _ _ c.in_ok-core.ensures.listen c.in_ok-core.ensures.admin_listen c.serve-end.ensures.listens);
   ends = record { worn = λ log is. worn _ _ _ log ((c.serve-end.ensures.spent c.in-TurnsSpent.is).holds log is) };
 }
+
+pub returns-in-OutOfMemory-clause-err : goal.returns-in-OutOfMemory-clause-err
+returns-in-OutOfMemory-clause-err g c = inr (record {
+  serves = serves-by _ _ _ (c.serve-end.ensures.serves_by ∙ c.in_ok-core.ensures.setup)
+      (λ log is. stood-ran _ log ((c.serve-end.ensures.broke c.in-OutOfMemory.is).holds log is))
+      (listens-at _ _ _ _ _ c.in_ok-core.ensures.listen c.in_ok-core.ensures.admin_listen c.serve-end.ensures.listens);
+  ends = tt;
+})

@@ -1,5 +1,5 @@
 use Rattle.ready_loop.proofs.Ending.{stood_before, both, on_ok, on_err}
-use Rattle.std.proofs.Common.{refl, ap}
+use Rattle.std.proofs.Common.{refl, ap, sym}
 use Rattle.ready_loop.proofs.Steps.{goes_on}
 use Rattle.ready_loop.proofs.Counting.{unnamed, named}
 use Rattle.ready_loop.proofs.Marking as marking
@@ -20,7 +20,7 @@ returns-in-Link-clause-serves g c =
     })
 
 pub returns-in-Link-clause-broke : goal.returns-in-Link-clause-broke
-returns-in-Link-clause-broke g c = on_err c.come.result _ (stood_before _ _ _ _ _ tt c.requires.serves.standing c.in-Link.ensures.told)
+returns-in-Link-clause-broke g c = on_err c.come.result _ (stood_before _ _ _ _ _ _ _ _ (λ log marks is all. c.requires.awaited) c.requires.serves.standing c.in-Link.ensures.told (sym c.come.ensures.serves_by))
 
 pub returns-in-Failed-clause-serves : goal.returns-in-Failed-clause-serves
 returns-in-Failed-clause-serves g c = on_ok c.take.result _ _ _ refl (both c.take.result _ _ c.take.ensures.carries c.take.ensures.changes) (λ taken. record {
@@ -30,10 +30,10 @@ returns-in-Failed-clause-serves g c = on_ok c.take.result _ _ _ refl (both c.tak
 })
 
 pub returns-in-Failed-clause-broke : goal.returns-in-Failed-clause-broke
-returns-in-Failed-clause-broke g c = on_err c.take.result _ (stood_before _ _ _ _ _ tt c.requires.serves.standing c.in-Failed.ensures.told)
+returns-in-Failed-clause-broke g c = on_err c.take.result _ (stood_before _ _ _ _ _ _ _ _ (λ log marks is all. c.requires.awaited) c.requires.serves.standing c.in-Failed.ensures.told (sym c.take.ensures.serves_by))
 
 pub returns-in-Link-clause-proceeds : goal.returns-in-Link-clause-proceeds
-returns-in-Link-clause-proceeds g c = proceeded _ _ _ _ _ _ _ _ _ _ _ _ c.in-Link.ensures.told tt c.in-Link.ensures.rule c.in-Link.ensures.port_faults c.in-Link.ensures.cause.later c.come.ensures.serves_by
+returns-in-Link-clause-proceeds g c = proceeded _ _ _ _ _ _ _ _ _ _ _ _ c.in-Link.ensures.told tt tt c.in-Link.ensures.rule c.in-Link.ensures.port_faults c.in-Link.ensures.cause.later c.come.ensures.serves_by
 
 pub returns-in-Failed-clause-proceeds : goal.returns-in-Failed-clause-proceeds
-returns-in-Failed-clause-proceeds g c = proceeded _ _ _ _ _ _ _ _ _ _ _ _ c.in-Failed.ensures.told tt c.in-Failed.ensures.rule c.in-Failed.ensures.port_faults c.in-Failed.ensures.cause.later c.take.ensures.serves_by
+returns-in-Failed-clause-proceeds g c = proceeded _ _ _ _ _ _ _ _ _ _ _ _ c.in-Failed.ensures.told tt tt c.in-Failed.ensures.rule c.in-Failed.ensures.port_faults c.in-Failed.ensures.cause.later c.take.ensures.serves_by

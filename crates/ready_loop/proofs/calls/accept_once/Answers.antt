@@ -1,4 +1,4 @@
-use Rattle.std.proofs.Common.{rules, refl, ap, ◌∙◌}
+use Rattle.std.proofs.Common.{rules, refl, ap, ◌∙◌, sym}
 use Rattle.ready_loop.proofs.Offering.{proceeded}
 use Rattle.ready_loop.proofs.Steps.{goes_on, stays}
 use Rattle.ready_loop.proofs.Counting.{unnamed, named}
@@ -25,8 +25,8 @@ returns-in-Link-clause-made g c = record {
   made_it = search rules;
   more = search rules;
   wakes = search rules;
-  ends = refused _ _ _ _ _ _ _ _ c.unless_refused.ensures.err (stood_before _ _ _ _ _ tt c.requires.going.serves.standing c.in-Link.ensures.told);
-  proceeds = proceeded _ _ _ _ _ _ _ _ _ _ _ _ c.in-Link.ensures.told tt c.in-Link.ensures.rule c.in-Link.ensures.cause.later c.in-Link.ensures.faults (search rules);
+  ends = refused _ _ _ _ _ _ _ _ _ _ c.unless_refused.ensures.err (stood_before _ _ _ _ _ _ _ _ (λ log marks is all. c.requires.going.acted) c.requires.going.serves.standing c.in-Link.ensures.told (sym c.come.ensures.serves_by));
+  proceeds = proceeded _ _ _ _ _ _ _ _ _ _ _ _ c.in-Link.ensures.told tt tt c.in-Link.ensures.rule c.in-Link.ensures.cause.later c.in-Link.ensures.faults (search rules);
 }
 
 pub returns-in-NotReady-clause-serves : goal.returns-in-NotReady-clause-serves
@@ -50,7 +50,7 @@ returns-in-Failed-clause-made g c = record {
     };
     rose = λ fault. c.in-Failed.ensures.cause.rose refl;
   };
-  proceeds = proceeded _ _ _ _ _ _ _ _ _ _ _ _ c.in-Failed.ensures.told tt c.in-Failed.ensures.rule c.in-Failed.ensures.cause.later c.in-Failed.ensures.faults (search rules);
+  proceeds = proceeded _ _ _ _ _ _ _ _ _ _ _ _ c.in-Failed.ensures.told tt tt c.in-Failed.ensures.rule c.in-Failed.ensures.cause.later c.in-Failed.ensures.faults (search rules);
 }
 
 pub returns-in-NotReady-clause-made : goal.returns-in-NotReady-clause-made
@@ -59,5 +59,5 @@ returns-in-NotReady-clause-made g c = record {
   more = search rules;
   wakes = search rules;
   ends = search rules;
-  proceeds = proceeded _ _ _ _ _ _ _ _ _ _ _ _ c.in-NotReady.ensures.told tt c.in-NotReady.ensures.rule c.in-NotReady.ensures.cause.later c.in-NotReady.ensures.faults refl;
+  proceeds = proceeded _ _ _ _ _ _ _ _ _ _ _ _ c.in-NotReady.ensures.told tt tt c.in-NotReady.ensures.rule c.in-NotReady.ensures.cause.later c.in-NotReady.ensures.faults refl;
 }

@@ -3,7 +3,7 @@ use Rattle.ready_loop.proofs.Steps.{stays}
 use Rattle.ready_loop.proofs.Counting.{unnamed}
 use Rattle.ready_loop.specs.Serving.{IsPortFault}
 use Rattle.ready_loop.proofs.Ending.{ends_with, woke_on}
-use Rattle.ready_loop.proofs.Offering.{proceeded}
+use Rattle.ready_loop.proofs.Offering.{begun}
 use Rattle.ready_loop.proofs.calls.listen_once.Goals as goal
 
 pub returns-in-Done-clause-serves : goal.returns-in-Done-clause-serves
@@ -25,7 +25,7 @@ returns-in-Failed-clause-ends g c = record {
 }
 
 pub returns-in-Done-clause-proceeds : goal.returns-in-Done-clause-proceeds
-returns-in-Done-clause-proceeds g c = proceeded _ _ _ _ _ _ _ _ _ _ _ _ c.in-Done.ensures.told tt c.in-Done.ensures.rule c.in-Done.ensures.cause.later c.in-Done.ensures.faults refl
+returns-in-Done-clause-proceeds g c = begun _ _ _ _ _ _ _ _ _ _ _ _ c.in-Done.ensures.told tt c.in-Done.ensures.rule c.in-Done.ensures.cause.later c.in-Done.ensures.faults refl
 
 pub returns-in-Failed-clause-proceeds : goal.returns-in-Failed-clause-proceeds
-returns-in-Failed-clause-proceeds g c = proceeded _ _ _ _ _ _ _ _ _ _ _ _ c.in-Failed.ensures.told tt c.in-Failed.ensures.rule c.in-Failed.ensures.cause.later c.in-Failed.ensures.faults refl
+returns-in-Failed-clause-proceeds g c = begun _ _ _ _ _ _ _ _ _ _ _ _ c.in-Failed.ensures.told tt c.in-Failed.ensures.rule c.in-Failed.ensures.cause.later c.in-Failed.ensures.faults refl

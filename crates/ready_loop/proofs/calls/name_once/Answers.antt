@@ -26,8 +26,8 @@ returns-in-Some-clause-made g c = record {
   made_it = search rules;
   more = search rules;
   wakes = search rules;
-  ends = refused _ _ _ _ _ _ _ _ c.unless_refused.ensures.err (stood_before _ _ _ _ _ tt c.requires.going.serves.standing c.in-Some.ensures.told);
-  proceeds = proceeded _ _ _ _ _ _ _ _ _ _ _ _ c.in-Some.ensures.told tt c.in-Some.ensures.rule c.in-Some.ensures.port_faults c.in-Some.ensures.faults (search rules);
+  ends = refused _ _ _ _ _ _ _ _ _ _ c.unless_refused.ensures.err (stood_before _ _ _ _ _ _ _ _ (λ log marks is all. tt) c.requires.going.serves.standing c.in-Some.ensures.told refl);
+  proceeds = proceeded _ _ _ _ _ _ _ _ _ _ _ _ c.in-Some.ensures.told tt tt c.in-Some.ensures.rule c.in-Some.ensures.port_faults c.in-Some.ensures.faults (search rules);
 }
 
 pub returns-in-None-clause-made : goal.returns-in-None-clause-made
@@ -36,5 +36,5 @@ returns-in-None-clause-made g c = record {
   more = search rules;
   wakes = search rules;
   ends = search rules;
-  proceeds = proceeded _ _ _ _ _ _ _ _ _ _ _ _ c.in-None.ensures.told tt c.in-None.ensures.rule c.in-None.ensures.port_faults c.in-None.ensures.faults refl;
+  proceeds = proceeded _ _ _ _ _ _ _ _ _ _ _ _ c.in-None.ensures.told tt tt c.in-None.ensures.rule c.in-None.ensures.port_faults c.in-None.ensures.faults refl;
 }

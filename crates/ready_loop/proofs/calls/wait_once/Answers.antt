@@ -1,6 +1,6 @@
-use Rattle.std.proofs.Common.{refl}
+use Rattle.std.proofs.Common.{refl, sym}
 use Rattle.ready_loop.proofs.Steps.{waits}
-use Rattle.ready_loop.proofs.Counting.{unnamed}
+use Rattle.ready_loop.proofs.Counting.{unnamed, drained-marks}
 use Rattle.ready_loop.proofs.Watching as watching
 use Rattle.ready_loop.specs.Serving.{IsPortFault, IsOver}
 use Rattle.ready_loop.proofs.Ending.{ends_with, woke_on, stood_before, broke}
@@ -37,16 +37,16 @@ returns-in-Failed-clause-ends g c = record {
 }
 
 pub returns-in_err-take-in-Woke-clause-ends : goal.returns-in_err-take-in-Woke-clause-ends
-returns-in_err-take-in-Woke-clause-ends g c = broke _ _ _ _ _ _ _ c.from_residual.result c.from_residual.ensures.1 (stood_before _ _ _ _ _ tt c.requires.going.serves.standing c.in-Woke.ensures.told)
+returns-in_err-take-in-Woke-clause-ends g c = broke _ _ _ _ _ _ _ _ _ c.from_residual.result c.from_residual.ensures.1 (stood_before _ _ _ _ _ _ _ _ (λ log marks is all. (record { drained = drained-marks _ _ log marks all (c.requires.drained.holds log is); acted = c.requires.going.acted }, c.until_ms.ensures)) c.requires.going.serves.standing c.in-Woke.ensures.told (sym c.in_err-take-in-Woke.ensures.serves_by))
 
 pub returns-in_err-take-in-Woke-clause-proceeds : goal.returns-in_err-take-in-Woke-clause-proceeds
-returns-in_err-take-in-Woke-clause-proceeds g c = proceeded _ _ _ _ _ _ _ _ _ _ _ _ c.in-Woke.ensures.told tt c.in-Woke.ensures.rule c.in-Woke.ensures.cause.later c.in-Woke.ensures.faults c.in_err-take-in-Woke.ensures.serves_by
+returns-in_err-take-in-Woke-clause-proceeds g c = proceeded _ _ _ _ _ _ _ _ _ _ _ _ c.in-Woke.ensures.told tt tt c.in-Woke.ensures.rule c.in-Woke.ensures.cause.later c.in-Woke.ensures.faults c.in_err-take-in-Woke.ensures.serves_by
 
 pub returns-in_ok-take-in-Woke-clause-proceeds : goal.returns-in_ok-take-in-Woke-clause-proceeds
-returns-in_ok-take-in-Woke-clause-proceeds g c = proceeded _ _ _ _ _ _ _ _ _ _ _ _ c.in-Woke.ensures.told tt c.in-Woke.ensures.rule c.in-Woke.ensures.cause.later c.in-Woke.ensures.faults c.in_ok-take-in-Woke.ensures.serves_by
+returns-in_ok-take-in-Woke-clause-proceeds g c = proceeded _ _ _ _ _ _ _ _ _ _ _ _ c.in-Woke.ensures.told tt tt c.in-Woke.ensures.rule c.in-Woke.ensures.cause.later c.in-Woke.ensures.faults c.in_ok-take-in-Woke.ensures.serves_by
 
 pub returns-in-Over-clause-proceeds : goal.returns-in-Over-clause-proceeds
-returns-in-Over-clause-proceeds g c = proceeded _ _ _ _ _ _ _ _ _ _ _ _ c.in-Over.ensures.told tt c.in-Over.ensures.rule c.in-Over.ensures.cause.later c.in-Over.ensures.faults refl
+returns-in-Over-clause-proceeds g c = proceeded _ _ _ _ _ _ _ _ _ _ _ _ c.in-Over.ensures.told tt tt c.in-Over.ensures.rule c.in-Over.ensures.cause.later c.in-Over.ensures.faults refl
 
 pub returns-in-Failed-clause-proceeds : goal.returns-in-Failed-clause-proceeds
-returns-in-Failed-clause-proceeds g c = proceeded _ _ _ _ _ _ _ _ _ _ _ _ c.in-Failed.ensures.told tt c.in-Failed.ensures.rule c.in-Failed.ensures.cause.later c.in-Failed.ensures.faults refl
+returns-in-Failed-clause-proceeds g c = proceeded _ _ _ _ _ _ _ _ _ _ _ _ c.in-Failed.ensures.told tt tt c.in-Failed.ensures.rule c.in-Failed.ensures.cause.later c.in-Failed.ensures.faults refl

@@ -1,5 +1,5 @@
 use Rattle.ready_loop.proofs.Ending.{stood_before, refused, both, on_ok}
-use Rattle.std.proofs.Common.{rules, refl, inr}
+use Rattle.std.proofs.Common.{rules, refl, inr, sym}
 use Rattle.ready_loop.proofs.Offering.{owed-for, proceeded, proceeds-so, write-offers}
 use Rattle.ready_loop.proofs.Steps.{goes_on, stays, written, may_take}
 use Rattle.ready_loop.proofs.Counting.{named}
@@ -41,8 +41,8 @@ returns-in-Failed-clause-made g c = record {
   made_it = search rules;
   more = search rules;
   wakes = search rules;
-  ends = refused _ _ _ _ _ _ _ _ c.unless_refused.ensures.err (stood_before _ _ _ _ _ tt c.requires.going.serves.standing c.in-Failed.ensures.told);
-  proceeds = proceeded _ _ _ _ _ _ _ _ _ _ _ _ c.in-Failed.ensures.told tt c.in-Failed.ensures.rule c.in-Failed.ensures.port_faults c.in-Failed.ensures.cause.later (search rules);
+  ends = refused _ _ _ _ _ _ _ _ _ _ c.unless_refused.ensures.err (stood_before _ _ _ _ _ _ _ _ (λ log marks is all. c.requires.going.acted) c.requires.going.serves.standing c.in-Failed.ensures.told (sym c.take.ensures.serves_by));
+  proceeds = proceeded _ _ _ _ _ _ _ _ _ _ _ _ c.in-Failed.ensures.told tt tt c.in-Failed.ensures.rule c.in-Failed.ensures.port_faults c.in-Failed.ensures.cause.later (search rules);
 }
 
 pub returns-in-Took-clause-made : goal.returns-in-Took-clause-made
@@ -51,7 +51,7 @@ returns-in-Took-clause-made g c = record {
   more = search rules;
   wakes = search rules;
   ends = search rules;
-  proceeds = proceeds-so _ _ _ _ _ _ _ _ _ _ _ _ c.in-Took.ensures.told c.in-Took.ensures.rule c.in-Took.ensures.port_faults c.in-Took.ensures.cause.later c.taken.ensures.serves_by
+  proceeds = proceeds-so _ _ _ _ _ _ _ _ _ _ _ _ c.in-Took.ensures.told tt c.in-Took.ensures.rule c.in-Took.ensures.port_faults c.in-Took.ensures.cause.later c.taken.ensures.serves_by
       (write-offers _ _ _ _ _ _ c.in-Some.piece _ (took.Took c.in-Took.n) c.in-Took.ensures.told c.in-Took.ensures.takes c.in-Some.ensures
       (owed-for _ _ _ _ c.quiet.ensures _ _ _ _ _ c.requires.going.serves.standing (λ log sent held lends. c.lends.ensures _ log _ sent held c.requires.going.acted lends)));
 }
@@ -62,5 +62,5 @@ returns-in-NotReady-clause-made g c = record {
   more = search rules;
   wakes = search rules;
   ends = search rules;
-  proceeds = proceeded _ _ _ _ _ _ _ _ _ _ _ _ c.in-NotReady.ensures.told tt c.in-NotReady.ensures.rule c.in-NotReady.ensures.port_faults c.in-NotReady.ensures.cause.later refl;
+  proceeds = proceeded _ _ _ _ _ _ _ _ _ _ _ _ c.in-NotReady.ensures.told tt tt c.in-NotReady.ensures.rule c.in-NotReady.ensures.port_faults c.in-NotReady.ensures.cause.later refl;
 }

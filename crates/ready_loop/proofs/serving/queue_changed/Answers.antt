@@ -20,4 +20,4 @@ loop-link-preserved g c = record {
 }
 
 pub returns-in_err-enqueue-clause-broke : goal.returns-in_err-enqueue-clause-broke
-returns-in_err-enqueue-clause-broke g c = on_err _ _ (stood_now _ _ _ (keeps _ _ _ _ c.loop-link.invariant.serves.standing c.in-Some.ensures.keeps))
+returns-in_err-enqueue-clause-broke g c = on_err _ _ (stood_now _ _ _ _ _ (keeps _ _ _ _ c.loop-link.invariant.serves.standing c.in-Some.ensures.keeps))

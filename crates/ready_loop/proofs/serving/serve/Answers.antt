@@ -1,9 +1,8 @@
 use Rattle.ready_loop.proofs.Ending.{stood_now}
-use Rattle.ready_loop.proofs.Listening.{listens_grown}
 use Rattle.ready_loop.proofs.serving.serve.Goals as goal
 
 pub returns-in_default-clause-broke : goal.returns-in_default-clause-broke
-returns-in_default-clause-broke g c = λ refused. stood_now _ _ _ c.requires.stands
+returns-in_default-clause-broke g c = λ refused. stood_now _ _ _ _ _ c.requires.stands
 
 pub returns-in-Ok-start-clause-listens : goal.returns-in-Ok-start-clause-listens
-returns-in-Ok-start-clause-listens g c = listens_grown _ _ _ _ _ _ _ _ c.in-Ok-start.ensures.listening c.serve_turns.ensures.proceeds.advances
+returns-in-Ok-start-clause-listens g c = (c.serve_turns.ensures.proceeds.listens _ _ c.in-Ok-start.ensures.listening).first
