@@ -258,7 +258,7 @@ pub record QuitStands (service : Service) (log : Log) (link : LinkId) : Type 0 w
   pub idle : (is_here row.turn.client log ≡ false) ⊎ ((work : Work) → work_of service row.turn.client log ≡ Some work → is_query work.message.payload ≡ false)
 
 module _ {service : Service} {log : Log} {link : LinkId} (at : QuitStands service log link) where
-  quit-inside : IsInside service.forms at.backend.account (heard_of link log) (pieces_of link log) at.backend
+  pub quit-inside : IsInside service.forms at.backend.account (heard_of link log) (pieces_of link log) at.backend
   quit-inside = (let inside = at.inside in elim at.row.at [ Entering enters ↦ absurd (outside-at enters inside) | Inside is ↦ is ])
 
   quit-clean : standing_on service.forms at.backend.account link log ≡ Clean

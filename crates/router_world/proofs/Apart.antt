@@ -3,14 +3,14 @@ pub use Rattle.promises.proofs.Rows.{Here, Row, There, link-or-other, no-some, n
 pub use Rattle.promises.proofs.ServerLinks.{apart-links, apart-numbers}
 use Rattle.{lend_core.specs.Events.left_by, promises.proofs.LinkStanding.standing-inside, std.specs.Prelude.if◌then◌else◌}
 use Rattle.lend_core.specs.{Changes.owns_none, Changes.waits_no_more, Decisions.clean_at, Decisions.dropped, Decisions.is_clean}
-use Rattle.server_side.specs.{Backend.left_by, declared.stage.Stage.Stage}
+use Rattle.server_side.specs.{Backend.left_by as sent_by, declared.stage.Stage.Stage}
 use Rattle.promises.proofs.Queries.{IsAsked, asked-unreplied, same-ordinal}
 use Rattle.promises.proofs.ServerLinks.{handed-stands, standing-unlost, unbegun-idle}
 use Rattle.router_world.proofs.Names.{Answer, Answered, Ask, BackendState, Bool, ClientNo, Entry, For, In, Lends, Lent, LinkId, List, Log, None, Option, Phase}
 use Rattle.router_world.proofs.Names.{Service, Some, Told, Work, [], ap, arith, asked, asked_by, command_of, commanded, common_steps, false, gone, inl, inr}
 use Rattle.router_world.proofs.Names.{is_begun, is_here, is_query, is_some, nat_eq, nat_eq-true, not, queued, refl, replied, same_number, set, some-same, spelt}
 use Rattle.router_world.proofs.Names.{subst, sym, takes_at, takes_command, true, with_link, without_ask, without_link, work_of, ℕ, ◌++◌, ◌∙◌, ◌∷◌, ◌≡◌, ◌⊎◌}
-use Rattle.router_world.proofs.Sound.{AskStands, AtMostOne, Busy, CloseStands, Free, Gone, Left, LendsSound, Linked, Logs, Nobody, On, One, Own, QuitStands, RowStands}
+use Rattle.router_world.proofs.Sound.{AskStands, AtMostOne, Busy, CloseStands, Free, Gone, Left, LendsSound, Linked, Logs, Nobody, On, One, Own, QuitStands, Quits, Quitting, RowStands}
 use Rattle.router_world.proofs.Sound.{Serves, Waiting, Waits}
 use Rattle.client_talk.specs.declared.session.Phase.TheVariants as phase
 use Rattle.server_side.specs.declared.stage.Stage.TheVariants as stage
@@ -132,7 +132,7 @@ stood {service} {log} {new} {n} {link} {lends} {other} before leaving one = reco
     one_waits = grind (arith, common_steps, Nobody, One, (one.waits));
     waits = λ client is. grind (arith, common_steps, none-one, one-same, (one.waits), (before.waits client), (one.asks client.0), (one.owned client.0));
     one_closes = grind (arith, common_steps, One, (before.one_closes), (one.goes));
-    closes = λ l is. grind (arith, common_steps, none-one, one-same, apart-links, (one.goes), (leaving.closing l), (one.links l.0));
+    closes = λ l is. closes l one.goes is;
   };
   apart = record {
     asks = one.asks;
@@ -156,6 +156,24 @@ stood {service} {log} {new} {n} {link} {lends} {other} before leaving one = reco
   row x (RowSame same rows unowned none closing quits) is = kept link x (λ owns. no-some unowned owns) (rows x (sym same ∙ is))
   row x (RowStays now there stands owner unclosed closing quits) is = subst (RowStands service new other link) (some-same now x (sym there ∙ is)) stands
   row x (RowCloses none stands unowned last) is = absurd (no-some stands.unlent is)
+
+  -- a link that was to be closed still is, or this one is now
+  closing-still : (l : LinkId) → lends.closing ≡ l ∷ [] → other.quit ≡ lends.quit → other.links l.0 ≡ lends.links l.0 → CloseStands service new other l
+  closing-still l is quit same = (let was = leaving.closing l is in record {
+    opened = was.opened;
+    unlent = same ∙ was.unlent;
+    turn = was.turn;
+    is_turn = was.is_turn;
+    may = was.may;
+    quits = λ says. was.quits (sym quit ∙ says);
+  })
+
+  closes : (l : LinkId) → RowGoes service log new n link lends other → other.closing ≡ l ∷ [] → CloseStands service new other l
+  closes l (RowSame same rows unowned none closing quit) is = closing-still l (sym closing ∙ is) quit
+      (link-or-other l link (λ k. other.links k.0 ≡ lends.links k.0) same (λ differs. one.links l.0 differs))
+  closes l (RowStays now there stands owner unclosed closing quit) is = (let was = sym closing ∙ is in closing-still l was quit
+      (one.links l.0 (apart-links l link (λ same. unclosed (subst (λ k. lends.closing ≡ k ∷ []) same was)))))
+  closes l (RowCloses none stands unowned last) is = subst (CloseStands service new other) (one-same link l (sym last ∙ is)) stands
 
   stands : (l : LinkId) (x : Lent) → other.links l.0 ≡ Some x → RowStands service new other l x
   stands l x is = link-or-other l link (λ k. other.links k.0 ≡ Some x → RowStands service new other k x) (row x one.goes) (λ differs there.
@@ -245,7 +263,7 @@ gone-waits {n} {lends} {other} _ (One x) is same = one-or-other x.0 n (λ k. len
 -- what is clean is logged in, and has said all of its login
 pub clean-in : (backend : BackendState) → is_clean backend ≡ true → (backend.stage ≡ In) × (backend.own ≡ [])
 clean-in backend clean = by backend.stage backend.own refl refl clean where
-  by : (s : Stage) (own : List ℕ) → backend.stage ≡ s → backend.own ≡ own → clean_at s backend.command (left_by own backend.command) ≡ true
+  by : (s : Stage) (own : List ℕ) → backend.stage ≡ s → backend.own ≡ own → clean_at s backend.command (sent_by own backend.command) ≡ true
       → (backend.stage ≡ In) × (backend.own ≡ [])
   by In [] inside said is = (inside, said)
   by In (byte ∷ bytes) inside said is = absurd (let no : (not (is_begun backend.command) && false) ≡ true = is in grind (arith, common_steps))
@@ -276,7 +294,7 @@ gone-sound service log n lends sound closable may = by (lends.owned n) refl wher
 
   -- its link is to be closed
   closes : (link : LinkId) (lent : Lent) → lends.owned n ≡ Some link → lends.links link.0 ≡ Some lent → is_begun lent.backend.command ≡ false
-      → (quit : Option LinkId) → (quit ≡ Some link → QuitStands service log link)
+      → (quit : Option LinkId) → (quit ≡ Some link → Quits service log link)
       → Went service log n lends (without n lends (set lends.links link.0 None) (lends.closing ++ link ∷ []) quit)
   closes link lent owns there none quit last = (let stays = (sound.rows link lent there).0 in
       changed link (set lends.links link.0 None) (lends.closing ++ link ∷ []) quit (λ k. set-other lends.links link.0 k None) (inl owns)
@@ -319,7 +337,7 @@ gone-sound service log n lends sound closable may = by (lends.owned n) refl wher
   on link lent owns there false none = drops (is_clean lent.backend) refl where
     drops : (clean : Bool) → is_clean lent.backend ≡ clean
         → Went service log n lends (dropped clean link (without_link link (without n lends lends.links lends.closing lends.quit)))
-    drops true clean = closes link lent owns there none (Some link) (λ q. last link lent owns there none clean)
+    drops true clean = closes link lent owns there none (Some link) (λ q. Quitting (last link lent owns there none clean))
     drops false unclean = closes link lent owns there none None (λ q. cc)
 
   by : (o : Option LinkId) → lends.owned n ≡ o → Went service log n lends (left_by o (without n lends lends.links lends.closing lends.quit))

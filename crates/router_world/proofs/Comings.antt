@@ -20,7 +20,7 @@ use Rattle.router_world.proofs.Names.{farewell_of, flat_map, got_bytes, inl, inr
 use Rattle.router_world.proofs.Names.{most_command, nat_lt, new_session, none-if, open_step, option_and_then, refl, refused_by, refused_on, replied}
 use Rattle.router_world.proofs.Names.{same_number, set, some-same, subst, suc, sym, true, turn-stays, with_lends, wrote_bytes, ℕ, ◌++◌, ◌∙◌, ◌∷◌, ◌≡◌, ◌≢◌, ◌≤◌}
 use Rattle.router_world.proofs.Names.{◌⊎◌}
-use Rattle.router_world.proofs.Sound.{Clients, CloseStands, Closes, Gone, Happens, LendsSound, Nobody, NoneParts, OneParts, PartStands, Parted, Parts, PartsStand, QuitStands, Servers, Sits}
+use Rattle.router_world.proofs.Sound.{Clients, CloseStands, Closes, Gone, Happens, LendsSound, Nobody, NoneParts, OneParts, PartStands, Parted, Parts, PartsStand, QuitStands, Quitting, Servers, Sits, quits-so}
 use Rattle.router_world.proofs.Sound.{Sound}
 use Rattle.router_world.proofs.Stepping.{Aside, Calm, IsQuiet, aside-others, aside-stands, beside, came-unlent, known-later, lends-aside, lends-framed}
 use Rattle.router_world.proofs.Names.{AllLawful, Fits, IsLawful, MayDrop, and_parts, arrival_of, lawful-last, lawful-more, nat_eq-true, with_lends, without_seat, work_of}
@@ -60,7 +60,7 @@ lends-silent {service} {log} {e} {tables} aside silent leaves = (let sound = asi
       turn = stands.turn;
       is_turn = is_turn;
       may = may;
-      quits = λ quits. quit-passes aside.happens silent (leaves link is) (stands.quits quits);
+      quits = λ quits. Quitting (quit-passes aside.happens silent (leaves link is) (quits-so (stands.quits quits)));
     })))
 
 pub nothing-step : {service : Service} {log : Log} {e : Entry} {tables : Tables} → Happens service log e tables → IsSilent e → IsPlain e
@@ -98,7 +98,7 @@ module _ {service : Service} {log : Log} {e : Entry} {link : LinkId} {parting : 
 
   -- It is offered what it is told, before it closes.
   pub offered-step : {later : List Parting} (bytes : List ℕ) → later ≡ record parting { bytes = bytes } ∷ []
-      → (bytes ≡ []) ⊎ ((bytes ≡ parting.bytes) × (wrote_bytes e ≡ [])) → is_some (farewell_of tables.parting) ≡ true → link_of e ≡ Some link
+      → (bytes ≡ []) ⊎ ((bytes ≡ parting.bytes) × (wrote_bytes e ≡ [])) → is_some (farewell_of tables.parting tables.lends) ≡ true → link_of e ≡ Some link
       → is_write e ≡ true → ((n i : ℕ) → carries n i e ≡ None) → refused_by service log e ≡ option_and_then (refused_on service log e) (Some link)
       → IsPlain e → ((was : Bool) → open_step was e ≡ was) → Sound service (log ++ e ∷ []) (record tables { parting = later })
   offered-step {later} bytes the kind offers names writes silent refuses plain stays = (let sound = happens.sound in

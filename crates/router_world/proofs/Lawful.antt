@@ -21,7 +21,7 @@ use Rattle.router_world.proofs.Names.{tries-more, true, turn_at, turn_for, turns
 use Rattle.router_world.proofs.Names.{◌⊎◌}
 use Rattle.router_world.proofs.Seats.{ended-seat, seat-told, told-seat}
 use Rattle.router_world.proofs.Sound.{Busy, Clients, Closes, Gone, Linked, Logs, Nobody, NoneParts, On, One, OneParts, PartStands, Parts, RowStands, SeatStands}
-use Rattle.router_world.proofs.Sound.{Servers, Sound, Waiting, Waits as WaitsForLink}
+use Rattle.router_world.proofs.Sound.{Servers, Sound, Waiting, Waits as WaitsForLink, quits-so}
 use Rattle.client_talk.specs.declared.session.Phase.TheVariants as phase
 use Rattle.mx_wire.specs.declared.entry.Entry.TheVariants as entry
 
@@ -112,7 +112,7 @@ module _ {service : Service} {log : Log} {tables : Tables} (sound : Sound servic
   pub farewell-left : (link : LinkId) (sent : Sent) → IsFarewell tables link → farewell_of tables.parting tables.lends ≡ Some sent → IsLeft service log link sent
   farewell-left link sent farewell is = elim (closes-next link sound farewell.is_next) [
     | ClosesServer none closing ↦ (let quit = quit-says tables.lends link sent none closing is in
-        ForLast ((sound.lends.closes link closing).quits quit.0) quit.1)
+        ForLast (quits-so ((sound.lends.closes link closing).quits quit.0)) quit.1)
     | ClosesLate none unclosed client seat late there on ↦
         cc (ap (λ p. farewell_of p tables.lends) none ∙ ap (λ c. quit_of c tables.lends.quit) unclosed, is)
     | ClosesClient p stands at on ↦ (let reply = reply-whole p.bytes sent (rw at at is) in

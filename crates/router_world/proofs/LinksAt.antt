@@ -19,7 +19,7 @@ use Rattle.router_world.proofs.Names.{and_right, ap, arith, carrier_of, command_
 use Rattle.router_world.proofs.Names.{heard_of, inl, inr, is_begun, is_here, lawful-last, length, nat_eq, none-if, payload_of, pieces_of, refl, replied}
 use Rattle.router_world.proofs.Names.{same_number, set, some-same, spelt, subst, suc, sym, true, turn-stays, was_lost, with_link, without_link, zero, ℕ, ◌&&◌}
 use Rattle.router_world.proofs.Names.{◌++◌, ◌<◌, ◌∙◌, ◌∷◌, ◌≡◌}
-use Rattle.router_world.proofs.Sound.{AskStands, Busy, BusyOn, Free, Left, LendsSound, Linked, Logs, On, Own, Owned, QuitStands, RowStands, Waits}
+use Rattle.router_world.proofs.Sound.{AskStands, Busy, BusyOn, Free, Left, LendsSound, Linked, Logs, On, Own, Owned, QuitStands, Quits, Quitting, RowStands, Waits}
 use Rattle.router_world.proofs.Stepping.{ask-calm, row-calm}
 use Rattle.server_side.specs.Hearing.{Fails as GotFault, Got as Gets, Hears}
 use Rattle.server_side.specs.declared.hear.Heard.TheVariants.{LoggedIn, Part, Quiet as Unfinished, Whole}
@@ -82,10 +82,10 @@ module _ {service : Service} {log : Log} {e : Entry} {lends : Lends} {link : Lin
   shut quit owned asks waiting = record
       { links = set lends.links link.0 None; owned = owned; asks = asks; waiting = waiting; closing = lends.closing ++ link ∷ []; quit = quit }
 
-  abbrev Quits : Option LinkId → Type 0
-  Quits quit = quit ≡ Some link → QuitStands service new link
+  abbrev Last : Option LinkId → Type 0
+  Last quit = quit ≡ Some link → Quits service new link
 
-  unquit : Quits None
+  unquit : Last None
   unquit is = absurd (let no : None ≡ Some link = is in cc)
 
   -- a client has one link, so another row is another client's
@@ -178,7 +178,7 @@ module _ {service : Service} {log : Log} {e : Entry} {lends : Lends} {link : Lin
 
   -- The link is to be closed, with these tables.
   pub shut-came : {quit : Option LinkId} {owned : ℕ → Option LinkId} {asks : ℕ → Option Ask} {waiting : List ClientNo} {answer : Option Answered} → Drops
-      → Quits quit → ((k : ℕ) → nat_eq k n ≡ false → asks k ≡ lends.asks k) → ((k : ℕ) → nat_eq k n ≡ false → owned k ≡ lends.owned k)
+      → Last quit → ((k : ℕ) → nat_eq k n ≡ false → asks k ≡ lends.asks k) → ((k : ℕ) → nat_eq k n ≡ false → owned k ≡ lends.owned k)
       → owned n ≡ None → ((ask : Ask) → asks n ≡ Some ask → AskStands service new n ask) → Waiters n lends (shut quit owned asks waiting)
       → Comes service log e n lends (shut quit owned asks waiting) answer
       → Makes (record { lends = shut quit owned asks waiting; answer = answer })
@@ -193,7 +193,7 @@ module _ {service : Service} {log : Log} {e : Entry} {lends : Lends} {link : Lin
       }) unowned (ap (λ l. l ++ link ∷ []) at.unclosed) in grind (arith, common_steps, set-other, no-some, own-link, alone)) comes
 
   -- nothing of its client's was under way there
-  pub shut-idle : {quit : Option LinkId} {owned : ℕ → Option LinkId} → Drops → Quits quit → Calm service log e n
+  pub shut-idle : {quit : Option LinkId} {owned : ℕ → Option LinkId} → Drops → Last quit → Calm service log e n
       → ((k : ℕ) → nat_eq k n ≡ false → owned k ≡ lends.owned k) → owned n ≡ None
       → ((i : ℕ) → (lends.owned n ≡ Some link) × BusyOn n i (lends.asks n) lent.backend → ⊥) → Makes (quietly (shut quit owned lends.asks lends.waiting))
   shut-idle may last calm theirs unowned idle = shut-came may last (λ k differs. refl) theirs unowned (ask-later calm)
@@ -213,7 +213,7 @@ module _ {service : Service} {log : Log} {e : Entry} {lends : Lends} {link : Lin
       (Answers is busy asked told (free-gone _ n (record { unasked = unasked; unowned = unowned })) at.idle (inr unowned)))
 
   -- the client has gone, and the link isn't its own
-  pub shut-left : {quit : Option LinkId} → lent.owner ≡ None → Drops → Quits quit → Calm service log e n
+  pub shut-left : {quit : Option LinkId} → lent.owner ≡ None → Drops → Last quit → Calm service log e n
       → Makes (quietly (shut quit lends.owned lends.asks lends.waiting))
   shut-left none may last calm = (let unowned : lends.owned n ≡ None = none-if (lends.owned n)
       (λ l owns. no-some none (owned-owner at.sound (owns ∙ ap Some (own-link l owns)) at.there)) in
@@ -333,7 +333,14 @@ module _ {service : Service} {log : Log} {bytes : List ℕ} {lends : Lends} {lin
               (set-same (set lends.links link.0 None) link.0 (Some now)) owned is in grind (arith, common_steps, (rep.idle)));
         }) at.idle (inl at.unclosed)))
 
-    -- so is the link of a client that has gone, behind a QUIT where it is clean
+    -- the link of a client that has gone may be dropped, whatever it is like
+    drops : is_here (n at) log ≡ false → (b : Bool) → clean ≡ b → Drops at
+    drops gone false unclean = IsSpoilt (got-standing at.on (rep.spoilt unclean))
+    drops gone true is = Departed
+        (gone-stays service (n at) lent.backend.account log (Got link bytes) (lawful-last Fits log (Got link bytes) at.on.fits).1 at.on.row.user gone)
+        (λ runs. cc (got-clean at.on (rep.inside is left.reply) rep.idle, runs))
+
+    -- and is, behind a QUIT where it is clean
     leaves : lent.owner ≡ None → is_here (n at) log ≡ false → (b : Bool) → clean ≡ b
         → Makes at (quietly (if b then dropped (is_clean (without_reply left)) link (without_link link lends)
         else closed link None (without_link link lends)))
@@ -352,15 +359,8 @@ module _ {service : Service} {log : Log} {bytes : List ℕ} {lends : Lends} {lin
       })
 
       parts : (quits : Bool) → is_clean (without_reply left) ≡ quits → Makes at (quietly (dropped quits link (without_link link lends)))
-      parts true quiet = shut-left at none (drops gone true is) (λ q. last quiet) (calm-inside at.on (λ i. refl) inside)
+      parts true quiet = shut-left at none (drops gone true is) (λ q. Quitting (last quiet)) (calm-inside at.on (λ i. refl) inside)
       parts false loud = shut-left at none (drops gone true is) (unquit at) (calm-inside at.on (λ i. refl) inside)
-
-    -- it may be, whatever it is like
-    drops : is_here (n at) log ≡ false → (b : Bool) → clean ≡ b → Drops at
-    drops gone false unclean = IsSpoilt (got-standing at.on (rep.spoilt unclean))
-    drops gone true is = Departed
-        (gone-stays service (n at) lent.backend.account log (Got link bytes) (lawful-last Fits log (Got link bytes) at.on.fits).1 at.on.row.user gone)
-        (λ runs. cc (got-clean at.on (rep.inside is left.reply) rep.idle, runs))
 
   pub heard-came : IsPiece bytes
       → Makes at (told_by link (due_on lent.backend) lent (length bytes) (got_of bytes lent.backend) (without_link link lends))

@@ -39,7 +39,7 @@ use Rattle.router_world.proofs.Names.{message-stays, most_command, nat_eq, new_b
 use Rattle.router_world.proofs.Names.{same_number, some-same, step-other, subst, suc, sym, tables_after, taken_on, told, true, turn_at, turn_for, turns}
 use Rattle.router_world.proofs.Names.{with_lends, with_link, without_ask, ℕ, ◌++◌, ◌<◌, ◌∙◌, ◌∷◌, ◌≡◌, ◌≢◌, ◌≤◌}
 use Rattle.router_world.proofs.Sound.{AreFormed, Busy, Gone, Happens, Known, Linked, Logs, Nobody, NoneParts, On, Own, Parts, Servers, Serves as SeatServes, Sound}
-use Rattle.router_world.proofs.Sound.{Unsent, Waits}
+use Rattle.router_world.proofs.Sound.{Unsent, Waits, quits-so}
 use Rattle.router_world.proofs.Stepping.{Calm, IsQuiet, OnLink, ask-calm, concerned, done, known-later, later-calm, nobody-waits, steady, unclosing, unlent, unnumbered}
 use Rattle.router_world.specs.World.{failed_on, lost_on, step}
 use Rattle.client_talk.specs.declared.session.Phase.TheVariants as phase
@@ -324,16 +324,16 @@ quits-some {parting} lends link none closing some = by (farewell_of parting lend
   by (Some sent) at says = (quit-says lends link sent none closing at).0
 
 -- a client's is told first
-offers-first : {tables : Tables} {parting : Parting} → tables.parting ≡ parting ∷ [] → offers tables ≡ tables
-offers-first {tables} is = ap (λ p. with_lends (offers_by p tables.lends) tables) is
+offers-first : (tables : Tables) {parting : Parting} → tables.parting ≡ parting ∷ [] → offers tables ≡ tables
+offers-first tables is = ap (λ p. with_lends (offers_by p tables.lends) tables) is
 
-offers-last : {tables : Tables} {link : LinkId} → tables.parting ≡ [] → tables.lends.closing ≡ link ∷ []
+offers-last : (tables : Tables) {link : LinkId} → tables.parting ≡ [] → tables.lends.closing ≡ link ∷ []
     → offers tables ≡ with_lends (record tables.lends { quit = None }) tables
-offers-last {tables} none is = ap (λ p. with_lends (offers_by p tables.lends) tables) none ∙ ap (λ c. with_lends (quit_offered c tables.lends) tables) is
+offers-last tables none is = ap (λ p. with_lends (offers_by p tables.lends) tables) none ∙ ap (λ c. with_lends (quit_offered c tables.lends) tables) is
 
 -- and where none is to close nothing was
-pub offers-none : {tables : Tables} → IsQuiet tables → offers tables ≡ tables
-offers-none {tables} quiet = ap (λ p. with_lends (offers_by p tables.lends) tables) quiet.unparted
+pub offers-none : (tables : Tables) → IsQuiet tables → offers tables ≡ tables
+offers-none tables quiet = ap (λ p. with_lends (offers_by p tables.lends) tables) quiet.unparted
     ∙ ap (λ c. with_lends (quit_offered c tables.lends) tables) quiet.unclosed
 
 -- A link closes, and what was offered to it before.
@@ -350,8 +350,8 @@ module _ {service : Service} {log : Log} {link : LinkId} {tables : Tables} where
   farewell-failed : Happens service log (WriteFailed link) tables → IsFarewell tables link
       → Sound service (log ++ WriteFailed link ∷ []) (failed_on service.setup link (tables.numbers link.0) (offers tables))
   farewell-failed happens ours = elim (closes-next link happens.sound ours.is_next) [
-    | ClosesServer none is ↦ (let at = (happens.sound.lends.closes link is).quits (quits-some tables.lends link none is ours.some) in
-        subst (λ t. Sound service (log ++ WriteFailed link ∷ []) (failed_on service.setup link (tables.numbers link.0) t)) (sym (offers-last none is))
+    | ClosesServer none is ↦ (let at = quits-so ((happens.sound.lends.closes link is).quits (quits-some tables.lends link none is ours.some)) in
+        subst (λ t. Sound service (log ++ WriteFailed link ∷ []) (failed_on service.setup link (tables.numbers link.0) t)) (sym (offers-last tables none is))
         (rw (unclosing happens.told happens.sound link is, (happens.sound.lends.closes link is).unlent)
         (quit-step happens none is at refl (assumption) (λ was. refl) (λ n i. refl)
         (IsSpoilt (lost-stands (record {
@@ -364,7 +364,7 @@ module _ {service : Service} {log : Log} {link : LinkId} {tables : Tables} where
     | ClosesLate none unclosed client seat late there on ↦
         cc (ap (λ p. farewell_of p tables.lends) none ∙ ap (λ c. quit_of c tables.lends.quit) unclosed, ours.some)
     | ClosesClient p stands is on ↦ subst (λ t. Sound service (log ++ WriteFailed link ∷ []) (failed_on service.setup link (tables.numbers link.0) t))
-        (sym (offers-first is)) (rw (parting-unnumbered happens stands is on, parting-unlent happens stands is on)
+        (sym (offers-first tables is)) (rw (parting-unnumbered happens stands is on, parting-unlent happens stands is on)
         (offered-step happens stands is on p.bytes is (inr (refl, refl)) ours.some refl refl (λ n i. refl) refl (assumption) (λ was. refl)))
   ]
 
@@ -372,10 +372,10 @@ module _ {service : Service} {log : Log} {link : LinkId} {tables : Tables} where
       → IsFront (farewell_of tables.parting tables.lends) tag bytes
       → Sound service (log ++ Wrote link tag bytes ∷ []) (wrote_on link (length bytes) (left_in (tables.lends.links link.0)) (offers tables))
   farewell-wrote {tag} {bytes} happens ours front = elim (closes-next link happens.sound ours.is_next) [
-    | ClosesServer none is ↦ (let at = (happens.sound.lends.closes link is).quits (quits-some tables.lends link none is ours.some) in
+    | ClosesServer none is ↦ (let at = quits-so ((happens.sound.lends.closes link is).quits (quits-some tables.lends link none is ours.some)) in
         let own : tag ≡ Own = front.same_tag ∙ ap (λ (s : ToSend). s.tag) (quit-says tables.lends link front.sent none is front.is).1 in
         subst (λ t. Sound service (log ++ Wrote link tag bytes ∷ []) (wrote_on link (length bytes) (left_in (tables.lends.links link.0)) t))
-        (sym (offers-last none is)) (rw ((happens.sound.lends.closes link is).unlent, unclosing happens.told happens.sound link is)
+        (sym (offers-last tables none is)) (rw ((happens.sound.lends.closes link is).unlent, unclosing happens.told happens.sound link is)
         (subst (λ p. Sound service (log ++ Wrote link tag bytes ∷ [])
         (record tables { lends = record tables.lends { quit = None }; parting = p })) (none ∙ ap (offered_to link) (sym none))
         (quit-step happens none is at refl (assumption) (λ was. refl) (λ n i. cc (own))
@@ -383,7 +383,7 @@ module _ {service : Service} {log : Log} {link : LinkId} {tables : Tables} where
     | ClosesLate none unclosed client seat late there on ↦
         cc (ap (λ p. farewell_of p tables.lends) none ∙ ap (λ c. quit_of c tables.lends.quit) unclosed, ours.some)
     | ClosesClient p stands is on ↦ subst (λ t. Sound service (log ++ Wrote link tag bytes ∷ [])
-        (wrote_on link (length bytes) (left_in (tables.lends.links link.0)) t)) (sym (offers-first is)) (rw (parting-unlent happens stands is on, parting-unnumbered happens stands is on) (offered-step happens stands is on []
+        (wrote_on link (length bytes) (left_in (tables.lends.links link.0)) t)) (sym (offers-first tables is)) (rw (parting-unlent happens stands is on, parting-unnumbered happens stands is on) (offered-step happens stands is on []
         (grind (arith, common_steps)) (inl refl) ours.some refl refl (λ n i. cc ((reply-front tag bytes p.bytes (rw is at front)).0)) refl (assumption)
         (λ was. refl)))
   ]
@@ -424,11 +424,11 @@ module _ (service : Service) (log : Log) where
   entry-step (entry.ReadFailed link) short clock happens next ours = failed-step {tables = now} (assumption) refl refl (λ k i. refl)
   entry-step (entry.WriteFailed link) short clock happens next (inl ours) = subst
       (λ t. Sound service (log ++ entry.WriteFailed link ∷ []) (failed_on service.setup link (now.numbers link.0) t))
-      (sym (offers-none (done service.setup now ours))) (failed-step {tables = now} (assumption) refl refl (λ k i. refl))
+      (sym (offers-none now (done service.setup now ours))) (failed-step {tables = now} (assumption) refl refl (λ k i. refl))
   entry-step (entry.WriteFailed link) short clock happens next (inr ours) = farewell-failed happens ours
   entry-step (entry.Wrote link tag bytes) short clock happens next (inl ours) = (let on : OnLink service log (Wrote link tag bytes) link now = assumption in
       subst (λ t. Sound service (log ++ Wrote link tag bytes ∷ []) (wrote_on link (length bytes) (left_in (now.lends.links link.0)) t))
-      (sym (offers-none (done service.setup now ours.0))) (elim (whose on) [
+      (sym (offers-none now (done service.setup now ours.0))) (elim (whose on) [
         | OfClient client seat number is at ↦ (let reply = reply-front tag bytes seat.session.client.outgoing
             (subst (λ lent. IsFront lent tag bytes) (client-sends on.happens.told on.happens.sound number is at) ours.1) in
             rw (unlent on.happens.told on.happens.sound link client number, number, is, same_number client.0)

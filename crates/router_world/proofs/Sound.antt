@@ -102,6 +102,13 @@ pub data PartsStand (service : Service) (log : Log) (numbers : ℕ → Option Cl
   NoneParts : PartsStand service log numbers closing []
   OneParts : (parting : Parting) → PartStands service log numbers closing parting → PartsStand service log numbers closing (parting ∷ [])
 
+-- QUIT may be said on a link; this is one thing, whatever is known of it.
+pub data Quits (service : Service) (log : Log) (link : LinkId) : Type 0 where
+  Quitting : QuitStands service log link → Quits service log link
+
+pub quits-so : {service : Service} {log : Log} {link : LinkId} → Quits service log link → QuitStands service log link
+quits-so (Quitting at) = at
+
 -- A link to a server that is to be closed, and maybe to be offered a QUIT before.
 pub record CloseStands (service : Service) (log : Log) (lends : Lends) (link : LinkId) : Type 0 where
   pub opened : IsOpen link log
@@ -110,7 +117,7 @@ pub record CloseStands (service : Service) (log : Log) (lends : Lends) (link : L
   pub is_turn : turn_of service link log ≡ Some turn
   pub may : (user : Account) → user_of service turn.client log ≡ Some user
       → MayDrop service (record { client = turn.client; hostgroup = turn.hostgroup }) user link log
-  pub quits : lends.quit ≡ Some link → QuitStands service log link
+  pub quits : lends.quit ≡ Some link → Quits service log link
 
 -- A seat that a client has, with its number and its command.
 pub record Sits (service : Service) (log : Log) (numbers : ℕ → Option ClientNo) (lends : Lends) (n : ℕ) (seat : Seat) : Type 0 where

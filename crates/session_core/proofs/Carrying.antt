@@ -25,7 +25,7 @@ use Rattle.router_world.specs.Acts as acts
 
 -- nothing was offered to a link where none is to close
 idle-offers : (setup : Setup) (tables : Tables) → acts.asks setup tables ≡ false → offers tables ≡ tables
-idle-offers setup tables acted = offers-none (done setup tables acted)
+idle-offers setup tables acted = offers-none tables (done setup tables acted)
 
 -- an event is told of an entry of the world's, which is the router's
 pub told_carries : {T E : Type 0} (r : Result T E) (old : Core) (known : Known) (event : Event) (bytes : List ℕ) → AreBytes bytes
