@@ -50,7 +50,8 @@ abbrev pub goes_so : Terms → Taking → Wanted → Option Route → Bool
 goes_so terms taking wanted None = false
 goes_so terms taking wanted (Some route) =
     is_route route wanted.route
-    && (is_keyed terms route.key wanted.key && is_nothing (own_at (plan_in terms) taking.tale.moment (message_in taking)))
+    && (is_keyed terms route.key wanted.key
+    && is_nothing (own_at (plan_in terms) taking.tale.moment (message_in taking)))
 
 abbrev pub is_answer : (from : ℕ) → (payloads : List (List ℕ)) → OwnAnswer → Bool
 is_answer from payloads answer = nat_eq answer.from from && are_each bytes_eq answer.payloads payloads
@@ -58,11 +59,13 @@ is_answer from payloads answer = nat_eq answer.from from && are_each bytes_eq an
 abbrev pub is_so : Terms → Taking → Verdict → Bool
 is_so terms taking Parts =
     is_nothing ((plan_in terms).routes (message_in taking))
-    && (is_nothing (own_at (plan_in terms) taking.tale.moment (message_in taking)) && is_now taking.tale.moment ((plan_in terms).ends taking.client.number))
+    && (is_nothing (own_at (plan_in terms) taking.tale.moment (message_in taking))
+    && is_now taking.tale.moment ((plan_in terms).ends taking.client.number))
 is_so terms taking (Tells payloads) =
     is_nothing ((plan_in terms).routes (message_in taking))
     && option_map_or (is_answer 0 payloads) ((plan_in terms).own (message_in taking)) false
-is_so terms taking (Goes wanted) = goes_so terms taking wanted ((plan_in terms).routes (message_in taking))
+is_so terms taking (Goes wanted) =
+    goes_so terms taking wanted ((plan_in terms).routes (message_in taking))
 
 abbrev pub are_so : Terms → List Server → (flags : ClientNo → ℕ) → List Taking → Bool
 are_so terms servers flags [] = true
@@ -71,30 +74,39 @@ are_so terms servers flags (taking ∷ takings) =
     && are_so terms servers (flag_taken terms flags taking) takings
 
 abbrev pub is_routed : Terms → Now → Entry → Bool
-is_routed terms now e = are_so terms (servers_after terms now.clock now.tale e now.servers) now.flags (takings_now terms now e)
+is_routed terms now e =
+    are_so terms (servers_after terms now.clock now.tale e now.servers) now.flags
+    (takings_now terms now e)
 
 -- Closes.
 
 abbrev pub is_needless : Terms → Log → Now → LinkId → Option LinkKey → Bool
 is_needless terms log now link None = true
-is_needless terms log now link (Some key) = nat_le (waiting terms now key) (others_vacant terms log now link key)
+is_needless terms log now link (Some key) =
+    nat_le (waiting terms now key) (others_vacant terms log now link key)
 
 abbrev pub may_drop : Terms → Log → Now → LinkId → Bool
 may_drop terms log now link =
     is_spoilt terms log now link
     || (was_amiss (setup_in terms) link now.tale.story
-    || ((was_refused (setup_in terms) link now.tale.story && not (is_joined (link_now (setup_in terms) now link).carries))
+    || ((was_refused (setup_in terms) link now.tale.story
+    && not (is_joined (link_now (setup_in terms) now link).carries))
     || (is_past_reset (setup_in terms) now link
-    || ((is_unlent (setup_in terms) now link && status_in is_soft now.servers (wire_now now link).server)
-    || ((is_unlent (setup_in terms) now link && nat_le ((now.uses link).used + terms.router.proxy.idle_ms) now.clock)
     || ((is_unlent (setup_in terms) now link
-    && (is_in_the_way terms now (key_of terms now link) && is_full terms.router log now (key_of terms now link)))
+    && status_in is_soft now.servers (wire_now now link).server)
+    || ((is_unlent (setup_in terms) now link
+    && nat_le ((now.uses link).used + terms.router.proxy.idle_ms) now.clock)
+    || ((is_unlent (setup_in terms) now link
+    && (is_in_the_way terms now (key_of terms now link)
+    && is_full terms.router log now (key_of terms now link)))
     || (list_any (is_starved_by terms log now link) now.tale.clients
     || (is_spare terms log link
-    && (is_nobodys (link_now (setup_in terms) now link).carries && is_needless terms log now link (key_of terms now link))))))))))
+    && (is_nobodys (link_now (setup_in terms) now link).carries
+    && is_needless terms log now link (key_of terms now link))))))))))
 
 abbrev pub closes_right : Terms → Log → Now → Entry → Bool
-closes_right terms log now (Closed link) = not (is_to_server now.tale link) || may_drop terms log now link
+closes_right terms log now (Closed link) =
+    not (is_to_server now.tale link) || may_drop terms log now link
 closes_right terms log now _ = true
 
 -- Steps.
@@ -105,7 +117,8 @@ is_in_series terms now link (Some kind) = nat_le (steps_of kind (now.uses link))
 
 abbrev pub is_right_step : Terms → Now → LinkId → Command → Bool
 is_right_step terms now link command =
-    is_wanted terms now link command (link_now (setup_in terms) now link).carries && is_in_series terms now link (kind_of_step command)
+    is_wanted terms now link command (link_now (setup_in terms) now link).carries
+    && is_in_series terms now link (kind_of_step command)
 
 abbrev pub is_close_of : Terms → Now → LinkId → (number key : ℕ) → Bool
 is_close_of terms now link number key =
@@ -116,15 +129,19 @@ is_close_of terms now link number key =
 abbrev pub may_step : Terms → Log → Now → LinkId → StepText → Bool
 may_step terms log now link (Asks Quit) = may_drop terms log now link
 may_step terms log now link (Asks command) = is_right_step terms now link command
-may_step terms log now link (Closes number) = list_any (is_close_of terms now link number) (live_keys (setup_in terms) now link)
+may_step terms log now link (Closes number) =
+    list_any (is_close_of terms now link number) (live_keys (setup_in terms) now link)
 may_step terms log now link (Resets number) = list_any (nat_eq number) (now.uses link).long
 
 abbrev pub may_step_for : Terms → Log → Now → LinkId → StepText → Tag → Bool
 may_step_for terms log now link step tags.Own = may_step terms log now link step
 may_step_for terms log now link step (tags.Sync client hostgroup) = may_step terms log now link step
-may_step_for terms log now link step (tags.For client ordinal) = is_for_due terms now (record { client = client; ordinal = ordinal })
-may_step_for terms log now link step (tags.Prep client ordinal) = is_prep_wanted terms now link (record { client = client; ordinal = ordinal })
-may_step_for terms log now link step (tags.End client hostgroup) = not (is_past_reset (setup_in terms) now link)
+may_step_for terms log now link step (tags.For client ordinal) =
+    is_for_due terms now (record { client = client; ordinal = ordinal })
+may_step_for terms log now link step (tags.Prep client ordinal) =
+    is_prep_wanted terms now link (record { client = client; ordinal = ordinal })
+may_step_for terms log now link step (tags.End client hostgroup) =
+    not (is_past_reset (setup_in terms) now link)
 may_step_for terms log now link step _ = true
 
 abbrev pub steps_right : Terms → Log → Now → Entry → Bool
@@ -138,20 +155,25 @@ steps_right terms log now _ = true
 
 abbrev pub may_open_for : Terms → Log → Now → ServerId → Address → Tried → LinkKey → Bool
 may_open_for terms log now server address tried key =
-    is_option is_address (option_map (λ (s : Server). s.row.address) (server_at now.servers server)) (Some address)
+    is_option is_address (option_map (λ (s : Server). s.row.address) (server_at now.servers server))
+    (Some address)
     && (has_room log now server
     && (may_log_in terms.router tried.login
-    && nat_lt (how_many is_free terms log now key + how_many is_opening terms log now key) (waiting terms now key)))
+    && nat_lt (how_many is_free terms log now key + how_many is_opening terms log now key)
+    (waiting terms now key)))
 
 abbrev pub may_open : Terms → Log → Now → ServerId → Address → Tried → Bool
 may_open terms log now server address tried =
     option_map_or (λ hostgroup. may_open_for terms log now server address tried
-    (record { hostgroup = hostgroup; account = login_as tried.login; bare = tried.bare })) (hostgroup_of terms.router server) false
+    (record { hostgroup = hostgroup; account = login_as tried.login; bare = tried.bare }))
+    (hostgroup_of terms.router server) false
 
 abbrev pub opens_right : Terms → Log → Now → Entry → Bool
 opens_right terms log now (Opened server address link) =
-    may_open terms log now server address (record { login = (plan_in terms).logins link; bare = terms.decided.bare link })
-opens_right terms log now (OpenFailed server address) = may_open terms log now server address (terms.decided.tried (entry_now now))
+    may_open terms log now server address
+    (record { login = (plan_in terms).logins link; bare = terms.decided.bare link })
+opens_right terms log now (OpenFailed server address) =
+    may_open terms log now server address (terms.decided.tried (entry_now now))
 opens_right terms log now _ = true
 
 -- Statements that are given up. What the router answers is a table of messages.
@@ -170,7 +192,8 @@ is_on_link terms now m route link =
     && not (is_pinned (held_now (setup_in terms) now (session_of terms now m route)).pin)
 
 abbrev pub is_step_for : Terms → Now → MessageName → Route → LinkId → Question → Carried → Bool
-is_step_for terms now m route link (Own command) Nobody = wants_there terms now link (session_of terms now m route) command
+is_step_for terms now m route link (Own command) Nobody =
+    wants_there terms now link (session_of terms now m route) command
 is_step_for terms now m route link (Own command) _ =
     is_option is_link_id (held_now (setup_in terms) now (session_of terms now m route)).home (Some link)
 is_step_for terms now m route link (Prep n key text) carried = is_name n (session_of terms now m route)
@@ -180,32 +203,42 @@ is_step_for terms now m route link _ carried = false
 abbrev pub is_late : Terms → Now → MessageName → Route → (payload : List ℕ) → Entry → Bool
 is_late terms now m route payload (Woke until_ms now_ms) =
     is_unsent terms now.tale (session_of terms now m route)
-    && (nat_le (now.since m + terms.router.proxy.wait_ms) now_ms && bytes_eq payload (no_connection (now.since m) now_ms))
+    && (nat_le (now.since m + terms.router.proxy.wait_ms) now_ms
+    && bytes_eq payload (no_connection (now.since m) now_ms))
 is_late terms now m route payload _ = false
 
 -- by what is read on a link
 abbrev pub is_read_so : Terms → Now → MessageName → Route → (payload : List ℕ) → LinkId → Reading → Bool
 is_read_so terms now m route payload link Part = false
 is_read_so terms now m route payload link (Whole answer) =
-    (is_err answer.reply && (is_step_for terms now m route link answer.question (link_now (setup_in terms) now link).carries
+    (is_err answer.reply && (is_step_for terms now m route link answer.question
+    (link_now (setup_in terms) now link).carries
     && bytes_eq payload (replay_refused (end_of answer.reply).code)))
-    || (is_step answer.question && (is_amiss answer.question answer.reply && (is_on_link terms now m route link && bytes_eq payload (bad_server_bytes 0))))
-is_read_so terms now m route payload link (Bad place) = is_on_link terms now m route link && bytes_eq payload (bad_server_bytes place)
+    || (is_step answer.question
+    && (is_amiss answer.question answer.reply
+    && (is_on_link terms now m route link && bytes_eq payload (bad_server_bytes 0))))
+is_read_so terms now m route payload link (Bad place) =
+    is_on_link terms now m route link && bytes_eq payload (bad_server_bytes place)
 
-abbrev pub is_lost_so : Terms → (now later : Now) → Entry → MessageName → Route → (payload : List ℕ) → LinkId → Bool
+abbrev pub is_lost_so : Terms → (now later : Now) → Entry → MessageName → Route → (payload : List ℕ)
+    → LinkId → Bool
 is_lost_so terms now later e m route payload link =
     (is_loss e && (is_on_link terms now m route link && bytes_eq payload connection_lost))
     || is_read_so terms now m route payload link (reading_of (setup_in terms) now e)
 
-abbrev pub is_offline : Terms → (now later : Now) → MessageName → Route → (payload : List ℕ) → LinkId → Bool
+abbrev pub is_offline : Terms → (now later : Now) → MessageName → Route → (payload : List ℕ) → LinkId
+    → Bool
 is_offline terms now later m route payload link =
-    status_in is_off later.servers (wire_now now link).server && (is_on_link terms now m route link && bytes_eq payload server_offline)
+    status_in is_off later.servers (wire_now now link).server
+    && (is_on_link terms now m route link && bytes_eq payload server_offline)
 
 abbrev pub has_no_link : Terms → Now → Entry → MessageName → (payload : List ℕ) → Bool
 has_no_link terms now e m payload =
-    option_map_or (λ key. is_option is_message (oldest terms now key) (Some m)) (key_tried terms now e) false && bytes_eq payload connection_refused
+    option_map_or (λ key. is_option is_message (oldest terms now key) (Some m))
+    (key_tried terms now e) false && bytes_eq payload connection_refused
 
-abbrev pub has_cause : Terms → (now later : Now) → Entry → MessageName → Route → (payload : List ℕ) → Bool
+abbrev pub has_cause : Terms → (now later : Now) → Entry → MessageName → Route → (payload : List ℕ)
+    → Bool
 has_cause terms now later e m route payload =
     is_late terms now m route payload e
     || (has_no_link terms now e m payload
@@ -213,14 +246,17 @@ has_cause terms now later e m route payload =
     || (list_any (is_offline terms now later m route payload) now.tale.links
     || (is_now (entry_now now) ((plan_in terms).ends m.client) && bytes_eq payload out_of_memory))))
 
-abbrev pub is_given_by : Terms → (now later : Now) → Entry → MessageName → (payloads : List (List ℕ)) → Route → Bool
-is_given_by terms now later e m (payload ∷ []) route = is_in_work terms now m && has_cause terms now later e m route payload
+abbrev pub is_given_by : Terms → (now later : Now) → Entry → MessageName → (payloads : List (List ℕ))
+    → Route → Bool
+is_given_by terms now later e m (payload ∷ []) route =
+    is_in_work terms now m && has_cause terms now later e m route payload
 is_given_by terms now later e m _ route = false
 
 abbrev pub is_given : Terms → (now later : Now) → Entry → Given → Bool
 is_given terms now later e given =
     not (nat_eq given.answer.from (entry_now now))
-    || option_map_or (is_given_by terms now later e given.message given.answer.payloads) ((plan_in terms).routes given.message) false
+    || option_map_or (is_given_by terms now later e given.message given.answer.payloads)
+    ((plan_in terms).routes given.message) false
 
 -- 9104 has this lower byte
 abbrev pub first_of : List (List ℕ) → List ℕ
@@ -228,38 +264,49 @@ first_of [] = []
 first_of (payload ∷ payloads) = payload
 
 abbrev pub is_replay : Now → Given → Bool
-is_replay now given = nat_eq given.answer.from (entry_now now) && nat_eq (slice_index_or (first_of given.answer.payloads) 1 0) 144
+is_replay now given =
+    nat_eq given.answer.from (entry_now now)
+    && nat_eq (slice_index_or (first_of given.answer.payloads) 1 0) 144
 
 abbrev pub is_single : Now → List Given → Bool
 is_single now table =
-    list_all (λ (a : Given). list_all (λ (b : Given). not (is_replay now a && is_replay now b) || is_message a.message b.message) table) table
+    list_all (λ (a : Given). list_all
+    (λ (b : Given). not (is_replay now a && is_replay now b)
+    || is_message a.message b.message) table) table
 
 -- Clients that end.
 
 abbrev pub ends_here : Terms → Now → Client → Bool
-ends_here terms now client = option_map_or (nat_eq (entry_now now)) ((plan_in terms).ends client.number) false
+ends_here terms now client =
+    option_map_or (nat_eq (entry_now now)) ((plan_in terms).ends client.number) false
 
 abbrev pub ends_right : Terms → Log → (now later : Now) → Entry → Client → Bool
 ends_right terms log now later e client =
-    (not (must_end terms log now (while_ending terms now e) e client) || is_by_now later.tale.moment ((plan_in terms).ends client.number))
-    && (not (ends_here terms now client) || (must_end terms log now (while_ending terms now e) e client || may_end terms now e client))
+    (not (must_end terms log now (while_ending terms now e) e client)
+    || is_by_now later.tale.moment ((plan_in terms).ends client.number))
+    && (not (ends_here terms now client)
+    || (must_end terms log now (while_ending terms now e) e client || may_end terms now e client))
 
 abbrev pub is_turned_away : Terms → Log → Entry → Client → (payloads : List (List ℕ)) → Bool
 is_turned_away terms log e client payloads =
     is_accepted e client && (not (served terms log client)
-    && option_map_or (λ (came : Arrival). are_each bytes_eq payloads (turned_away came.port)) (arrival_of client.number.0 log) false)
+    && option_map_or (λ (came : Arrival). are_each bytes_eq payloads (turned_away came.port))
+    (arrival_of client.number.0 log) false)
 
-abbrev pub is_word_for : Terms → Log → (now ending : Now) → Entry → Client → WordPlace → (payloads : List (List ℕ)) → Bool
+abbrev pub is_word_for : Terms → Log → (now ending : Now) → Entry → Client → WordPlace
+    → (payloads : List (List ℕ)) → Bool
 is_word_for terms log now ending e client Alone payloads = is_turned_away terms log e client payloads
 is_word_for terms log now ending e client _ payloads =
     (is_at (setup_in terms) now e client && are_each bytes_eq payloads (out_of_memory ∷ []))
-    || (is_too_much terms ending client && are_each bytes_eq payloads (buffers_word terms ending client ∷ []))
+    || (is_too_much terms ending client
+    && are_each bytes_eq payloads (buffers_word terms ending client ∷ []))
 
 abbrev pub is_last_word : Terms → Log → Now → Entry → Client → LastWord → Bool
 is_last_word terms log now e client word =
     not (nat_eq word.from (entry_now now))
     || (ends_here terms now client
-    && (was_answered terms (while_ending terms now e) client && is_word_for terms log now (while_ending terms now e) e client word.place word.payloads))
+    && (was_answered terms (while_ending terms now e) client
+    && is_word_for terms log now (while_ending terms now e) e client word.place word.payloads))
 
 -- one that is turned away isn't tested: here all are served
 abbrev pub word_right : Terms → Log → (now later : Now) → Entry → Client → Bool
@@ -267,19 +314,23 @@ word_right terms log now later e client =
     (option_map_or (is_last_word terms log now e client) ((plan_in terms).words client.number) true
     && (not (is_accepted e client) || served terms log client))
     && (not (is_measured terms now (while_ending terms now e) e client)
-    || (not (is_too_much terms (while_ending terms now e) client) || is_by_now later.tale.moment ((plan_in terms).ends client.number)))
+    || (not (is_too_much terms (while_ending terms now e) client)
+    || is_by_now later.tale.moment ((plan_in terms).ends client.number)))
 
 abbrev pub may_part : Terms → Log → Now → Client → Bool
 may_part terms log now client =
     bytes_eq (written_of client.link log) (due_to terms now client)
     || (list_any (λ e. is_loss e && is_link client.link (link_of e)) log
-    || (nat_le (moment_in log ((plan_in terms).ends client.number) + terms.router.proxy.wait_ms) now.clock
-    || ((not (served terms log client) && (list_any is_write (of_link client.link log) || bytes_eq (due_to terms now client) []))
+    || (nat_le (moment_in log
+    ((plan_in terms).ends client.number) + terms.router.proxy.wait_ms) now.clock
+    || ((not (served terms log client)
+    && (list_any is_write (of_link client.link log) || bytes_eq (due_to terms now client) []))
     || is_unheard terms log client)))
 
 abbrev pub parts_right : Terms → Log → Now → LinkId → Client → Bool
 parts_right terms log now link client =
-    not (is_link_id client.link link) || (is_by_now now.tale.moment ((plan_in terms).ends client.number) && may_part terms log now client)
+    not (is_link_id client.link link)
+    || (is_by_now now.tale.moment ((plan_in terms).ends client.number) && may_part terms log now client)
 
 abbrev pub parts : Terms → Log → Now → Entry → Bool
 parts terms log now (Closed link) = list_all (parts_right terms log now link) now.tale.clients
@@ -289,4 +340,5 @@ abbrev pub are_ended : Terms → Log → Now → Entry → Bool
 are_ended terms log now e =
     let later = next terms now e in
     list_all (ends_right terms (log ++ e ∷ []) now later e) later.tale.clients
-    && (list_all (word_right terms (log ++ e ∷ []) now later e) later.tale.clients && parts terms log now e)
+    && (list_all (word_right terms (log ++ e ∷ []) now later e) later.tale.clients
+    && parts terms log now e)

@@ -34,7 +34,8 @@ is_key a b = bytes_eq a.text b.text && is_place a.place b.place
 abbrev pub is_route : Route → Route → Bool
 is_route a b =
     (is_hostgroup a.hostgroup b.hostgroup && is_option bytes_eq a.text b.text)
-    && (nat_eq a.number b.number && (is_option is_flag a.multiplex b.multiplex && is_option is_hostgroup a.mirror b.mirror))
+    && (nat_eq a.number b.number
+    && (is_option is_flag a.multiplex b.multiplex && is_option is_hostgroup a.mirror b.mirror))
 
 abbrev pub is_address : Address → Address → Bool
 is_address a b = bytes_eq a.ip b.ip && nat_eq a.port b.port
@@ -44,7 +45,8 @@ is_part a b = nat_eq a.parameter b.parameter && bytes_eq a.bytes b.bytes
 
 abbrev pub are_args : Args → Args → Bool
 are_args a b =
-    (is_option bytes_eq a.types b.types && bytes_eq a.nulls b.nulls) && (bytes_eq a.values b.values && are_each is_part a.long b.long)
+    (is_option bytes_eq a.types b.types && bytes_eq a.nulls b.nulls)
+    && (bytes_eq a.values b.values && are_each is_part a.long b.long)
 
 -- the number of its kind, and what it names
 abbrev pub tag_code : Tag → List ℕ

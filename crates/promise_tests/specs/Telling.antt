@@ -64,7 +64,8 @@ fits log _ = true
 
 abbrev pub is_as : Terms → Client → Opening → Login → Bool
 is_as terms client (Says switched response id rest) login =
-    is_account (terms.decided.accounts client.number) (login_as login) && is_place (terms.decided.places client.number) (first_place terms.router response)
+    is_account (terms.decided.accounts client.number) (login_as login)
+    && is_place (terms.decided.places client.number) (first_place terms.router response)
 is_as terms client _ login = true
 
 abbrev pub says_who : Terms → Client → Bool
@@ -91,14 +92,18 @@ pub record Ends : Type 0 where
 
 abbrev pub ends_in : Framed → List Framed → Ends
 ends_in message [] = record { front = []; last = message }
-ends_in message (other ∷ more) = record (ends_in other more) { front = message ∷ (ends_in other more).front }
+ends_in message (other ∷ more) = record (ends_in other more) {
+  front = message ∷ (ends_in other more).front;
+}
 
 abbrev pub executes : (there : ℕ) → Args → (bytes : List ℕ) → Ends → Bool
 executes there args bytes ends =
     is_empty (written_in bytes).rest
     && (is_for com_execute there ends.last.payload
-    && (list_any (λ params. are_args (args_in params there (λ i. false) 0 ends.front ends.last.payload) args) (0 ∷ 1 ∷ 2 ∷ 3 ∷ [])
-    && (list_all (λ (m : Framed). is_for com_long_data there m.payload) ends.front && bytes_eq (take 5 (drop 5 ends.last.payload)) (0 ∷ 1 ∷ 0 ∷ 0 ∷ 0 ∷ []))))
+    && (list_any (λ params. are_args
+    (args_in params there (λ i. false) 0 ends.front ends.last.payload) args) (0 ∷ 1 ∷ 2 ∷ 3 ∷ [])
+    && (list_all (λ (m : Framed). is_for com_long_data there m.payload) ends.front
+    && bytes_eq (take 5 (drop 5 ends.last.payload)) (0 ∷ 1 ∷ 0 ∷ 0 ∷ 0 ∷ []))))
 
 abbrev pub executes_by : (number : Option ℕ) → Args → (bytes : List ℕ) → List Framed → Bool
 executes_by None args bytes messages = false
@@ -106,7 +111,8 @@ executes_by (Some there) args bytes [] = false
 executes_by (Some there) args bytes (message ∷ more) = executes there args bytes (ends_in message more)
 
 abbrev pub begins : Command → (number : Option ℕ) → (written : List ℕ) → Bool
-begins (Run text schema settings args) number written = executes_by number args written (written_in written).messages
+begins (Run text schema settings args) number written =
+    executes_by number args written (written_in written).messages
 begins command number written = is_front written (spelling 0 (text_payload command))
 
 abbrev pub asks : Stage → (live : ℕ → Option ℕ) → (written : List ℕ) → Bool
@@ -128,12 +134,14 @@ is_unsaid _ step written = true
 abbrev pub says_behind : Wire → Link → Bool
 says_behind wire link =
     (asks link.stage link.live wire.written && steps wire.step wire.written)
-    && (if wire.quits then is_front wire.written (spelling 0 (text_payload Quit)) else is_unsaid link.stage wire.step wire.written)
+    && (if wire.quits then is_front wire.written (spelling 0 (text_payload Quit))
+    else is_unsaid link.stage wire.step wire.written)
 
 abbrev pub says_there : Terms → Tale → LinkId → Bool
 says_there terms tale link =
     if (tale.wires link).entered then says_behind (tale.wires link) (link_in (setup_in terms) tale link)
-    else is_front (tale.wires link).written (said_of (opening ((plan_in terms).logins link) (tale.wires link).unread))
+    else is_front (tale.wires link).written
+    (said_of (opening ((plan_in terms).logins link) (tale.wires link).unread))
 
 abbrev pub says : Terms → Log → Now → Bool
 says terms log now = list_all (says_there terms now.tale) now.tale.links
@@ -142,8 +150,10 @@ says terms log now = list_all (says_there terms now.tale) now.tale.links
 
 -- what stands there is whole
 abbrev pub is_whole_step : Option StepText → (written : List ℕ) → Bool
-is_whole_step (Some (Closes number)) written = bytes_eq written (spelling 0 (step_payload (Closes number)))
-is_whole_step (Some (Resets number)) written = bytes_eq written (spelling 0 (step_payload (Resets number)))
+is_whole_step (Some (Closes number)) written =
+    bytes_eq written (spelling 0 (step_payload (Closes number)))
+is_whole_step (Some (Resets number)) written =
+    bytes_eq written (spelling 0 (step_payload (Resets number)))
 is_whole_step _ written = true
 
 abbrev pub is_for_session : Tag → StepText → Bool
@@ -157,14 +167,17 @@ stands_in of_link None = true
 stands_in of_link (Some hostgroup) = is_option is_hostgroup of_link (Some hostgroup)
 
 abbrev pub stands_right : Terms → Now → LinkId → Stage → Bool
-stands_right terms now link (Asked question) = stands_in (hostgroup_of terms.router (wire_now now link).server) (hostgroup_asked question)
+stands_right terms now link (Asked question) =
+    stands_in (hostgroup_of terms.router (wire_now now link).server) (hostgroup_asked question)
 stands_right terms now link _ = true
 
 abbrev pub begins_right : Terms → Log → Now → LinkId → Tag → (later : Now) → Bool
 begins_right terms log now link tag later =
     let step = (plan_in terms).steps link (wire_now now link).begun in
-    ((quits_for tag step || is_usable terms log now link) && is_whole_step (wire_now now link).step (wire_now now link).written)
-    && (is_for_session tag step && stands_right terms later link (link_now (setup_in terms) later link).stage)
+    ((quits_for tag step || is_usable terms log now link)
+    && is_whole_step (wire_now now link).step (wire_now now link).written)
+    && (is_for_session tag step
+    && stands_right terms later link (link_now (setup_in terms) later link).stage)
 
 abbrev pub tagged_there : Terms → Log → Now → LinkId → Tag → (begins entered : Bool) → Now → Bool
 tagged_there terms log now link tag true entered later = begins_right terms log now link tag later
@@ -173,11 +186,14 @@ tagged_there terms log now link tag false false later = is_tag tag tags.Own
 
 abbrev pub tagged_to : Terms → Log → Now → LinkId → Tag → (is_server : Bool) → Now → Bool
 tagged_to terms log now link tag true later =
-    tagged_there terms log now link tag (may_begin (setup_in terms) link (wire_now now link) now.tale) (wire_now now link).entered later
+    tagged_there terms log now link tag (may_begin (setup_in terms) link (wire_now now link) now.tale)
+    (wire_now now link).entered later
 tagged_to terms log now link tag false later = is_tag tag tags.Reply
 
 abbrev pub is_tagged : Terms → Log → Now → Entry → Bool
-is_tagged terms log now (Wrote link tag bytes) = tagged_to terms log now link tag (is_to_server now.tale link) (next terms now (Wrote link tag bytes))
+is_tagged terms log now (Wrote link tag bytes) =
+    tagged_to terms log now link tag (is_to_server now.tale link)
+    (next terms now (Wrote link tag bytes))
 is_tagged terms log now _ = true
 
 -- What is told of its story may come.
@@ -186,9 +202,11 @@ abbrev pub passes : Setup → Plan → Tale → Entry → Bool
 passes setup plan tale (Opened server address link) = not (is_to_server tale link)
 passes setup plan tale (Wrote link tag bytes) =
     not (is_to_server tale link) || (not (may_begin setup link (tale.wires link) tale)
-    || may_tell setup (begun_on setup plan tale.moment (view_of setup tale) link (tale.wires link) tag) tale.story)
+    || may_tell setup (begun_on setup plan tale.moment (view_of setup tale) link
+    (tale.wires link) tag) tale.story)
 passes setup plan tale _ = true
 
 abbrev pub passes_from : Setup → Plan → Tale → Log → Bool
 passes_from setup plan tale [] = true
-passes_from setup plan tale (e ∷ log) = passes setup plan tale e && passes_from setup plan (tale_step setup plan tale e) log
+passes_from setup plan tale (e ∷ log) =
+    passes setup plan tale e && passes_from setup plan (tale_step setup plan tale e) log

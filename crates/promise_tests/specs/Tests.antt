@@ -17,24 +17,29 @@ use Rattle.tale_world.specs.Tested.{has_broken}
 
 abbrev pub each_moment : Terms → (Log → Now → Bool) → (before : Log) → Now → Log → Bool
 each_moment terms test before now [] = test before now
-each_moment terms test before now (e ∷ log) = test before now && each_moment terms test (before ++ e ∷ []) (next terms now e) log
+each_moment terms test before now (e ∷ log) =
+    test before now && each_moment terms test (before ++ e ∷ []) (next terms now e) log
 
 abbrev pub each_entry : Terms → (Log → Now → Entry → Bool) → (before : Log) → Now → Log → Bool
 each_entry terms test before now [] = true
-each_entry terms test before now (e ∷ log) = test before now e && each_entry terms test (before ++ e ∷ []) (next terms now e) log
+each_entry terms test before now (e ∷ log) =
+    test before now e && each_entry terms test (before ++ e ∷ []) (next terms now e) log
 
 abbrev pub holds_at : Terms → Log → Now → Bool
 holds_at terms log now =
-    (list_all (says_who terms) now.tale.clients && (says terms log now && list_all (is_owed terms log now) now.tale.clients))
+    (list_all (says_who terms) now.tale.clients
+    && (says terms log now && list_all (is_owed terms log now) now.tale.clients))
     && not (has_broken now.tale.story)
 
 abbrev pub gives_right : Terms → List Given → Log → Now → Entry → Bool
 gives_right terms table log now e =
-    list_all (is_given terms now (next terms now e) e) table && (is_single now table && leaves_few terms log (next terms now e) e)
+    list_all (is_given terms now (next terms now e) e) table
+    && (is_single now table && leaves_few terms log (next terms now e) e)
 
 abbrev pub is_right : Terms → List Given → Log → Now → Entry → Bool
 is_right terms table log now e =
-    ((fits log e && is_routed terms now e) && (is_tagged terms log now e && steps_right terms log now e))
+    ((fits log e && is_routed terms now e)
+    && (is_tagged terms log now e && steps_right terms log now e))
     && ((opens_right terms log now e && closes_right terms log now e)
     && (gives_right terms table log now e && (are_ended terms log now e && rests terms log now e)))
 

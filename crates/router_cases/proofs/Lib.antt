@@ -1,2 +1,3 @@
 mod Honest
+pub mod OnLogs
 pub mod Computed

@@ -29,7 +29,8 @@ step_at begun = if nat_eq begun 0 then Asks (Query names_text) else Asks Quit
 -- the client ends at the sixteenth entry, by its second message
 abbrev pub plan : Plan
 plan = record first_plan {
-  routes = λ (m : MessageName). if nat_eq m.ordinal 1 then Some (record first_route { text = Some begin }) else None;
+  routes = λ (m : MessageName). if nat_eq m.ordinal 1
+      then Some (record first_route { text = Some begin }) else None;
   own = own_by [];
   ends = λ (c : ClientNo). if nat_eq c.0 1 then Some 16 else None;
   steps = λ l begun. step_at begun;
@@ -50,12 +51,17 @@ begun_ok = spellings 1 ((0 ∷ 0 ∷ 0 ∷ 3 ∷ 0 ∷ 0 ∷ 0 ∷ []) ∷ [])
 
 abbrev pub log : Log
 log =
-    Woke never 0 ∷ Accepted Traffic (link 1) salt ∷ Wrote (link 1) ReplyTag (greeting_said 1 salt (codes "8")) ∷ Got (link 1) response
+    Woke never 0 ∷ Accepted Traffic (link 1) salt
+    ∷ Wrote (link 1) ReplyTag (greeting_said 1 salt (codes "8")) ∷ Got (link 1) response
     ∷ Wrote (link 1) ReplyTag (spelling 2 own_ok) ∷ Got (link 1) asks ∷ Opened server here (link 3)
-    ∷ Got (link 3) (spelling 0 (greeting_bytes greeting)) ∷ Wrote (link 3) OwnTag (response_said login greeting) ∷ Got (link 3) (spelling 2 own_ok)
-    ∷ Wrote (link 3) OwnTag (spelling 0 (3 ∷ names_text)) ∷ Got (link 3) (spellings 1 (ok_with 0)) ∷ Wrote (link 3) (For (client 1) 1) asks
-    ∷ Got (link 3) begun_ok ∷ Wrote (link 1) ReplyTag begun_ok ∷ Got (link 1) (spelling 0 (text_payload Quit)) ∷ Closed (link 1)
-    ∷ Wrote (link 3) (EndTag (client 1) group) (spelling 0 (text_payload Reset)) ∷ Got (link 3) (spellings 1 (ok_with 0))
+    ∷ Got (link 3) (spelling 0 (greeting_bytes greeting))
+    ∷ Wrote (link 3) OwnTag (response_said login greeting) ∷ Got (link 3) (spelling 2 own_ok)
+    ∷ Wrote (link 3) OwnTag (spelling 0 (3 ∷ names_text)) ∷ Got (link 3) (spellings 1 (ok_with 0))
+    ∷ Wrote (link 3) (For (client 1) 1) asks
+    ∷ Got (link 3) begun_ok ∷ Wrote (link 1) ReplyTag begun_ok
+    ∷ Got (link 1) (spelling 0 (text_payload Quit)) ∷ Closed (link 1)
+    ∷ Wrote (link 3) (EndTag (client 1) group) (spelling 0 (text_payload Reset))
+    ∷ Got (link 3) (spellings 1 (ok_with 0))
     ∷ AcceptNothing Traffic ∷ AcceptNothing Admin ∷ NoneNamed ∷ ReadNothing (link 3) ∷ Woke 1000 1000
     ∷ Wrote (link 3) OwnTag (spelling 0 (text_payload Quit)) ∷ Closed (link 3) ∷ []
 
@@ -63,11 +69,21 @@ abbrev pub until : (n : ℕ) → Log
 until n = take n log
 
 abbrev pub due : Due
-due = record { ordinal = 1; place = place; anew = true; command = Query begin; key = 0; multiplex = None }
+due = record {
+  ordinal = 1;
+  place = place;
+  anew = true;
+  command = Query begin;
+  key = 0;
+  multiplex = None;
+}
 
 abbrev pub story : Story
 story =
-    Gone (link 3) ∷ Freed (link 3) ∷ heard (ok_with 0) ∷ Ran (link 3) ∷ Sent (link 3) (End (session 1)) ∷ Left (client 1) ∷ Left (client 1)
-    ∷ heard ((0 ∷ 0 ∷ 0 ∷ 3 ∷ 0 ∷ 0 ∷ 0 ∷ []) ∷ []) ∷ Ran (link 3) ∷ Sent (link 3) (Statement (session 1) due)
-    ∷ heard (ok_with 0) ∷ Ran (link 3) ∷ Sent (link 3) (Own (Query names_text)) ∷ LoggedIn (link 3) server anybody
+    Gone (link 3) ∷ Freed (link 3) ∷ heard (ok_with 0) ∷ Ran (link 3) ∷ Sent (link 3) (End (session 1))
+    ∷ Left (client 1) ∷ Left (client 1)
+    ∷ heard ((0 ∷ 0 ∷ 0 ∷ 3 ∷ 0 ∷ 0 ∷ 0 ∷ []) ∷ []) ∷ Ran (link 3)
+    ∷ Sent (link 3) (Statement (session 1) due)
+    ∷ heard (ok_with 0) ∷ Ran (link 3) ∷ Sent (link 3) (Own (Query names_text))
+    ∷ LoggedIn (link 3) server anybody
     ∷ BecameDue (client 1) group 1 0 (Query begin) None ∷ []

@@ -35,10 +35,20 @@ route_of ordinal =
 abbrev pub given : List Given
 given =
     record { message = message 1 2; answer = record { from = 0; payloads = [] } }
-    ∷ record { message = message 1 5; answer = record { from = 0; payloads = unknown_statement 9 ∷ [] } } ∷ []
+    ∷ record {
+      message = message 1 5;
+      answer = record {
+        from = 0;
+        payloads = unknown_statement 9 ∷ [];
+      };
+    } ∷ []
 
 abbrev pub plan : Plan
-plan = record first_plan { routes = λ (m : MessageName). route_of m.ordinal; own = own_by given; steps = λ l begun. Asks (Query names_text) }
+plan = record first_plan {
+  routes = λ (m : MessageName). route_of m.ordinal;
+  own = own_by given;
+  steps = λ l begun. Asks (Query names_text);
+}
 
 abbrev pub decided : Decided
 decided = record first_decided { plan = plan; keys = λ key. record { text = text; place = place } }
@@ -56,33 +66,44 @@ long_data number = spelling 0 (with_number com_long_data number ++ (0 ∷ 0 ∷ 
 
 -- no flags, one iteration, no NULL, and a type, BLOB
 abbrev pub with_types : (number null : ℕ) → List ℕ
-with_types number null = spelling 0 (with_number com_execute number ++ (0 ∷ 1 ∷ 0 ∷ 0 ∷ 0 ∷ null ∷ 1 ∷ 252 ∷ 0 ∷ []))
+with_types number null =
+    spelling 0 (with_number com_execute number ++ (0 ∷ 1 ∷ 0 ∷ 0 ∷ 0 ∷ null ∷ 1 ∷ 252 ∷ 0 ∷ []))
 
 -- the parameter is NULL, and no types follow
 abbrev pub without_types : (number : ℕ) → List ℕ
 without_types number = spelling 0 (with_number com_execute number ++ (0 ∷ 1 ∷ 0 ∷ 0 ∷ 0 ∷ 1 ∷ 0 ∷ []))
 
 abbrev pub prepared : (number : ℕ) → List (List ℕ)
-prepared number = (0 ∷ number ∷ 0 ∷ 0 ∷ 0 ∷ 0 ∷ 0 ∷ 1 ∷ 0 ∷ 0 ∷ 0 ∷ 0 ∷ []) ∷ (3 ∷ []) ∷ (254 ∷ 0 ∷ 0 ∷ 0 ∷ 0 ∷ []) ∷ []
+prepared number =
+    (0 ∷ number ∷ 0 ∷ 0 ∷ 0 ∷ 0 ∷ 0 ∷ 1 ∷ 0 ∷ 0 ∷ 0 ∷ 0 ∷ []) ∷ (3 ∷ []) ∷ (254 ∷ 0 ∷ 0 ∷ 0 ∷ 0 ∷ [])
+    ∷ []
 
 abbrev pub done : List ℕ
 done = spellings 1 (ok_with 0)
 
 abbrev pub log : Log
 log =
-    Woke never 0 ∷ Accepted Traffic (link 1) salt ∷ Wrote (link 1) ReplyTag (greeting_said 1 salt (codes "8")) ∷ Got (link 1) response
+    Woke never 0 ∷ Accepted Traffic (link 1) salt
+    ∷ Wrote (link 1) ReplyTag (greeting_said 1 salt (codes "8")) ∷ Got (link 1) response
     ∷ Wrote (link 1) ReplyTag (spelling 2 own_ok) ∷ Got (link 1) prepare ∷ Opened server here (link 3)
-    ∷ Got (link 3) (spelling 0 (greeting_bytes greeting)) ∷ Wrote (link 3) OwnTag (response_said login greeting) ∷ Got (link 3) (spelling 2 own_ok)
-    ∷ Wrote (link 3) OwnTag (spelling 0 (3 ∷ names_text)) ∷ Got (link 3) done ∷ Wrote (link 3) (For (client 1) 1) prepare
-    ∷ Got (link 3) (spellings 1 (prepared 7)) ∷ Wrote (link 1) ReplyTag (spellings 1 (prepared 1)) ∷ Got (link 1) (long_data 1 ++ with_types 1 0)
-    ∷ Wrote (link 3) (For (client 1) 3) (long_data 7 ++ with_types 7 0) ∷ Got (link 3) done ∷ Wrote (link 1) ReplyTag done ∷ Got (link 1) (without_types 1)
-    ∷ Wrote (link 3) (For (client 1) 4) (with_types 7 1) ∷ Got (link 3) done ∷ Wrote (link 1) ReplyTag done ∷ Got (link 1) (with_types 9 0)
+    ∷ Got (link 3) (spelling 0 (greeting_bytes greeting))
+    ∷ Wrote (link 3) OwnTag (response_said login greeting) ∷ Got (link 3) (spelling 2 own_ok)
+    ∷ Wrote (link 3) OwnTag (spelling 0 (3 ∷ names_text)) ∷ Got (link 3) done
+    ∷ Wrote (link 3) (For (client 1) 1) prepare
+    ∷ Got (link 3) (spellings 1 (prepared 7)) ∷ Wrote (link 1) ReplyTag (spellings 1 (prepared 1))
+    ∷ Got (link 1) (long_data 1 ++ with_types 1 0)
+    ∷ Wrote (link 3) (For (client 1) 3) (long_data 7 ++ with_types 7 0) ∷ Got (link 3) done
+    ∷ Wrote (link 1) ReplyTag done ∷ Got (link 1) (without_types 1)
+    ∷ Wrote (link 3) (For (client 1) 4) (with_types 7 1) ∷ Got (link 3) done
+    ∷ Wrote (link 1) ReplyTag done ∷ Got (link 1) (with_types 9 0)
     ∷ Wrote (link 1) ReplyTag (spelling 1 (unknown_statement 9)) ∷ []
 
 -- What it tells.
 
 abbrev pub runs_with : (null : ℕ) → List LongPart → Command
-runs_with null long = Run text place.schema place.settings (record { types = Some (252 ∷ 0 ∷ []); nulls = null ∷ []; values = []; long = long })
+runs_with null long =
+    Run text place.schema place.settings
+    (record { types = Some (252 ∷ 0 ∷ []); nulls = null ∷ []; values = []; long = long })
 
 abbrev pub first_run : Command
 first_run = runs_with 0 (record { parameter = 0; bytes = codes "abc" } ∷ [])
@@ -91,7 +112,14 @@ abbrev pub second_run : Command
 second_run = runs_with 1 []
 
 abbrev pub due_with : (ordinal : ℕ) → Command → Due
-due_with ordinal command = record { ordinal = ordinal; place = place; anew = true; command = command; key = 0; multiplex = None }
+due_with ordinal command = record {
+  ordinal = ordinal;
+  place = place;
+  anew = true;
+  command = command;
+  key = 0;
+  multiplex = None;
+}
 
 abbrev pub comes : (ordinal : ℕ) → Command → Happening
 comes ordinal command = BecameDue (client 1) group ordinal 0 command None
@@ -103,5 +131,7 @@ abbrev pub story : Story
 story =
     Freed (link 3) ∷ heard (ok_with 0) ∷ Ran (link 3) ∷ sends 4 second_run ∷ comes 4 second_run
     ∷ Freed (link 3) ∷ heard (ok_with 0) ∷ Ran (link 3) ∷ sends 3 first_run ∷ comes 3 first_run
-    ∷ Freed (link 3) ∷ Heard (link 3) (record { to_prepare = true; payloads = prepared 7 }) ∷ Ran (link 3) ∷ sends 1 (Prepare text)
-    ∷ heard (ok_with 0) ∷ Ran (link 3) ∷ Sent (link 3) (Own (Query names_text)) ∷ LoggedIn (link 3) server anybody ∷ comes 1 (Prepare text) ∷ []
+    ∷ Freed (link 3) ∷ Heard (link 3) (record { to_prepare = true; payloads = prepared 7 })
+    ∷ Ran (link 3) ∷ sends 1 (Prepare text)
+    ∷ heard (ok_with 0) ∷ Ran (link 3) ∷ Sent (link 3) (Own (Query names_text))
+    ∷ LoggedIn (link 3) server anybody ∷ comes 1 (Prepare text) ∷ []

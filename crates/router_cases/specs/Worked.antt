@@ -95,7 +95,13 @@ router = record {
   reads = reads;
   proxy = proxy;
   users = record { name = codes "app"; password = []; default_hostgroup = group } ∷ [];
-  servers = record { hostgroup = group; address = here; weight = 1; max_connections = 1; status = Online } ∷ [];
+  servers = record {
+    hostgroup = group;
+    address = here;
+    weight = 1;
+    max_connections = 1;
+    status = Online;
+  } ∷ [];
   rules = [];
 }
 
@@ -117,13 +123,23 @@ abbrev pub login : Login
 login = record { user = codes "app"; password = []; found_rows = false }
 
 abbrev pub anybody : Account
-anybody = record { user = codes "app"; capabilities = record { found_rows = false; multi_results = true; ignore_space = false } }
+anybody = record {
+  user = codes "app";
+  capabilities = record { found_rows = false; multi_results = true; ignore_space = false };
+}
 
 abbrev pub place : Place
 place = record { schema = []; settings = collation_settings 45 }
 
 abbrev pub route : Route
-route = record { hostgroup = group; text = Some insert; key = 0; number = 0; multiplex = None; mirror = None }
+route = record {
+  hostgroup = group;
+  text = Some insert;
+  key = 0;
+  number = 0;
+  multiplex = None;
+  mirror = None;
+}
 
 abbrev pub zero_id : Number
 zero_id = record { value = 0; fits = omega arith }
@@ -133,7 +149,13 @@ step_at begun = if nat_eq begun 0 then Asks (Query names_text) else Asks (SetId 
 
 -- the first client's first message is refused at the eighth entry
 abbrev pub given : List Given
-given = record { message = message 1 1; answer = record { from = 8; payloads = connection_refused ∷ [] } } ∷ []
+given = record {
+  message = message 1 1;
+  answer = record {
+    from = 8;
+    payloads = connection_refused ∷ [];
+  };
+} ∷ []
 
 abbrev pub plan : Plan
 plan = record {
@@ -184,13 +206,29 @@ salt = codes "abcdefghijklmnopqrst"
 abbrev pub response : List ℕ
 response =
     spelling 1 (response_bytes
-    (record { capabilities = 958981; max_packet = 16777216; collation = 45; user = codes "app"; answer = []; schema = None; plugin = Some native_password }))
+    (record {
+      capabilities = 958981;
+      max_packet = 16777216;
+      collation = 45;
+      user = codes "app";
+      answer = [];
+      schema = None;
+      plugin = Some native_password;
+    }))
 
 abbrev pub query : List ℕ
 query = spelling 0 (3 ∷ insert)
 
 abbrev pub greeting : Greeting
-greeting = record { version = codes "8"; connection = 7; salt = salt; capabilities = 958991; collation = 45; status = 2; plugin = native_password }
+greeting = record {
+  version = codes "8";
+  connection = 7;
+  salt = salt;
+  capabilities = 958991;
+  collation = 45;
+  status = 2;
+  plugin = native_password;
+}
 
 abbrev pub ok_with : (id : ℕ) → List (List ℕ)
 ok_with id = (0 ∷ 0 ∷ id ∷ 2 ∷ 0 ∷ 0 ∷ 0 ∷ []) ∷ []
@@ -207,7 +245,8 @@ never = 18446744073709551615
 
 abbrev pub comes : (n : ℕ) → Log
 comes n =
-    Accepted Traffic (link n) salt ∷ Wrote (link n) ReplyTag (greeting_said n salt (codes "8")) ∷ Got (link n) response
+    Accepted Traffic (link n) salt ∷ Wrote (link n) ReplyTag (greeting_said n salt (codes "8"))
+    ∷ Got (link n) response
     ∷ Wrote (link n) ReplyTag (spelling 2 own_ok) ∷ []
 
 -- nobody waits at a port, no link is ready, and these have nothing to read
@@ -218,21 +257,27 @@ is_drained reads = AcceptNothing Traffic ∷ AcceptNothing Admin ∷ NoneNamed �
 abbrev pub first_part : Log
 first_part =
     Woke never 0 ∷ (comes 1 ++ (AcceptNothing Traffic ∷ Got (link 1) query ∷ OpenFailed server here
-    ∷ Wrote (link 1) ReplyTag (spelling 1 connection_refused) ∷ AcceptNothing Admin ∷ NoneNamed ∷ ReadNothing (link 1) ∷ []))
+    ∷ Wrote (link 1) ReplyTag (spelling 1 connection_refused) ∷ AcceptNothing Admin ∷ NoneNamed
+    ∷ ReadNothing (link 1) ∷ []))
 
 -- up to the second wait: both clients insert, and a link is opened
 abbrev pub second_part : Log
-second_part = Woke 10000 10000 ∷ (comes 2 ++ (AcceptNothing Traffic ∷ AcceptNothing Admin ∷ Named (link 1) ∷ NoneNamed ∷ Got (link 1) query ∷ Opened server here (link 3)
+second_part =
+    Woke 10000 10000 ∷ (comes 2
+    ++ (AcceptNothing Traffic ∷ AcceptNothing Admin ∷ Named (link 1) ∷ NoneNamed ∷ Got (link 1) query
+    ∷ Opened server here (link 3)
     ∷ Got (link 2) query ∷ ReadNothing (link 1) ∷ ReadNothing (link 2) ∷ ReadNothing (link 3) ∷ []))
 
 -- the router logs in there, and takes a step
 abbrev pub third_part : Log
 third_part =
-    Woke 10100 10001 ∷ AcceptNothing Traffic ∷ AcceptNothing Admin ∷ Named (link 3) ∷ NoneNamed ∷ Got (link 3) (spelling 0 (greeting_bytes greeting))
+    Woke 10100 10001 ∷ AcceptNothing Traffic ∷ AcceptNothing Admin ∷ Named (link 3) ∷ NoneNamed
+    ∷ Got (link 3) (spelling 0 (greeting_bytes greeting))
     ∷ Wrote (link 3) OwnTag (response_said login greeting) ∷ Got (link 3) (spelling 2 own_ok)
     ∷ Wrote (link 3) OwnTag (spelling 0 (3 ∷ names_text)) ∷ Got (link 3) (spellings 1 (ok_with 0))
     ∷ Wrote (link 3) (For (client 1) 2) query ∷ Got (link 3) (spellings 1 (ok_with 1))
-    ∷ Wrote (link 1) ReplyTag (spellings 1 (ok_with 1)) ∷ Wrote (link 3) (EndTag (client 1) group) (spelling 0 (3 ∷ read_id_text))
+    ∷ Wrote (link 1) ReplyTag (spellings 1 (ok_with 1))
+    ∷ Wrote (link 3) (EndTag (client 1) group) (spelling 0 (3 ∷ read_id_text))
     ∷ Got (link 3) (spellings 1 row) ∷ []
 
 -- it goes to the second client
@@ -251,7 +296,14 @@ until n = take n log
 -- What it tells.
 
 abbrev pub due_at : (ordinal : ℕ) → Due
-due_at ordinal = record { ordinal = ordinal; place = place; anew = true; command = Query insert; key = 0; multiplex = None }
+due_at ordinal = record {
+  ordinal = ordinal;
+  place = place;
+  anew = true;
+  command = Query insert;
+  key = 0;
+  multiplex = None;
+}
 
 abbrev pub came : (n ordinal : ℕ) → Happening
 came n ordinal = BecameDue (client n) group ordinal 0 (Query insert) None
@@ -265,5 +317,6 @@ story =
     ∷ heard (ok_with 0) ∷ Ran (link 3) ∷ Sent (link 3) (Own (SetId zero_id))
     ∷ Freed (link 3) ∷ heard row ∷ Ran (link 3) ∷ Sent (link 3) (Capture (session 1))
     ∷ heard (ok_with 1) ∷ Ran (link 3) ∷ Sent (link 3) (Statement (session 1) (due_at 2))
-    ∷ heard (ok_with 0) ∷ Ran (link 3) ∷ Sent (link 3) (Own (Query names_text)) ∷ LoggedIn (link 3) server anybody
+    ∷ heard (ok_with 0) ∷ Ran (link 3) ∷ Sent (link 3) (Own (Query names_text))
+    ∷ LoggedIn (link 3) server anybody
     ∷ came 2 1 ∷ came 1 2 ∷ came 1 1 ∷ []

@@ -1,3 +1,5 @@
 pub mod Saying
 pub mod Refusals
 pub mod Lapses
+pub mod Causes
+pub mod Cares

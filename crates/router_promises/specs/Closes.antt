@@ -185,10 +185,13 @@ IsNeedless terms log now link (Some key) = waiting terms now key ≤ others_vaca
 pub data MayDrop (terms : Terms) (log : Log) (now : Now) (link : LinkId) : Type 0 where
   Spoilt : is_spoilt terms log now link ≡ true → MayDrop terms log now link
   Amiss : was_amiss (setup_in terms) link now.tale.story ≡ true → MayDrop terms log now link
-  Refused : was_refused (setup_in terms) link now.tale.story ≡ true → is_joined (link_now (setup_in terms) now link).carries ≡ false → MayDrop terms log now link
+  Refused : was_refused (setup_in terms) link now.tale.story ≡ true
+      → is_joined (link_now (setup_in terms) now link).carries ≡ false → MayDrop terms log now link
   PastReset : is_past_reset (setup_in terms) now link ≡ true → MayDrop terms log now link
-  Leaving : is_unlent (setup_in terms) now link ≡ true → status_in is_soft now.servers (wire_now now link).server ≡ true → MayDrop terms log now link
-  Idle : is_unlent (setup_in terms) now link ≡ true → (now.uses link).used + terms.router.proxy.idle_ms ≤ now.clock → MayDrop terms log now link
+  Leaving : is_unlent (setup_in terms) now link ≡ true
+      → status_in is_soft now.servers (wire_now now link).server ≡ true → MayDrop terms log now link
+  Idle : is_unlent (setup_in terms) now link ≡ true
+      → (now.uses link).used + terms.router.proxy.idle_ms ≤ now.clock → MayDrop terms log now link
   MakesRoom : is_unlent (setup_in terms) now link ≡ true → is_in_the_way terms now (key_of terms now link) ≡ true
       → is_full terms.router log now (key_of terms now link) ≡ true → MayDrop terms log now link
   Starved : list_any (is_starved_by terms log now link) now.tale.clients ≡ true → MayDrop terms log now link

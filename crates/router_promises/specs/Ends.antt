@@ -59,7 +59,8 @@ is_refused terms client = is_refused_by terms client (opening_of (talk_of (plan_
 -- all that it asked is answered
 abbrev pub is_all_answered : Terms → Now → Client → Bool
 is_all_answered terms now client =
-    nat_eq client.taken (length (messages (plan_in terms) client)) && is_answered (plan_in terms) now.tale (view_now (setup_in terms) now) client client.taken
+    nat_eq client.taken (length (messages (plan_in terms) client))
+    && is_answered (plan_in terms) now.tale (view_now (setup_in terms) now) client client.taken
 
 -- and what follows can't be a message
 abbrev pub is_at_fault : Terms → Now → Client → Bool
@@ -85,7 +86,8 @@ carries_client setup now client link =
 
 abbrev pub is_held_fast : Setup → Now → LinkId → Bool
 is_held_fast setup now link =
-    option_map_or (λ n. is_pinned (held_now setup now n).pin || is_none (held_now setup now n).id) (session_in (link_now setup now link).carries) false
+    option_map_or (λ n. is_pinned (held_now setup now n).pin || is_none (held_now setup now n).id)
+    (session_in (link_now setup now link).carries) false
 
 abbrev pub is_capture : Question → Bool
 is_capture (Capture n) = true
@@ -109,7 +111,9 @@ breaks_client setup now later e client = option_map_or (breaks_on setup now late
 abbrev pub must_end : Terms → Log → (now later : Now) → Entry → Client → Bool
 must_end terms log now later e client =
     loses_client e client || ((is_accepted e client && not (served terms log client))
-    || (is_refused terms client || (is_at_fault terms later client || (quits_at terms now e client || breaks_client (setup_in terms) now later e client))))
+    || (is_refused terms client
+    || (is_at_fault terms later client
+    || (quits_at terms now e client || breaks_client (setup_in terms) now later e client))))
 
 -- there is no memory for it, also as it is accepted; or a last word to it comes
 abbrev pub may_end : Terms → Now → Entry → Client → Bool
@@ -119,8 +123,10 @@ may_end terms now e client =
 
 -- A client ends at an entry exactly where it must, by what is known before clients are ended; but for want of memory and a last word.
 pub record EndsRight (terms : Terms) (log : Log) (now later : Now) (e : Entry) (client : Client) : Type 0 where
-  pub must : must_end terms log now (while_ending terms now e) e client ≡ true → is_by_now later.tale.moment ((plan_in terms).ends client.number) ≡ true
-  pub may : (plan_in terms).ends client.number ≡ Some (entry_now now) → (must_end terms log now (while_ending terms now e) e client || may_end terms now e client) ≡ true
+  pub must : must_end terms log now (while_ending terms now e) e client ≡ true
+      → is_by_now later.tale.moment ((plan_in terms).ends client.number) ≡ true
+  pub may : (plan_in terms).ends client.number ≡ Some (entry_now now)
+      → (must_end terms log now (while_ending terms now e) e client || may_end terms now e client) ≡ true
 
 -- The last word: that there is no memory, or that too many bytes of clients wait.
 
@@ -142,7 +148,9 @@ kept terms client = kept_by terms client (opening_of (talk_of (plan_in terms) cl
 
 -- one that ended at an earlier entry has none
 abbrev pub kept_bytes : Terms → Now → Client → ℕ
-kept_bytes terms now client = if option_map_or (λ entry. nat_lt entry now.tale.moment) ((plan_in terms).ends client.number) false then 0 else length (kept terms client)
+kept_bytes terms now client =
+    if option_map_or (λ entry. nat_lt entry now.tale.moment) ((plan_in terms).ends client.number) false
+    then 0 else length (kept terms client)
 
 abbrev pub kept_in_all : Terms → Now → ℕ
 kept_in_all terms now = sum_by (kept_bytes terms now) now.tale.clients
@@ -175,7 +183,8 @@ is_at setup now e client = option_map_or (concerns (view_now setup now) client) 
 
 -- What the last word is, and where it stands: it wasn't served; there is no memory for what came on its link, or one that carries it; or
 -- too many bytes wait.
-pub data WordFor (terms : Terms) (log : Log) (now ending : Now) (e : Entry) (client : Client) : WordPlace → (payloads : List (List ℕ)) → Type 0 where
+pub data WordFor (terms : Terms) (log : Log) (now ending : Now) (e : Entry)
+    (client : Client) : WordPlace → (payloads : List (List ℕ)) → Type 0 where
   TurnedAway : (came : Arrival) → is_accepted e client ≡ true → arrival_of client.number.0 log ≡ Some came → served terms log client ≡ false
       → WordFor terms log now ending e client Alone (turned_away came.port)
   NoMemory : (place : WordPlace) → is_alone place ≡ false → is_at (setup_in terms) now e client ≡ true
@@ -190,7 +199,8 @@ pub record IsLastWord (terms : Terms) (log : Log) (now : Now) (e : Entry) (clien
 
 -- one that isn't served has its word as it is accepted
 pub record WordRight (terms : Terms) (log : Log) (now later : Now) (e : Entry) (client : Client) : Type 0 where
-  pub may : (word : LastWord) → (plan_in terms).words client.number ≡ Some word → word.from ≡ entry_now now → IsLastWord terms log now e client word
+  pub may : (word : LastWord) → (plan_in terms).words client.number ≡ Some word
+      → word.from ≡ entry_now now → IsLastWord terms log now e client word
   pub away : (came : Arrival) → is_accepted e client ≡ true → arrival_of client.number.0 log ≡ Some came → served terms log client ≡ false
       → (plan_in terms).words client.number ≡ Some (record { from = entry_now now; place = Alone; payloads = turned_away came.port })
   pub must : is_measured terms now (while_ending terms now e) e client ≡ true → is_too_much terms (while_ending terms now e) client ≡ true
@@ -205,7 +215,8 @@ moment_in log (Some entry) = moment_of (take entry log)
 -- it ended as it was accepted: there was no memory
 abbrev pub is_unheard : Terms → Log → Client → Bool
 is_unheard terms log client =
-    option_map_or (λ entry. option_map_or (λ e. is_accepted e client) (slice_get log (entry - 1)) false) ((plan_in terms).ends client.number) false
+    option_map_or (λ entry. option_map_or (λ e. is_accepted e client) (slice_get log (entry - 1)) false)
+    ((plan_in terms).ends client.number) false
 
 -- a write was tried
 abbrev pub is_write : Entry → Bool

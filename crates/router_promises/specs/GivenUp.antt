@@ -37,7 +37,11 @@ pub record IsOnLink (terms : Terms) (now : Now) (m : MessageName) (route : Route
 abbrev pub key_tried : Terms → Now → Entry → Option LinkKey
 key_tried terms now (OpenFailed server address) =
     let tried = terms.decided.tried (entry_now now) in
-    option_map (λ hostgroup. record { hostgroup = hostgroup; account = login_as tried.login; bare = tried.bare }) (hostgroup_of terms.router server)
+    option_map (λ hostgroup. record {
+      hostgroup = hostgroup;
+      account = login_as tried.login;
+      bare = tried.bare;
+    }) (hostgroup_of terms.router server)
 key_tried terms now e = option_and_then (key_of terms now) (breaks_off terms now.tale e)
 
 -- a step was on its way to this statement
@@ -57,13 +61,16 @@ pub data Cause (terms : Terms) (now later : Now) (e : Entry) (m : MessageName) (
       → Cause terms now later e m route connection_lost
   WaitedTooLong : (until_ms now_ms : ℕ) → e ≡ Woke until_ms now_ms → is_unsent terms now.tale (session_of terms now m route) ≡ true
       → now.since m + terms.router.proxy.wait_ms ≤ now_ms → Cause terms now later e m route (no_connection (now.since m) now_ms)
-  NoLink : (key : LinkKey) → key_tried terms now e ≡ Some key → oldest terms now key ≡ Some m → Cause terms now later e m route connection_refused
-  StepRefused : (link : LinkId) (answer : Answer) → link_of e ≡ Some link → reading_of (setup_in terms) now e ≡ Whole answer → is_err answer.reply ≡ true
+  NoLink : (key : LinkKey) → key_tried terms now e ≡ Some key → oldest terms now key ≡ Some m
+      → Cause terms now later e m route connection_refused
+  StepRefused : (link : LinkId) (answer : Answer) → link_of e ≡ Some link
+      → reading_of (setup_in terms) now e ≡ Whole answer → is_err answer.reply ≡ true
       → IsStepFor terms now m route link answer.question (link_now (setup_in terms) now link).carries
       → Cause terms now later e m route (replay_refused (end_of answer.reply).code)
   TakenOffline : (link : LinkId) → status_in is_off later.servers (wire_now now link).server ≡ true → IsOnLink terms now m route link
       → Cause terms now later e m route server_offline
-  BadBytes : (link : LinkId) (place : ℕ) → link_of e ≡ Some link → reading_of (setup_in terms) now e ≡ Bad place → IsOnLink terms now m route link
+  BadBytes : (link : LinkId) (place : ℕ) → link_of e ≡ Some link
+      → reading_of (setup_in terms) now e ≡ Bad place → IsOnLink terms now m route link
       → Cause terms now later e m route (bad_server_bytes place)
   NoResult : (link : LinkId) (answer : Answer) → link_of e ≡ Some link → reading_of (setup_in terms) now e ≡ Whole answer
       → is_step answer.question ≡ true → is_amiss answer.question answer.reply ≡ true → IsOnLink terms now m route link
@@ -95,7 +102,8 @@ left_waiting terms later now_ms key = filter (has_waited terms later now_ms) (wa
 
 abbrev pub LeavesFew : Terms → Log → (later : Now) → Entry → Type 0
 LeavesFew terms log later (Woke until_ms now_ms) =
-    (key : LinkKey) → length (left_waiting terms later now_ms key) ≤ how_many is_idle terms log later key + how_many is_stepping terms log later key
+    (key : LinkKey) → length (left_waiting terms later now_ms key)
+    ≤ how_many is_idle terms log later key + how_many is_stepping terms log later key
 LeavesFew terms log later _ = Unit {0}
 
 -- Each statement that is given up at an entry has its cause, and a step that was refused gives up one.

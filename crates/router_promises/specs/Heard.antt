@@ -29,7 +29,11 @@ pub data Reading : Type 0 where
 abbrev pub reading_by : Question → Wire → Ending → Reading
 reading_by question wire (Going state) = Part
 reading_by question wire (Ended end rest) =
-    Whole (record { question = question; reply = reply_in wire question (take (length wire.unread - length rest) wire.unread); behind = rest })
+    Whole (record {
+      question = question;
+      reply = reply_in wire question (take (length wire.unread - length rest) wire.unread);
+      behind = rest;
+    })
 reading_by question wire (Failed rest) = Bad (length wire.unread - length rest)
 
 -- bytes that nobody asked for can't be

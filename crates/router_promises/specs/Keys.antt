@@ -50,7 +50,11 @@ is_bare terms now link =
 -- the key of a link: its server's hostgroup, who logs in there, and whether it is bare
 abbrev pub key_of : Terms → Now → LinkId → Option LinkKey
 key_of terms now link =
-    option_map (λ hostgroup. record { hostgroup = hostgroup; account = login_as ((plan_in terms).logins link); bare = is_bare terms now link })
+    option_map (λ hostgroup. record {
+      hostgroup = hostgroup;
+      account = login_as ((plan_in terms).logins link);
+      bare = is_bare terms now link;
+    })
     (hostgroup_of terms.router (wire_now now link).server)
 
 abbrev pub is_of_key : Terms → Now → LinkKey → LinkId → Bool
@@ -68,7 +72,8 @@ is_nobodys carried = not (is_some (session_in carried))
 -- logged in, and it carries nobody; then its reset is answered, if it had one
 abbrev pub is_vacant : Terms → Log → Now → LinkId → Bool
 is_vacant terms log now link =
-    (is_here log link && (wire_now now link).entered) && (not (wire_now now link).quits && is_nobodys (link_now (setup_in terms) now link).carries)
+    (is_here log link && (wire_now now link).entered)
+    && (not (wire_now now link).quits && is_nobodys (link_now (setup_in terms) now link).carries)
 
 -- what stands there is unanswered, or the link takes no more
 abbrev pub is_at_work : Terms → Log → Now → LinkId → Bool
@@ -101,7 +106,8 @@ how_many test terms log now key = count_by (λ link. is_of_key terms now key lin
 abbrev pub is_waiting : Terms → Now → ClientNo → Hostgroup → (ordinal : ℕ) → Bool
 is_waiting terms now client hostgroup ordinal =
     is_unsent terms now.tale (present_now (setup_in terms) now client hostgroup)
-    && option_map_or (λ (d : Due). nat_eq d.ordinal ordinal) ((view_now (setup_in terms) now).dues (present_now (setup_in terms) now client hostgroup)) false
+    && option_map_or (λ (d : Due). nat_eq d.ordinal ordinal)
+    ((view_now (setup_in terms) now).dues (present_now (setup_in terms) now client hostgroup)) false
 
 abbrev pub has_no_schema : Option Due → Bool
 has_no_schema due = option_map_or (λ (d : Due). bytes_eq d.place.schema []) due false
@@ -119,7 +125,9 @@ abbrev pub waiters_in : Terms → Now → LinkKey → Story → List MessageName
 waiters_in terms now key [] = []
 waiters_in terms now key (BecameDue client hostgroup ordinal at command multiplex ∷ past) =
     waiters_in terms now key past
-    ++ (if is_waiting terms now client hostgroup ordinal && is_key (key_for (setup_in terms) now client hostgroup) key then record { client = client; ordinal = ordinal } ∷ [] else [])
+    ++ (if is_waiting terms now client hostgroup ordinal
+    && is_key (key_for (setup_in terms) now client hostgroup) key
+    then record { client = client; ordinal = ordinal } ∷ [] else [])
 waiters_in terms now key (e ∷ past) = waiters_in terms now key past
 
 abbrev pub waiters : Terms → Now → LinkKey → List MessageName
@@ -140,7 +148,9 @@ connections_of log now server = count_by (λ link. is_server (wire_now now link)
 -- it is ONLINE and may have one connection more
 abbrev pub has_room : Log → Now → ServerId → Bool
 has_room log now server =
-    is_online now server && option_map_or (λ (s : Server). nat_lt (connections_of log now server) s.row.max_connections) (server_at now.servers server) false
+    is_online now server
+    && option_map_or (λ (s : Server). nat_lt (connections_of log now server) s.row.max_connections)
+    (server_at now.servers server) false
 
 abbrev pub numbered_from : (n : ℕ) → List ServerRow → List ServerId
 numbered_from n [] = []

@@ -30,7 +30,14 @@ pub record Now : Type 0 where
   pub uses : LinkId → Use
 
 abbrev pub at_first : Terms → Now
-at_first terms = record { clock = 0; tale = first_tale; servers = servers_at_first terms.router; flags = λ c. 0; since = λ m. 0; uses = λ link. unused 0 }
+at_first terms = record {
+  clock = 0;
+  tale = first_tale;
+  servers = servers_at_first terms.router;
+  flags = λ c. 0;
+  since = λ m. 0;
+  uses = λ link. unused 0;
+}
 
 abbrev pub takings_now : Terms → Now → Entry → List Taking
 takings_now terms now e = takings_at (setup_in terms) (plan_in terms) now.tale e
@@ -54,7 +61,8 @@ next terms now e = record {
 -- what is known at an entry behind what is taken up, before clients are ended
 abbrev pub while_ending : Terms → Now → Entry → Now
 while_ending terms now e = record (next terms now e) {
-  tale = clients_go_on (setup_in terms) (plan_in terms) (view_of (setup_in terms) now.tale) e (as_told (setup_in terms) (plan_in terms) now.tale e);
+  tale = clients_go_on (setup_in terms) (plan_in terms) (view_of (setup_in terms) now.tale) e
+      (as_told (setup_in terms) (plan_in terms) now.tale e);
 }
 
 abbrev pub now_at : Terms → Log → Now

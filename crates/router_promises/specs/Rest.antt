@@ -112,8 +112,10 @@ pub record OwesNothing (terms : Terms) (now : Now) (link : LinkId) : Type 0 wher
   pub login : is_entering terms now.tale link ≡ true → (wire_now now link).written ≡ said_of (opening_on terms now.tale link)
   pub begun : IsBegunWhole (setup_in terms) now link (link_now (setup_in terms) now link).stage
   pub closed : IsStep (wire_now now link).step (wire_now now link).written
-  pub reset : is_quiet (link_now (setup_in terms) now link).stage ≡ true → owes_reset (setup_in terms) now (link_now (setup_in terms) now link).carries ≡ false
-  pub capture : is_quiet (link_now (setup_in terms) now link).stage ≡ true → owes_capture (setup_in terms) now (link_now (setup_in terms) now link).carries ≡ false
+  pub reset : is_quiet (link_now (setup_in terms) now link).stage ≡ true
+      → owes_reset (setup_in terms) now (link_now (setup_in terms) now link).carries ≡ false
+  pub capture : is_quiet (link_now (setup_in terms) now link).stage ≡ true
+      → owes_capture (setup_in terms) now (link_now (setup_in terms) now link).carries ≡ false
 
 pub record IsSound (terms : Terms) (log : Log) (now : Now) (link : LinkId) : Type 0 where
   pub sound : is_usable terms log now link ≡ true

@@ -28,12 +28,14 @@ use Rattle.router_promises.specs.Wants.{prepares_first, wants}
 abbrev pub wants_there : Terms → Now → LinkId → SessionName → Command → Bool
 wants_there terms now link n command =
     is_due terms now.tale n
-    && option_map_or (λ (due : Due). wants (setup_in terms) (link_now (setup_in terms) now link) (held_now (setup_in terms) now n) due command) ((view_now (setup_in terms) now).dues n) false
+    && option_map_or (λ (due : Due). wants (setup_in terms) (link_now (setup_in terms) now link)
+    (held_now (setup_in terms) now n) due command) ((view_now (setup_in terms) now).dues n) false
 
 abbrev pub some_wants : Terms → Now → LinkId → Command → Option LinkKey → Bool
 some_wants terms now link command None = false
 some_wants terms now link command (Some key) =
-    list_any (λ (m : MessageName). wants_there terms now link (present_now (setup_in terms) now m.client key.hostgroup) command) (waiters terms now key)
+    list_any (λ (m : MessageName). wants_there terms now link
+    (present_now (setup_in terms) now m.client key.hostgroup) command) (waiters terms now key)
 
 -- a step is wanted by the statement whose link it is, or where it is nobody's by one that waits for a link of this key
 abbrev pub is_wanted : Terms → Now → LinkId → Command → Carried → Bool
@@ -94,7 +96,8 @@ is_prepared_anew terms now text (Some key) =
 pub record IsClose (terms : Terms) (now : Now) (link : LinkId) (number : ℕ) : Type 0 where
   pub key : ℕ
   pub live : (link_now (setup_in terms) now link).live key ≡ Some number
-  pub needed : (nat_le 1000 (length (live_keys (setup_in terms) now link)) || is_prepared_anew terms now (terms.decided.keys key).text (key_of terms now link)) ≡ true
+  pub needed : (nat_le 1000 (length (live_keys (setup_in terms) now link))
+      || is_prepared_anew terms now (terms.decided.keys key).text (key_of terms now link)) ≡ true
 
 -- a STMT_RESET names one with long data
 abbrev pub IsReset : Now → LinkId → (number : ℕ) → Type 0
@@ -122,7 +125,8 @@ is_prep_wanted terms now link m =
 -- a statement is sent while it is due: not once it was given up
 abbrev pub is_for_due : Terms → Now → MessageName → Bool
 is_for_due terms now m =
-    option_map_or (λ (route : Route). is_due terms now.tale (present_now (setup_in terms) now m.client route.hostgroup)) ((plan_in terms).routes m) false
+    option_map_or (λ (route : Route). is_due terms now.tale
+    (present_now (setup_in terms) now m.client route.hostgroup)) ((plan_in terms).routes m) false
 
 -- no reset is written after a statement of which none takes back what it does
 abbrev pub MayStepFor : Terms → Log → Now → LinkId → StepText → Tag → Type 0

@@ -70,7 +70,8 @@ WritesTo terms log now link tag true later =
 WritesTo terms log now link tag false later = tag ≡ tags.Reply
 
 abbrev pub TagsBy : Terms → Log → Now → Entry → Type 0
-TagsBy terms log now (Wrote link tag bytes) = WritesTo terms log now link tag (is_to_server now.tale link) (next terms now (Wrote link tag bytes))
+TagsBy terms log now (Wrote link tag bytes) =
+    WritesTo terms log now link tag (is_to_server now.tale link) (next terms now (Wrote link tag bytes))
 TagsBy terms log now _ = Unit {0}
 
 abbrev pub TagsSo : Terms → Log → Entry → Type 0

@@ -42,7 +42,8 @@ as_told setup plan tale e = links_are_freed setup plan (counted (told setup plan
 
 abbrev pub takings_by : Setup → Plan → View → Entry → Tale → Client → List Taking
 takings_by setup plan view e now client =
-    if (is_event_of view client e || gives_up plan now.moment (name_of client client.taken)) && not (is_before now.moment (plan.ends client.number))
+    if (is_event_of view client e || gives_up plan now.moment (name_of client client.taken))
+    && not (is_before now.moment (plan.ends client.number))
     then takings_of (length (messages plan client)) setup plan client now else []
 
 -- each client's behind those of the clients before it

@@ -74,4 +74,6 @@ pub record IsRouters (terms : Terms) : Type 0 where
   pub room : (plan_in terms).room ≡ 1048576
 
 abbrev pub AreWhoTheySay : Terms → Log → Type 0
-AreWhoTheySay terms log = All (λ (client : Client). IsWhoItSays terms client (opening_of (talk_of (plan_in terms) client))) (tale_at terms log).clients
+AreWhoTheySay terms log =
+    All (λ (client : Client). IsWhoItSays terms client (opening_of (talk_of (plan_in terms) client)))
+    (tale_at terms log).clients

@@ -108,16 +108,21 @@ abbrev pub user_in : Terms → Taking → List ℕ
 user_in terms taking = (terms.decided.accounts taking.client.number).user
 
 abbrev pub held_in : Terms → Taking → Hostgroup → Held
-held_in terms taking hostgroup = (view_of (setup_in terms) taking.tale).held (present (view_of (setup_in terms) taking.tale) taking.client.number hostgroup)
+held_in terms taking hostgroup =
+    (view_of (setup_in terms) taking.tale).held
+    (present (view_of (setup_in terms) taking.tale) taking.client.number hostgroup)
 
 -- the hostgroup of its open transaction
 abbrev pub transaction_in : Terms → Taking → Option Hostgroup
-transaction_in terms taking = find (λ hostgroup. (held_in terms taking hostgroup).pin.tx) (map (λ (row : ServerRow). row.hostgroup) terms.router.servers)
+transaction_in terms taking =
+    find (λ hostgroup. (held_in terms taking hostgroup).pin.tx)
+    (map (λ (row : ServerRow). row.hostgroup) terms.router.servers)
 
 -- the hostgroup of the last statement of it that became due
 abbrev pub last_due : Story → ClientNo → Option Hostgroup
 last_due [] c = None
-last_due (BecameDue client hostgroup ordinal key command multiplex ∷ past) c = if is_client client c then Some hostgroup else last_due past c
+last_due (BecameDue client hostgroup ordinal key command multiplex ∷ past) c =
+    if is_client client c then Some hostgroup else last_due past c
 last_due (e ∷ past) c = last_due past c
 
 -- the status of the router's own OK: AUTOCOMMIT, where the client didn't take it off, and IN_TRANS; to a COM_RESET_CONNECTION it is 2,
@@ -162,7 +167,8 @@ is_restart _ = false
 abbrev pub flag_behind : Terms → (flag : ℕ) → Taking → ℕ
 flag_behind terms flag taking =
     if is_restart (kind_in terms taking) then 0
-    else option_map_or (λ text. unwrap_or (pass_of terms flag taking text).next_flag flag) (text_passed terms taking (kind_in terms taking)) flag
+    else option_map_or (λ text. unwrap_or (pass_of terms flag taking text).next_flag flag)
+    (text_passed terms taking (kind_in terms taking)) flag
 
 -- Where it goes.
 
@@ -170,7 +176,9 @@ flag_behind terms flag taking =
 abbrev pub hostgroup_for : Terms → Taking → Class → (otherwise : Hostgroup) → Hostgroup
 hostgroup_for terms taking class otherwise =
     unwrap_or (transaction_in terms taking) (
-    if class.reads_id || class.reads_diag then unwrap_or (last_due taking.tale.story taking.client.number) (home_of terms.router (user_in terms taking))
+    if class.reads_id || class.reads_diag
+    then unwrap_or (last_due taking.tale.story taking.client.number)
+    (home_of terms.router (user_in terms taking))
     else otherwise)
 
 -- a route, and what is to stand under its key
@@ -224,7 +232,9 @@ abbrev pub passed_on : Terms → List Server → Taking → Routed → (number :
 passed_on terms servers taking routed number key =
     let class = terms.router.reads.class routed.text in
     unless_refused terms servers taking class class.refusal (record {
-      route = record (plain_route (hostgroup_for terms taking class routed.hostgroup)) { text = Some routed.text; number = number; multiplex = routed.multiplex };
+      route = record (plain_route
+          (hostgroup_for terms taking class
+          routed.hostgroup)) { text = Some routed.text; number = number; multiplex = routed.multiplex };
       key = key;
     })
 

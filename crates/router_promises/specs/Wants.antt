@@ -40,7 +40,8 @@ abbrev pub leads_to : Command → Told → Place → Bool
 leads_to (InitDb schema) told place =
     bytes_eq schema place.schema && (not (bytes_eq schema []) && not (is_text schema told.schema))
 leads_to (Query text) told place =
-    is_text text (names_text (difference_of told.settings place.settings)) || is_text text (session_text (difference_of told.settings place.settings))
+    is_text text (names_text (difference_of told.settings place.settings))
+    || is_text text (session_text (difference_of told.settings place.settings))
 leads_to _ told place = false
 
 -- the session's insert id, which the link doesn't have

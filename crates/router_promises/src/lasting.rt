@@ -27,13 +27,16 @@ ghost use Rattle.router_promises.specs.Wrong.{Has, IsWait, Tells};
 
 /// The link closes on which a client's session goes on, though nothing is wrong with it and memory wasn't wanting.
 pub fn drops_a_session()
-    ensures { (terms : Terms) (before : Log) (link : LinkId) (n : SessionName) → Has terms before (Closed link)
+    ensures { (terms : Terms) (before : Log) (link : LinkId) (n : SessionName)
+        → Has terms before (Closed link)
         → is_to_server (now_at terms before).tale link ≡ true
         → (link_now (setup_in terms) (now_at terms before) link).carries ≡ Joined n
-        → is_name n (present (view_now (setup_in terms) (now_at terms before)) n.client n.hostgroup) ≡ true
+        → is_name n (present (view_now (setup_in terms) (now_at terms before)) n.client n.hostgroup)
+        ≡ true
         → is_spoilt terms before (now_at terms before) link ≡ false
         → was_amiss (setup_in terms) link (now_at terms before).tale.story ≡ false
-        → list_any (is_starved_by terms before (now_at terms before) link) (now_at terms before).tale.clients ≡ false → ⊥ }
+        → list_any (is_starved_by terms before (now_at terms before) link)
+        (now_at terms before).tale.clients ≡ false → ⊥ }
 {}
 
 /// A client is ended although it needn't be, all that it asked is answered, and the entry is none of its links.
@@ -42,78 +45,103 @@ pub fn parts_from_a_client()
         → k < length (next terms (now_at terms before) e).tale.clients
         → slice_index_or (next terms (now_at terms before) e).tale.clients k client ≡ client
         → (plan_in terms).ends client.number ≡ Some (entry_now (now_at terms before))
-        → must_end terms (before ++ e ∷ []) (now_at terms before) (while_ending terms (now_at terms before) e) e client ≡ false
-        → is_accepted e client ≡ false → was_starved terms (entry_now (now_at terms before)) client ≡ false
+        → must_end terms (before ++ e ∷ []) (now_at terms before)
+        (while_ending terms (now_at terms before) e) e client ≡ false
+        → is_accepted e client ≡ false
+        → was_starved terms (entry_now (now_at terms before)) client ≡ false
         → is_at (setup_in terms) (now_at terms before) e client ≡ false
         → is_too_much terms (while_ending terms (now_at terms before) e) client ≡ false → ⊥ }
 {}
 
 /// That a link couldn't be had is charged to another than the one that waits longest.
 pub fn charges_another()
-    ensures { (terms : Terms) (before : Log) (e : Entry) (m : MessageName) (key : LinkKey) → Has terms before e
-        → (plan_in terms).own m ≡ Some (record { from = entry_now (now_at terms before); payloads = connection_refused ∷ [] })
-        → key_tried terms (now_at terms before) e ≡ Some key → oldest terms (now_at terms before) key ≢ Some m → ⊥ }
+    ensures { (terms : Terms) (before : Log) (e : Entry) (m : MessageName) (key : LinkKey)
+        → Has terms before e
+        → (plan_in terms).own m ≡ Some
+        (record { from = entry_now (now_at terms before); payloads = connection_refused ∷ [] })
+        → key_tried terms (now_at terms before) e ≡ Some key
+        → oldest terms (now_at terms before) key ≢ Some m → ⊥ }
 {}
 
 /// A message that goes to no server is answered later than at once.
 pub fn answers_late()
-    ensures { (terms : Terms) (before : Log) (e : Entry) (m : MessageName) (answer : OwnAnswer) → Has terms before e
-        → (plan_in terms).own m ≡ Some answer → answer.from ≡ entry_now (now_at terms before) → (plan_in terms).routes m ≡ None → ⊥ }
+    ensures { (terms : Terms) (before : Log) (e : Entry) (m : MessageName) (answer : OwnAnswer)
+        → Has terms before e
+        → (plan_in terms).own m ≡ Some answer → answer.from ≡ entry_now (now_at terms before)
+        → (plan_in terms).routes m ≡ None → ⊥ }
 {}
 
 /// The loop waits while a client's link is open on which a write failed.
 pub fn keeps_a_broken_link()
-    ensures { (terms : Terms) (before : Log) (e : Entry) (k : ℕ) (client : Client) → Has terms before e → IsWait e
-        → k < length (now_at terms before).tale.clients → slice_index_or (now_at terms before).tale.clients k client ≡ client
-        → is_open client.link before ≡ true → list_any is_failed_write (of_link client.link before) ≡ true → ⊥ }
+    ensures { (terms : Terms) (before : Log) (e : Entry) (k : ℕ) (client : Client) → Has terms before e
+        → IsWait e
+        → k < length (now_at terms before).tale.clients
+        → slice_index_or (now_at terms before).tale.clients k client ≡ client
+        → is_open client.link before ≡ true
+        → list_any is_failed_write (of_link client.link before) ≡ true → ⊥ }
 {}
 
 /// It waits while the link of a client that ended is open, although its time is over.
 pub fn keeps_a_full_link()
-    ensures { (terms : Terms) (before : Log) (e : Entry) (k : ℕ) (client : Client) → Has terms before e → IsWait e
-        → k < length (now_at terms before).tale.clients → slice_index_or (now_at terms before).tale.clients k client ≡ client
+    ensures { (terms : Terms) (before : Log) (e : Entry) (k : ℕ) (client : Client) → Has terms before e
+        → IsWait e
+        → k < length (now_at terms before).tale.clients
+        → slice_index_or (now_at terms before).tale.clients k client ≡ client
         → is_open client.link before ≡ true → has_ended terms (now_at terms before) client ≡ true
-        → moment_in before ((plan_in terms).ends client.number) + terms.router.proxy.wait_ms ≤ (now_at terms before).clock → ⊥ }
+        → moment_in before ((plan_in terms).ends client.number) + terms.router.proxy.wait_ms
+        ≤ (now_at terms before).clock → ⊥ }
 {}
 
 /// It waits while a link to a server is open that nobody used for too long.
 pub fn keeps_an_idle_link()
-    ensures { (terms : Terms) (before : Log) (e : Entry) (k : ℕ) (link : LinkId) → Has terms before e → IsWait e
-        → k < length (now_at terms before).tale.links → slice_index_or (now_at terms before).tale.links k link ≡ link
+    ensures { (terms : Terms) (before : Log) (e : Entry) (k : ℕ) (link : LinkId) → Has terms before e
+        → IsWait e
+        → k < length (now_at terms before).tale.links
+        → slice_index_or (now_at terms before).tale.links k link ≡ link
         → is_open link before ≡ true → is_resting terms before (now_at terms before) link ≡ true
-        → ((now_at terms before).uses link).used + terms.router.proxy.idle_ms ≤ (now_at terms before).clock → ⊥ }
+        → ((now_at terms before).uses link).used + terms.router.proxy.idle_ms
+        ≤ (now_at terms before).clock → ⊥ }
 {}
 
 /// It asks to be woken later than at a moment at which there is something to do.
 pub fn sleeps_too_long()
-    ensures { (terms : Terms) (before : Log) (until_ms now_ms k : ℕ) → Has terms before (Woke until_ms now_ms)
+    ensures { (terms : Terms) (before : Log) (until_ms now_ms k : ℕ)
+        → Has terms before (Woke until_ms now_ms)
         → k < length (moments terms before (now_at terms before))
         → slice_index_or (moments terms before (now_at terms before)) k 0 < until_ms → ⊥ }
 {}
 
 /// It asks to be woken at once, although no message lacks an event.
 pub fn wakes_for_nothing()
-    ensures { (terms : Terms) (before : Log) (until_ms now_ms : ℕ) → Has terms before (Woke until_ms now_ms)
-        → list_any (lacks_an_event terms (now_at terms before)) (now_at terms before).tale.clients ≡ false
-        → (now_at terms before).clock < 18446744073709551615 → until_ms ≤ (now_at terms before).clock → ⊥ }
+    ensures { (terms : Terms) (before : Log) (until_ms now_ms : ℕ)
+        → Has terms before (Woke until_ms now_ms)
+        → list_any (lacks_an_event terms (now_at terms before)) (now_at terms before).tale.clients
+        ≡ false
+        → (now_at terms before).clock < 18446744073709551615 → until_ms ≤ (now_at terms before).clock
+        → ⊥ }
 {}
 
 /// A client comes on a link whose number was another's.
 pub fn gives_a_place_away()
-    ensures { (terms : Terms) (before : Log) (port : Port) (link : LinkId) (salt : List ℕ) → Has terms before (Accepted port link salt)
+    ensures { (terms : Terms) (before : Log) (port : Port) (link : LinkId) (salt : List ℕ)
+        → Has terms before (Accepted port link salt)
         → of_link link before ≢ [] → ⊥ }
 {}
 
 /// A link is led to no schema, which no server does.
 pub fn chooses_no_schema()
-    ensures { (terms : Terms) (before : Log) (link : LinkId) (bytes : List ℕ) → Has terms before (Wrote link OwnTag bytes)
+    ensures { (terms : Terms) (before : Log) (link : LinkId) (bytes : List ℕ)
+        → Has terms before (Wrote link OwnTag bytes)
         → is_to_server (now_at terms before).tale link ≡ true
-        → may_begin (setup_in terms) link (wire_now (now_at terms before) link) (now_at terms before).tale ≡ true
-        → (plan_in terms).steps link (wire_now (now_at terms before) link).begun ≡ Asks (InitDb []) → ⊥ }
+        → may_begin (setup_in terms) link (wire_now (now_at terms before) link)
+        (now_at terms before).tale ≡ true
+        → (plan_in terms).steps link (wire_now (now_at terms before) link).begun ≡ Asks (InitDb [])
+        → ⊥ }
 {}
 
 /// A statement is sent on a link that was told another schema, or one while its client stands in none.
 pub fn lends_in_another_schema()
-    ensures { (terms : Terms) (past : Story) (link : LinkId) (n : SessionName) (due : Due) → Tells terms past (Sent link (Statement n due))
+    ensures { (terms : Terms) (past : Story) (link : LinkId) (n : SessionName) (due : Due)
+        → Tells terms past (Sent link (Statement n due))
         → ((view_after (setup_in terms) past).links link).told.schema ≢ Some due.place.schema → ⊥ }
 {}

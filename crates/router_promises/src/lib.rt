@@ -1,6 +1,7 @@
 //! What the router with shared links promises of the log of its wire, and what follows from it.
 #![tactic(auto)]
 
+mod careless;
 mod lasting;
 mod misled;
 mod refused;
@@ -16,6 +17,12 @@ ghost use Rattle.log_story.specs.Said.{IsSaidLog};
 ghost use Rattle.router_promises.specs.Headline.{Keeps};
 ghost use Rattle.router_promises.specs.Terms.{Terms, plan_in, setup_in};
 
+pub use careless::{
+    asks_in_another_hostgroup, captures_nothing, closes_a_statement_in_vain, cuts_a_client_off,
+    goes_on_without_its_session, invents_a_loss, invents_a_refusal, invents_bad_bytes,
+    keeps_too_many_bytes, lets_them_wait, opens_nothing, prepares_in_vain, refuses_two_for_a_step,
+    resets_a_statement_in_vain, resets_what_lasts,
+};
 pub use lasting::{
     answers_late, charges_another, chooses_no_schema, drops_a_session, gives_a_place_away,
     keeps_a_broken_link, keeps_a_full_link, keeps_an_idle_link, lends_in_another_schema,
@@ -35,13 +42,16 @@ pub use refused::{
 
 /// What the router writes on links to servers is what log_story asks for.
 pub fn said_log()
-    ensures { (terms : Terms) (log : Log) → Keeps terms log → IsSaidLog (setup_in terms) (plan_in terms) log }
+    ensures { (terms : Terms) (log : Log) → Keeps terms log
+        → IsSaidLog (setup_in terms) (plan_in terms) log }
 {}
 
 /// Where servers are tame and answer honestly, a log that keeps the promises has private bytes.
 pub fn kept_is_private()
-    ensures { (terms : Terms) (tests : Tests) (server : Step) (log : Log) → IsTame terms.router.reads tests server
-        → IsAccepted (setup_in terms) tests → Keeps terms log → AreHonest (setup_in terms) (plan_in terms) server log
+    ensures { (terms : Terms) (tests : Tests) (server : Step) (log : Log)
+        → IsTame terms.router.reads tests server
+        → IsAccepted (setup_in terms) tests → Keeps terms log
+        → AreHonest (setup_in terms) (plan_in terms) server log
         → HasPrivateBytes (setup_in terms) (plan_in terms) server log }
 {
     private_bytes();
@@ -50,8 +60,10 @@ pub fn kept_is_private()
 
 /// So at each moment what was written to each client, but for a last word to it, is a front of what its private world owes it.
 pub fn kept_is_written_privately()
-    ensures { (terms : Terms) (tests : Tests) (server : Step) (log : Log) → IsTame terms.router.reads tests server
-        → IsAccepted (setup_in terms) tests → Keeps terms log → AreHonest (setup_in terms) (plan_in terms) server log
+    ensures { (terms : Terms) (tests : Tests) (server : Step) (log : Log)
+        → IsTame terms.router.reads tests server
+        → IsAccepted (setup_in terms) tests → Keeps terms log
+        → AreHonest (setup_in terms) (plan_in terms) server log
         → AtEachMoment (WritesPrivate (setup_in terms) (plan_in terms) server) log }
 {
     written_is_private();

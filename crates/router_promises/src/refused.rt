@@ -18,35 +18,44 @@ ghost use Rattle.router_promises.specs.Wrong.{Has, HasNoCause, IsWait};
 
 /// A link is opened although no more statements of its key wait than links are free or opening.
 pub fn opens_one_too_many()
-    ensures { (terms : Terms) (before : Log) (server : ServerId) (address : Address) (link : LinkId) → Has terms before (Opened server address link)
-        → ((key : LinkKey) → hostgroup_of terms.router server ≡ Some key.hostgroup → key.account ≡ login_as ((plan_in terms).logins link)
+    ensures { (terms : Terms) (before : Log) (server : ServerId) (address : Address) (link : LinkId)
+        → Has terms before (Opened server address link)
+        → ((key : LinkKey) → hostgroup_of terms.router server ≡ Some key.hostgroup
+        → key.account ≡ login_as ((plan_in terms).logins link)
         → waiting terms (now_at terms before) key
-        ≤ how_many is_free terms before (now_at terms before) key + how_many is_opening terms before (now_at terms before) key) → ⊥ }
+        ≤ how_many is_free terms before (now_at terms before) key + how_many is_opening terms before
+        (now_at terms before) key) → ⊥ }
 {}
 
 /// A link is opened to a server that has no room.
 pub fn opens_without_room()
-    ensures { (terms : Terms) (before : Log) (server : ServerId) (address : Address) (link : LinkId) → Has terms before (Opened server address link)
+    ensures { (terms : Terms) (before : Log) (server : ServerId) (address : Address) (link : LinkId)
+        → Has terms before (Opened server address link)
         → has_room before (now_at terms before) server ≡ false → ⊥ }
 {}
 
 /// The router logs in as somebody who may not.
 pub fn logs_in_as_another()
-    ensures { (terms : Terms) (before : Log) (server : ServerId) (address : Address) (link : LinkId) → Has terms before (Opened server address link)
+    ensures { (terms : Terms) (before : Log) (server : ServerId) (address : Address) (link : LinkId)
+        → Has terms before (Opened server address link)
         → may_log_in terms.router ((plan_in terms).logins link) ≡ false → ⊥ }
 {}
 
 /// A link to a server is closed for no cause.
 pub fn closes_for_nothing()
-    ensures { (terms : Terms) (before : Log) (link : LinkId) → Has terms before (Closed link) → is_to_server (now_at terms before).tale link ≡ true
+    ensures { (terms : Terms) (before : Log) (link : LinkId) → Has terms before (Closed link)
+        → is_to_server (now_at terms before).tale link ≡ true
         → HasNoCause terms before (now_at terms before) link → ⊥ }
 {}
 
 /// The loop waits while a client isn't told what it is due, although its link takes it.
 pub fn answers_nobody()
-    ensures { (terms : Terms) (before : Log) (e : Entry) (k : ℕ) (client : Client) → Has terms before e → IsWait e
-        → k < length (now_at terms before).tale.clients → slice_index_or (now_at terms before).tale.clients k client ≡ client
-        → is_open client.link before ≡ true → written_of client.link before ≢ due_to terms (now_at terms before) client
+    ensures { (terms : Terms) (before : Log) (e : Entry) (k : ℕ) (client : Client) → Has terms before e
+        → IsWait e
+        → k < length (now_at terms before).tale.clients
+        → slice_index_or (now_at terms before).tale.clients k client ≡ client
+        → is_open client.link before ≡ true
+        → written_of client.link before ≢ due_to terms (now_at terms before) client
         → write_dry client.link before ≡ false → ⊥ }
 {}
 
@@ -54,5 +63,6 @@ pub fn answers_nobody()
 pub fn waits_with_an_idle_link()
     ensures { (terms : Terms) (before : Log) (e : Entry) (key : LinkKey) → Has terms before e → IsWait e
         → 0 < how_many is_idle terms before (now_at terms before) key
-        → how_many is_stepping terms before (now_at terms before) key < waiting terms (now_at terms before) key → ⊥ }
+        → how_many is_stepping terms before (now_at terms before) key
+        < waiting terms (now_at terms before) key → ⊥ }
 {}

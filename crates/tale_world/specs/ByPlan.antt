@@ -10,10 +10,12 @@ use Rattle.tale_world.specs.Deciding.{Deciding, World}
 use Rattle.tale_world.specs.World.{world_after}
 
 abbrev pub by_now : (moment : ℕ) → Option OwnAnswer → Option OwnAnswer
-by_now moment own = option_and_then (λ answer. if nat_le answer.from moment then Some answer else None) own
+by_now moment own =
+    option_and_then (λ answer. if nat_le answer.from moment then Some answer else None) own
 
 abbrev pub just_now : (moment : ℕ) → Option OwnAnswer → Option (List (List ℕ))
-just_now moment own = option_and_then (λ answer. if nat_eq answer.from moment then Some answer.payloads else None) own
+just_now moment own =
+    option_and_then (λ answer. if nat_eq answer.from moment then Some answer.payloads else None) own
 
 abbrev pub by_plan : Plan → Deciding (Unit {0})
 by_plan plan = record {
@@ -38,4 +40,5 @@ looked_up setup plan log = world_after setup (by_plan plan) plan.service plan.ro
 -- another plan has the same there: the routes of messages that came up, the router's answers and the ends by now, who logged in on
 -- links, and the steps that were begun
 abbrev pub AgreesUntil : Setup → Plan → Log → Plan → Type 0
-AgreesUntil setup plan log other = Agrees (looked_up setup plan log).decided (looked_up setup plan log).tale.moment other
+AgreesUntil setup plan log other =
+    Agrees (looked_up setup plan log).decided (looked_up setup plan log).tale.moment other

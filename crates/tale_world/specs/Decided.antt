@@ -46,7 +46,8 @@ plan_of d = record {
 }
 
 -- what wasn't decided where this test holds is decided so
-abbrev pub filled : {K A : Type 0} → (which : K → Bool) → (value : K → A) → (K → Option A) → K → Option A
+abbrev pub filled : {K A : Type 0} → (which : K → Bool) → (value : K → A) → (K → Option A) → K
+    → Option A
 filled which value f k = if which k then Some (unwrap_or (f k) (value k)) else f k
 
 -- A plan has what was decided until a moment; and what wasn't decided by then comes later.
@@ -54,9 +55,12 @@ pub record Agrees (d : Decided) (moment : ℕ) (plan : Plan) : Type 0 where
   pub service : plan.service ≡ d.service
   pub room : plan.room ≡ d.room
   pub logins : (l : LinkId) (login : Account) → d.logins l ≡ Some login → plan.logins l ≡ login
-  pub routes : (m : MessageName) (route : Option Route) → d.routes m ≡ Some route → plan.routes m ≡ route
-  pub answered : (m : MessageName) (answer : OwnAnswer) → d.own m ≡ Some (Some answer) → plan.own m ≡ Some answer
-  pub unanswered : (m : MessageName) (answer : OwnAnswer) → d.own m ≡ Some None → plan.own m ≡ Some answer → moment < answer.from
+  pub routes : (m : MessageName) (route : Option Route) → d.routes m ≡ Some route
+      → plan.routes m ≡ route
+  pub answered : (m : MessageName) (answer : OwnAnswer) → d.own m ≡ Some (Some answer)
+      → plan.own m ≡ Some answer
+  pub unanswered : (m : MessageName) (answer : OwnAnswer) → d.own m ≡ Some None
+      → plan.own m ≡ Some answer → moment < answer.from
   pub ended : (c : ClientNo) (at : ℕ) → d.ends c ≡ Some at → plan.ends c ≡ Some at
   pub going : (c : ClientNo) (at : ℕ) → d.ends c ≡ None → plan.ends c ≡ Some at → d.until < at
   pub steps : (l : LinkId) (n : ℕ) (step : StepText) → d.steps l n ≡ Some step → plan.steps l n ≡ step
@@ -66,8 +70,11 @@ pub record IsMore (old new : Decided) : Type 0 where
   pub service : new.service ≡ old.service
   pub room : new.room ≡ old.room
   pub logins : (l : LinkId) (login : Account) → old.logins l ≡ Some login → new.logins l ≡ Some login
-  pub routes : (m : MessageName) (route : Option Route) → old.routes m ≡ Some route → new.routes m ≡ Some route
-  pub own : (m : MessageName) (answer : Option OwnAnswer) → old.own m ≡ Some answer → new.own m ≡ Some answer
+  pub routes : (m : MessageName) (route : Option Route) → old.routes m ≡ Some route
+      → new.routes m ≡ Some route
+  pub own : (m : MessageName) (answer : Option OwnAnswer) → old.own m ≡ Some answer
+      → new.own m ≡ Some answer
   pub ends : new.ends ≡ old.ends
   pub until : new.until ≡ old.until
-  pub steps : (l : LinkId) (n : ℕ) (step : StepText) → old.steps l n ≡ Some step → new.steps l n ≡ Some step
+  pub steps : (l : LinkId) (n : ℕ) (step : StepText) → old.steps l n ≡ Some step
+      → new.steps l n ≡ Some step

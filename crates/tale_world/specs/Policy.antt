@@ -26,7 +26,8 @@ pub record Texts : Type 0 where
 abbrev pub place_step : Texts → Told → Place → Option Command
 place_step texts told place =
     if not (is_schema told.schema place.schema) then Some (InitDb place.schema)
-    else if not (are_settings told.settings place.settings) then Some (Query (texts.leads told.settings place.settings))
+    else if not (are_settings told.settings place.settings)
+    then Some (Query (texts.leads told.settings place.settings))
     else None
 
 abbrev pub numbered : (id : Option ℕ) → (ℕ → Option Number) → Option Number
@@ -34,9 +35,12 @@ numbered None of = None
 numbered (Some n) of = of n
 
 -- the step to the session's insert id, where the text is marked
-abbrev pub id_step : Setup → (fits : ℕ → Option Number) → Due → (marked : Bool) → (link_id id : Option ℕ) → Option Command
+abbrev pub id_step : Setup → (fits : ℕ → Option Number) → Due → (marked : Bool)
+    → (link_id id : Option ℕ) → Option Command
 id_step setup fits due marked link_id id =
-    if is_marked setup.reads due.command && not (marked || is_id link_id id) then option_map_or (λ n. Some (SetId n)) (numbered id fits) None else None
+    if is_marked setup.reads due.command
+    && not (marked || is_id link_id id) then option_map_or (λ n. Some (SetId n)) (numbered id fits) None
+    else None
 
 -- its text isn't prepared on the link
 abbrev pub is_unprepared : (live : ℕ → Option ℕ) → Due → Command → Bool
@@ -45,16 +49,22 @@ is_unprepared live due _ = false
 
 abbrev pub key_place : Texts → Setup → Due → Told → Place
 key_place texts setup due told =
-    record { schema = (setup.keys due.key).place.schema; settings = texts.calm (setup.keys due.key).place.settings told.settings }
+    record {
+      schema = (setup.keys due.key).place.schema;
+      settings = texts.calm
+          (setup.keys due.key).place.settings told.settings;
+    }
 
 abbrev pub or_else : Option Command → (Command → Question) → Question → Question
 or_else (Some command) step other = step command
 or_else None step other = other
 
-abbrev pub question_for : Texts → (fits : ℕ → Option Number) → Setup → SessionName → Due → (step : Command → Question) → Link → Held → Question
+abbrev pub question_for : Texts → (fits : ℕ → Option Number) → Setup → SessionName → Due
+    → (step : Command → Question) → Link → Held → Question
 question_for texts fits setup n due step link held =
     if is_unprepared link.live due due.command
-    then or_else (place_step texts link.told (key_place texts setup due link.told)) step (Prep n due.key (setup.keys due.key).text)
+    then or_else (place_step texts link.told (key_place texts setup due link.told)) step
+    (Prep n due.key (setup.keys due.key).text)
     else or_else (place_step texts link.told due.place) step
     (or_else (id_step setup fits due link.marked link.id held.id) step (Statement n due))
 
@@ -64,21 +74,29 @@ pub record Readied : Type 0 where
   pub name : SessionName
   pub due : Due
 
-abbrev pub for_session : Texts → (fits : ℕ → Option Number) → Setup → View → Link → SessionName → Option Question
+abbrev pub for_session : Texts → (fits : ℕ → Option Number) → Setup → View → Link → SessionName
+    → Option Question
 for_session texts fits setup view link n =
     if is_name n (present view n.client n.hostgroup)
     then if is_pinned (view.held n).pin
-    then option_map_or (λ due. Some (question_for texts fits setup n due (Sync n) link (view.held n))) (view.dues n) None
+    then option_map_or (λ due. Some (question_for texts fits setup n due (Sync n) link (view.held n)))
+    (view.dues n) None
     else if is_some (view.held n).id then None else Some (Capture n)
     else if needs_reset (view.held n).pin && not (view.lasting n) then Some (End n) else None
 
-abbrev pub next_question : Texts → (fits : ℕ → Option Number) → Setup → View → Link → Option Readied → Option Question
-next_question texts fits setup view link readied = if not (is_quiet link.stage && link.usable) then None else by_carried link.carries where
-  by_carried : Carried → Option Question
-  by_carried (Joined n) = for_session texts fits setup view link n
-  -- behind a preparation for it
-  by_carried (Lent n) = option_map_or (λ due. Some (question_for texts fits setup n due Own link (view.held n))) (view.dues n) None
-  by_carried Nobody = option_map_or (λ r. Some (question_for texts fits setup r.name r.due Own link (view.held r.name))) readied None
+abbrev pub next_question : Texts → (fits : ℕ → Option Number) → Setup → View → Link → Option Readied
+    → Option Question
+next_question texts fits setup view link readied =
+    if not (is_quiet link.stage && link.usable) then None else by_carried link.carries where
+      by_carried : Carried → Option Question
+      by_carried (Joined n) = for_session texts fits setup view link n
+      -- behind a preparation for it
+      by_carried (Lent n) =
+          option_map_or (λ due. Some (question_for texts fits setup n due Own link (view.held n)))
+          (view.dues n) None
+      by_carried Nobody =
+          option_map_or (λ r. Some (question_for texts fits setup r.name r.due Own link (view.held r.name)))
+          readied None
 
 -- Who waits, and what is opened.
 
@@ -89,7 +107,8 @@ pub record Key : Type 0 where
   pub bare : Bool
 
 abbrev pub is_key : Key → Key → Bool
-is_key a b = is_hostgroup a.hostgroup b.hostgroup && (is_account a.account b.account && is_flag a.bare b.bare)
+is_key a b =
+    is_hostgroup a.hostgroup b.hostgroup && (is_account a.account b.account && is_flag a.bare b.bare)
 
 -- a statement that is due and unsent, of a session that no link carries: its key, and the moment of the wake at which it became due
 pub record Waiter : Type 0 where
@@ -137,7 +156,8 @@ pub record Wanted : Type 0 where
 
 abbrev pub opens_for : Rest → (pick : Hostgroup → Option ServerId) → Key → Option Wanted → Option Wanted
 opens_for rest pick key later =
-    if wants_link rest key then option_map_or (λ server. Some (record { key = key; server = server })) (pick key.hostgroup) later else later
+    if wants_link rest key then option_map_or (λ server. Some (record { key = key; server = server }))
+    (pick key.hostgroup) later else later
 
 -- the link that is opened next, for the oldest whose key wants one and whose hostgroup has room
 abbrev pub next_open : Rest → (pick : Hostgroup → Option ServerId) → List Waiter → Option Wanted
@@ -152,18 +172,23 @@ one_if true = 1
 one_if false = 0
 
 abbrev pub steps_left : Told → Place → ℕ
-steps_left told place = one_if (not (is_schema told.schema place.schema)) + one_if (not (are_settings told.settings place.settings))
+steps_left told place =
+    one_if (not (is_schema told.schema place.schema)) + one_if (not
+    (are_settings told.settings place.settings))
 
 abbrev pub better : Place → Idle → Option Idle → Option Idle
 better place one None = Some one
-better place one (Some other) = if nat_le (steps_left one.told place) (steps_left other.told place) then Some one else Some other
+better place one (Some other) =
+    if nat_le (steps_left one.told place) (steps_left other.told place) then Some one else Some other
 
 abbrev pub is_open_to : Rest → Key → Idle → Bool
 is_open_to rest key one = is_key one.key key && not (is_some (rest.readied one.link))
 
 abbrev pub best : Rest → Key → Place → List Idle → Option Idle
 best rest key place [] = None
-best rest key place (one ∷ others) = if is_open_to rest key one then better place one (best rest key place others) else best rest key place others
+best rest key place (one ∷ others) =
+    if is_open_to rest key one then better place one (best rest key place others)
+    else best rest key place others
 
 pub record Lends : Type 0 where
   pub link : LinkId
@@ -172,7 +197,9 @@ pub record Lends : Type 0 where
 abbrev pub lends_to : Rest → (is_served : SessionName → Bool) → Waiter → Option Lends → Option Lends
 lends_to rest is_served w later =
     if is_served w.name then later
-    else option_map_or (λ (one : Idle). Some (record { link = one.link; to = record { name = w.name; due = w.due } })) (best rest w.key w.due.place rest.idle) later
+    else option_map_or (λ (one : Idle). Some
+    (record { link = one.link; to = record { name = w.name; due = w.due } }))
+    (best rest w.key w.due.place rest.idle) later
 
 abbrev pub next_lend : Rest → (is_served : SessionName → Bool) → List Waiter → Option Lends
 next_lend rest is_served [] = None

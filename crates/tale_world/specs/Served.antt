@@ -15,7 +15,8 @@ use Rattle.tale_world.specs.Tests.{is_id, is_placed}
 pub record SameFor (client : Client) (view : View) (moment : ℕ) (p q : Plan) : Type 0 where
   pub service : p.service ≡ q.service
   pub room : p.room ≡ q.room
-  pub own : (i : ℕ) → i ≤ client.taken → own_at p moment (name_of client i) ≡ own_at q moment (name_of client i)
+  pub own : (i : ℕ) → i ≤ client.taken
+      → own_at p moment (name_of client i) ≡ own_at q moment (name_of client i)
   pub routes : (m : MessageName) → is_some (view.replies m) ≡ true → p.routes m ≡ q.routes m
   pub taken : (i : ℕ) → i ≤ client.taken → p.routes (name_of client i) ≡ q.routes (name_of client i)
 
@@ -41,7 +42,8 @@ AreServed rest pick (w ∷ later) = IsServed rest pick w × AreServed rest pick 
 -- none that waits without a link finds a free one of its key
 
 abbrev pub IsLent : Rest → (is_served : SessionName → Bool) → Waiter → Type 0
-IsLent rest is_served w = (is_served w.name ≡ true) ⊎ (list_any (is_open_to rest w.key) rest.idle ≡ false)
+IsLent rest is_served w =
+    (is_served w.name ≡ true) ⊎ (list_any (is_open_to rest w.key) rest.idle ≡ false)
 
 abbrev pub AreLent : Rest → (is_served : SessionName → Bool) → List Waiter → Type 0
 AreLent rest is_served [] = Unit {0}

@@ -19,12 +19,14 @@ abbrev pub Passes : Setup → Plan → Tale → Entry → Type 0
 Passes setup plan tale (Opened server address link) = is_to_server tale link ≡ false
 Passes setup plan tale (Wrote link for bytes) =
     is_to_server tale link ≡ true → may_begin setup link (tale.wires link) tale ≡ true
-    → may_tell setup (begun_on setup plan tale.moment (view_of setup tale) link (tale.wires link) for) tale.story ≡ true
+    → may_tell setup (begun_on setup plan tale.moment (view_of setup tale) link
+    (tale.wires link) for) tale.story ≡ true
 Passes setup plan tale _ = Unit {0}
 
 abbrev pub IsTestedFrom : Setup → Plan → Tale → Log → Type 0
 IsTestedFrom setup plan tale [] = Unit {0}
-IsTestedFrom setup plan tale (e ∷ log) = Passes setup plan tale e × IsTestedFrom setup plan (tale_step setup plan tale e) log
+IsTestedFrom setup plan tale (e ∷ log) =
+    Passes setup plan tale e × IsTestedFrom setup plan (tale_step setup plan tale e) log
 
 -- the same of a world, whose plan is what was decided
 
@@ -33,7 +35,8 @@ PassesBy setup by w e = Passes setup (plan_of (decided_told setup by w e)) w.tal
 
 abbrev pub IsTestedBy : {X : Type 0} → Setup → Deciding X → World X → Log → Type 0
 IsTestedBy setup by w [] = Unit {0}
-IsTestedBy setup by w (e ∷ log) = PassesBy setup by w e × IsTestedBy setup by (world_step setup by w e) log
+IsTestedBy setup by w (e ∷ log) =
+    PassesBy setup by w e × IsTestedBy setup by (world_step setup by w e) log
 
 -- each message that goes to a server asks it for something, so that no rule of sending is broken
 

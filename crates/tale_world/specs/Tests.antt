@@ -39,7 +39,9 @@ is_flag true b = b
 is_flag false b = not b
 
 abbrev pub are_flags : Capabilities → Capabilities → Bool
-are_flags a b = is_flag a.found_rows b.found_rows && (is_flag a.multi_results b.multi_results && is_flag a.ignore_space b.ignore_space)
+are_flags a b =
+    is_flag a.found_rows b.found_rows
+    && (is_flag a.multi_results b.multi_results && is_flag a.ignore_space b.ignore_space)
 
 abbrev pub is_account : Account → Account → Bool
 is_account a b = bytes_eq a.user b.user && are_flags a.capabilities b.capabilities
@@ -73,12 +75,15 @@ is_placed told place = is_schema told.schema place.schema && are_settings told.s
 abbrev pub is_told_key : Setup → (key : ℕ) → (text : List ℕ) → Told → Bool
 is_told_key setup key text told =
     bytes_eq text (setup.keys key).text
-    && (is_schema told.schema (setup.keys key).place.schema && are_settings (core told.settings) (core (setup.keys key).place.settings))
+    && (is_schema told.schema (setup.keys key).place.schema
+    && are_settings (core told.settings) (core (setup.keys key).place.settings))
 
 abbrev pub is_keyed : Setup → Command → (key : ℕ) → Told → (live : ℕ → Option ℕ) → Bool
 is_keyed setup (Run text schema settings args) key told live =
     is_some (live key)
-    && (bytes_eq text (setup.keys key).text && (bytes_eq schema (setup.keys key).place.schema && are_settings (core settings) (core (setup.keys key).place.settings)))
+    && (bytes_eq text (setup.keys key).text
+    && (bytes_eq schema (setup.keys key).place.schema
+    && are_settings (core settings) (core (setup.keys key).place.settings)))
 is_keyed setup (Prepare text) key told live = is_told_key setup key text told
 is_keyed setup _ key told live = true
 
@@ -97,16 +102,17 @@ begins_there setup n due link held =
     && (due.anew
     && (is_placed link.told due.place
     && (is_account link.account (setup.accounts n.client)
-    && (is_blind (class_of setup.reads due.command) && (is_some held.id && (not (is_marked setup.reads due.command) || is_id link.id held.id)))))))
+    && (is_blind (class_of setup.reads due.command)
+    && (is_some held.id && (not (is_marked setup.reads due.command) || is_id link.id held.id)))))))
 
 -- in one with a Pin, on its own link
 abbrev pub goes_on_there : Setup → SessionName → Due → Link → Held → Bool
 goes_on_there setup n due link held =
     is_joined n link.carries
     && (is_pinned held.pin
-    && (not due.anew
-    && (is_placed link.told due.place
-    && (reads_own (class_of setup.reads due.command) held.pin && (not (is_marked setup.reads due.command) || (link.marked || is_id link.id held.id))))))
+    && (not due.anew && (is_placed link.told due.place
+    && (reads_own (class_of setup.reads due.command) held.pin
+    && (not (is_marked setup.reads due.command) || (link.marked || is_id link.id held.id))))))
 
 abbrev pub has_due : View → SessionName → Due → Bool
 has_due view n due = option_map_or (λ other. nat_eq other.ordinal due.ordinal) (view.dues n) false
@@ -124,7 +130,9 @@ may_state setup view n due link =
 
 abbrev pub may_prepare : Setup → SessionName → (key : ℕ) → (text : List ℕ) → Link → Held → Bool
 may_prepare setup n key text link held =
-    is_told_key setup key text link.told && ((may_lend n link held && not (is_pinned held.pin)) || (is_joined n link.carries && is_pinned held.pin))
+    is_told_key setup key text link.told
+    && ((may_lend n link held && not (is_pinned held.pin))
+    || (is_joined n link.carries && is_pinned held.pin))
 
 -- a tracked SET and nothing else
 abbrev pub is_set_by : Class → (tx : Bool) → Effect → Bool
@@ -132,7 +140,9 @@ is_set_by class tx (Tracked changes) =
     not class.marks_id
     && (is_blind class
     && (not class.deep
-    && (not (takes class) && (not class.next_tx && (not class.savepoint && (not class.outlasts_reset && (not (sets_autocommit changes) || not tx)))))))
+    && (not (takes class) && (not class.next_tx
+    && (not class.savepoint
+    && (not class.outlasts_reset && (not (sets_autocommit changes) || not tx)))))))
 is_set_by class tx _ = false
 
 abbrev pub is_set : Class → (tx : Bool) → Bool
@@ -155,15 +165,21 @@ abbrev pub fits : Setup → View → Link → Question → Bool
 fits setup view link (Statement n due) = may_state setup view n due link
 fits setup view link (Prep n key text) = may_prepare setup n key text link (view.held n)
 fits setup view link (Sync n command) =
-    is_joined n link.carries && (is_pinned (view.held n).pin && is_step_of setup.reads command (view.held n).pin (view.held n).id)
-fits setup view link (Own command) = (is_nobody link.carries || is_lent link.carries) && is_own_step setup.reads command
+    is_joined n link.carries
+    && (is_pinned (view.held n).pin
+    && is_step_of setup.reads command (view.held n).pin (view.held n).id)
+fits setup view link (Own command) =
+    (is_nobody link.carries || is_lent link.carries) && is_own_step setup.reads command
 fits setup view link (End n) =
     is_joined n link.carries
-    && (not (is_name n (present view n.client n.hostgroup)) && (needs_reset (view.held n).pin && not (view.lasting n)))
-fits setup view link (Capture n) = is_joined n link.carries && (not (is_pinned (view.held n).pin) && not (is_some (view.held n).id))
+    && (not (is_name n (present view n.client n.hostgroup))
+    && (needs_reset (view.held n).pin && not (view.lasting n)))
+fits setup view link (Capture n) =
+    is_joined n link.carries && (not (is_pinned (view.held n).pin) && not (is_some (view.held n).id))
 
 abbrev pub may_begin_question : Setup → View → Link → Question → Bool
-may_begin_question setup view link question = link.usable && (is_quiet link.stage && fits setup view link question)
+may_begin_question setup view link question =
+    link.usable && (is_quiet link.stage && fits setup view link question)
 
 -- What is told as a question begins, the last first.
 
@@ -175,4 +191,5 @@ may_happen setup view _ = true
 
 abbrev pub may_tell : Setup → List Happening → Story → Bool
 may_tell setup [] story = true
-may_tell setup (e ∷ es) story = may_tell setup es story && may_happen setup (view_after setup (es ++ story)) e
+may_tell setup (e ∷ es) story =
+    may_tell setup es story && may_happen setup (view_after setup (es ++ story)) e

@@ -9,5 +9,6 @@ use Rattle.log_story.proofs.Frames.{IsBorn, asker_at}
 pub record AreUnborn (view : View) : Type 0 where
   pub held : (n : SessionName) → view.lives n.client n.hostgroup < n.life → view.held n ≡ first_held
   pub dues : (n : SessionName) → view.lives n.client n.hostgroup < n.life → view.dues n ≡ None
-  pub carried : (l : LinkId) (n : SessionName) → session_in (view.links l).carries ≡ Some n → IsBorn view n
+  pub carried : (l : LinkId) (n : SessionName) → session_in (view.links l).carries ≡ Some n
+      → IsBorn view n
   pub asked : (l : LinkId) (n : SessionName) → asker_at (view.links l).stage ≡ Some n → IsBorn view n

@@ -17,14 +17,17 @@ use Rattle.tale_world.specs.Tests.{are_settings, is_blind, has_due, is_account, 
 abbrev pub is_of_key : Setup → Due → Command → Bool
 is_of_key setup due (Run text schema settings args) =
     bytes_eq text (setup.keys due.key).text
-    && (bytes_eq schema (setup.keys due.key).place.schema && are_settings (core settings) (core (setup.keys due.key).place.settings))
+    && (bytes_eq schema (setup.keys due.key).place.schema
+    && are_settings (core settings) (core (setup.keys due.key).place.settings))
 is_of_key setup due (Prepare text) =
     bytes_eq text (setup.keys due.key).text
-    && (is_schema (Some due.place.schema) (setup.keys due.key).place.schema && are_settings (core due.place.settings) (core (setup.keys due.key).place.settings))
+    && (is_schema (Some due.place.schema) (setup.keys due.key).place.schema
+    && are_settings (core due.place.settings) (core (setup.keys due.key).place.settings))
 is_of_key setup due _ = true
 
 -- it is due and unsent, in a session that is present and has no Pin, and no capture is due
-pub record IsWaiting (setup : Setup) (fits : ℕ → Option Number) (view : View) (n : SessionName) (due : Due) : Type 0 where
+pub record IsWaiting (setup : Setup) (fits : ℕ → Option Number) (view : View) (n : SessionName)
+    (due : Due) : Type 0 where
   pub is_due : has_due view n due ≡ true
   pub unsent : not (is_some (view.carriers (message_of n due))) ≡ true
   pub present : is_name n (present view n.client n.hostgroup) ≡ true
@@ -58,4 +61,5 @@ pub record AreRead (setup : Setup) (texts : Texts) (due : Due) (told : Told) : T
   pub schema : IsReached told.schema due.place.schema
   pub key_schema : IsReached told.schema (setup.keys due.key).place.schema
   pub key : IsRead setup.reads texts told.settings (key_place texts setup due told).settings
-  pub calm : core (texts.calm (setup.keys due.key).place.settings told.settings) ≡ core (setup.keys due.key).place.settings
+  pub calm : core (texts.calm (setup.keys due.key).place.settings told.settings)
+      ≡ core (setup.keys due.key).place.settings

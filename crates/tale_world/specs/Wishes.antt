@@ -21,14 +21,16 @@ pub record Standing : Type 0 where
 -- before a preparation: the statement of this text, where one stands there, else the oldest of a thousand
 abbrev pub before_prepare : (number : Option ℕ) → (live : List ℕ) → Option StepText
 before_prepare (Some number) live = Some (Closes number)
-before_prepare None live = if nat_le 1000 (length live) then option_map (λ number. Closes number) (slice_get live 0) else None
+before_prepare None live =
+    if nat_le 1000 (length live) then option_map (λ number. Closes number) (slice_get live 0) else None
 
 abbrev pub if_long : (long : List ℕ) → (number : ℕ) → Option StepText
 if_long long number = if list_any (nat_eq number) long then Some (Resets number) else None
 
 abbrev pub before_command : Link → Standing → (key : ℕ) → Command → Option StepText
 before_command link standing key (Prepare text) = before_prepare (link.live key) standing.live
-before_command link standing key (Run text schema settings args) = option_map_or (if_long standing.long) (link.live key) None
+before_command link standing key (Run text schema settings args) =
+    option_map_or (if_long standing.long) (link.live key) None
 before_command link standing key _ = None
 
 abbrev pub before_question : Link → Standing → Question → Option StepText
@@ -37,8 +39,11 @@ before_question link standing (Statement n due) = before_command link standing d
 before_question link standing _ = None
 
 abbrev pub wish_for : Link → Standing → Question → Wish
-wish_for link standing question = option_map_or (λ text. Says text) (before_question link standing question) (Sends question)
+wish_for link standing question =
+    option_map_or (λ text. Says text) (before_question link standing question) (Sends question)
 
 -- a link that may be closed is told QUIT instead, where its close comes
-abbrev pub next_wish : Texts → (fits : ℕ → Option Number) → Setup → View → Link → Standing → Option Readied → Option Wish
-next_wish texts fits setup view link standing readied = option_map (wish_for link standing) (next_question texts fits setup view link readied)
+abbrev pub next_wish : Texts → (fits : ℕ → Option Number) → Setup → View → Link → Standing
+    → Option Readied → Option Wish
+next_wish texts fits setup view link standing readied =
+    option_map (wish_for link standing) (next_question texts fits setup view link readied)

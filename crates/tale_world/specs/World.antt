@@ -27,7 +27,9 @@ use Rattle.tale_world.specs.Deciding.{Deciding, World}
 -- never came up has it go nowhere.
 
 abbrev pub with_login : {X : Type 0} → Deciding X → World X → LinkId → Decided
-with_login by w link = record w.decided { logins = filled (λ l. is_link_id l link) (λ l. by.login w link) w.decided.logins }
+with_login by w link = record w.decided {
+  logins = filled (λ l. is_link_id l link) (λ l. by.login w link) w.decided.logins;
+}
 
 abbrev pub tagged : Tag → Option MessageName
 tagged (tag.For client ordinal) = Some (record { client = client; ordinal = ordinal })
@@ -40,20 +42,24 @@ is_tagged named m = option_map_or (λ n. is_message m n) named false
 
 -- the message that is asked for, and its copy
 abbrev pub is_asked : Option MessageName → MessageName → Bool
-is_asked named m = option_map_or (λ n. is_message m n || is_message m (record { client = job_of n; ordinal = 1 })) named false
+is_asked named m =
+    option_map_or (λ n. is_message m n
+    || is_message m (record { client = job_of n; ordinal = 1 })) named false
 
 abbrev pub with_step : {X : Type 0} → Deciding X → World X → LinkId → Tag → List ℕ → Decided
 with_step by w link for bytes = record w.decided {
   routes = filled (is_tagged (tagged for)) (by.routed w) w.decided.routes;
   own = filled (is_asked (tagged for)) (by.given w) w.decided.own;
-  steps = λ l. filled (λ n. is_link_id l link && nat_eq n (w.tale.wires link).begun) (λ n. by.step w link for bytes) (w.decided.steps l);
+  steps = λ l. filled (λ n. is_link_id l link && nat_eq n (w.tale.wires link).begun)
+      (λ n. by.step w link for bytes) (w.decided.steps l);
 }
 
 abbrev pub decided_told : {X : Type 0} → Setup → Deciding X → World X → Entry → Decided
 decided_told setup by w (Opened server address link) = with_login by w link
 decided_told setup by w (Got link bytes) = with_login by w link
 decided_told setup by w (Wrote link for bytes) =
-    if is_to_server w.tale link && may_begin setup link (w.tale.wires link) w.tale then with_step by w link for bytes else w.decided
+    if is_to_server w.tale link
+    && may_begin setup link (w.tale.wires link) w.tale then with_step by w link for bytes else w.decided
 decided_told setup by w _ = w.decided
 
 abbrev pub is_told : {X : Type 0} → Setup → Deciding X → World X → Entry → World X
@@ -66,9 +72,10 @@ is_told setup by w e = record {
 -- Then messages are given up and clients are ended, from this entry on. Of a client that is ended messages may be answered that were never
 -- taken up.
 
-abbrev pub given_up : (moment : ℕ) → (payloads : Option (List (List ℕ))) → Option (Option OwnAnswer) → Option (Option OwnAnswer)
-given_up moment (Some payloads) (Some None) = Some (Some (record { from = moment; payloads = payloads }))
-given_up moment (Some payloads) None = Some (Some (record { from = moment; payloads = payloads }))
+abbrev pub given_up : (moment : ℕ) → (payloads : Option (List (List ℕ))) → Option (Option OwnAnswer)
+    → Option (Option OwnAnswer)
+given_up moment (Some said) (Some None) = Some (Some (record { from = moment; payloads = said }))
+given_up moment (Some said) None = Some (Some (record { from = moment; payloads = said }))
 given_up moment _ own = own
 
 abbrev pub ended_now : (moment : ℕ) → (ends : Bool) → Option ℕ → Option ℕ
@@ -76,7 +83,9 @@ ended_now moment true None = Some moment
 ended_now moment _ at = at
 
 abbrev pub decided_by_now : {X : Type 0} → Deciding X → World X → Entry → Decided
-decided_by_now by w e = record w.decided { own = λ m. given_up (suc w.tale.moment) (by.gives_up w e m) (w.decided.own m) }
+decided_by_now by w e = record w.decided {
+  own = λ m. given_up (suc w.tale.moment) (by.gives_up w e m) (w.decided.own m);
+}
 
 abbrev pub is_counted : {X : Type 0} → Deciding X → World X → Entry → World X
 is_counted by w e = record w { decided = decided_by_now by w e; tale = counted w.tale }
@@ -89,7 +98,10 @@ decided_ends by w e = record w.decided {
 }
 
 abbrev pub is_ended : {X : Type 0} → Deciding X → World X → Entry → World X
-is_ended by w e = record w { decided = decided_ends by w e; tale = clients_are_ended (plan_of (decided_ends by w e)) w.tale }
+is_ended by w e = record w {
+  decided = decided_ends by w e;
+  tale = clients_are_ended (plan_of (decided_ends by w e)) w.tale;
+}
 
 -- Links are given back: a link that is lent is looked at for whether what it was lent for is given up.
 
@@ -101,12 +113,18 @@ abbrev pub looked_at : {X : Type 0} → Deciding X → World X → (MessageName 
 looked_at by w which = record w.decided { own = filled which (by.given w) w.decided.own }
 
 abbrev pub decided_freed : {X : Type 0} → Setup → Deciding X → World X → LinkId → Decided
-decided_freed setup by w link = looked_at by w (looked_for (view_of setup w.tale).dues (link_in setup w.tale link).carries)
+decided_freed setup by w link =
+    looked_at by w (looked_for (view_of setup w.tale).dues (link_in setup w.tale link).carries)
 
 abbrev pub freed_there : {X : Type 0} → Setup → Deciding X → World X → LinkId → World X
 freed_there setup by w link =
     let decided = decided_freed setup by w link in
-    record { decided = decided; tale = freed_if_done setup (plan_of decided) w.tale link; more = by.frees w link }
+    record {
+      decided = decided;
+      tale = freed_if_done setup
+          (plan_of decided) w.tale link;
+      more = by.frees w link;
+    }
 
 abbrev pub are_freed : {X : Type 0} → Setup → Deciding X → World X → World X
 are_freed setup by w = fold (freed_there setup by) w w.tale.links
@@ -139,8 +157,10 @@ next_message d client = slice_get (messages (plan_of d) client) client.taken
 abbrev pub with_route : {X : Type 0} → Deciding X → World X → Client → Decided → Option Framed → Decided
 with_route by w client d None = d
 with_route by w client d (Some message) = record d {
-  routes = filled (λ m. is_message m (name_of client (suc client.taken))) (λ m. by.route w client (suc client.taken) message) d.routes;
-  own = filled (λ m. is_message m (name_of client (suc client.taken))) (λ m. by.answer w client (suc client.taken) message) d.own;
+  routes = filled (λ m. is_message m (name_of client (suc client.taken)))
+      (λ m. by.route w client (suc client.taken) message) d.routes;
+  own = filled (λ m. is_message m (name_of client (suc client.taken)))
+      (λ m. by.answer w client (suc client.taken) message) d.own;
 }
 
 abbrev pub decided_next : {X : Type 0} → Setup → Deciding X → World X → Client → Decided
@@ -165,12 +185,18 @@ next_of client = record client { taken = suc client.taken }
 abbrev pub with_taken : {X : Type 0} → Setup → Deciding X → World X → Client → Tale → World X
 with_taken setup by w client tale =
     let d = decided_next setup by w client in
-    record { decided = d; tale = with_client (next_of client) tale; more = with_more by w client (next_message d client) }
+    record {
+      decided = d;
+      tale = with_client (next_of client) tale;
+      more = with_more by w client
+          (next_message d client);
+    }
 
 abbrev pub are_taken : {X : Type 0} → (most : ℕ) → Setup → Deciding X → Client → World X → World X
 are_taken zero setup by client w = w
 are_taken (suc most) setup by client w =
-    option_map_or (λ tale. are_taken most setup by (next_of client) (with_taken setup by w client tale)) (taken_once setup by w client)
+    option_map_or (λ tale. are_taken most setup by (next_of client) (with_taken setup by w client tale))
+    (taken_once setup by w client)
     (record w { decided = decided_next setup by w client })
 
 -- looked at is whether its last message is given up at this entry
@@ -179,12 +205,14 @@ decided_last by w client = looked_at by w (λ m. is_message m (name_of client cl
 
 abbrev pub is_called : Decided → (moment : ℕ) → View → Entry → Client → Bool
 is_called d moment view e client =
-    (is_event_of view client e || gives_up (plan_of d) moment (name_of client client.taken)) && not (is_before moment (d.ends client.number))
+    (is_event_of view client e || gives_up (plan_of d) moment (name_of client client.taken))
+    && not (is_before moment (d.ends client.number))
 
 abbrev pub goes_on : {X : Type 0} → Setup → Deciding X → View → Entry → World X → Client → World X
 goes_on setup by view e w client =
     let v = record w { decided = decided_last by w client } in
-    if is_called v.decided w.tale.moment view e client then are_taken (length (messages (plan_of v.decided) client)) setup by client v else v
+    if is_called v.decided w.tale.moment view e client
+    then are_taken (length (messages (plan_of v.decided) client)) setup by client v else v
 
 abbrev pub go_on : {X : Type 0} → Setup → Deciding X → View → Entry → World X → World X
 go_on setup by view e w = fold (goes_on setup by view e) w w.tale.clients
@@ -193,10 +221,17 @@ go_on setup by view e w = fold (goes_on setup by view e) w w.tale.clients
 
 abbrev pub world_step : {X : Type 0} → Setup → Deciding X → World X → Entry → World X
 world_step setup by w e =
-    are_freed setup by (is_ended by (go_on setup by (view_of setup w.tale) e (are_freed setup by (is_counted by (is_told setup by w e) e))) e)
+    are_freed setup by (is_ended by
+    (go_on setup by (view_of setup w.tale) e
+    (are_freed setup by (is_counted by (is_told setup by w e) e))) e)
 
 abbrev pub first_world : {X : Type 0} → Service → (room : ℕ) → X → World X
-first_world service room more = record { decided = first_decided service room; tale = first_tale; more = more }
+first_world service room more = record {
+  decided = first_decided service room;
+  tale = first_tale;
+  more = more;
+}
 
 abbrev pub world_after : {X : Type 0} → Setup → Deciding X → Service → (room : ℕ) → X → Log → World X
-world_after setup by service room more log = fold (world_step setup by) (first_world service room more) log
+world_after setup by service room more log =
+    fold (world_step setup by) (first_world service room more) log

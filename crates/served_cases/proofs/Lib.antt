@@ -1,0 +1,4 @@
+mod OnTexts
+mod Read
+mod Computed
+mod Configured

@@ -1,0 +1,3 @@
+pub mod Evicted
+pub mod Again
+pub mod Stepped
