@@ -20,6 +20,7 @@ pub fn read(fields: &mut Fields<'_>) {
         "config" => configs::config(fields),
         "rows" => configs::rows(fields),
         "rules" => configs::rules(fields),
+        "lists" => configs::lists(fields),
         "servers" => servers::servers(fields),
         "like_servers" => servers::like_servers(fields),
         "number" => servers::number(fields),

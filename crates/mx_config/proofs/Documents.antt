@@ -7,11 +7,14 @@ use Rattle.toml.specs.Parse.{parse_document}
 use Rattle.toml.specs.Data.{Members}
 use Rattle.toml.specs.View.{items_view}
 use Rattle.toml.specs.declared.value.Value.{Value}
-use Rattle.mx_config.specs.Reading.{count, document_of}
+use Rattle.mx_config.specs.Reading.{document_of}
+use Rattle.mx_config.specs.Tables.{count}
 
 pub count-items_view : (values : List Value) → count (items_view values) ≡ length values
 count-items_view [] = refl
 count-items_view (v ∷ values) = ap suc (count-items_view values)
+
+pub ruleset counting = (count-items_view)
 
 pub document_of-read : (bytes : List ℕ) (file : Members) → IsUtf8 bytes → parse_document bytes ≡ Some file → document_of bytes ≡ Some file
 document_of-read bytes file utf8 parsed = rw (is_utf8-from_IsUtf8 bytes utf8) parsed

@@ -3,7 +3,7 @@ use Rattle.std.specs.Prelude.{◌≡◌, ℕ, List, Option, Some, None, Result, 
 use Rattle.mx_config.specs.declared.fault.Kind.{Kind}
 use Rattle.mx_config.specs.declared.fault.Kind.TheVariants.{NotToml, UnknownKey, MissingKey, WrongType, OutOfRange, DuplicateUser, DuplicateServer, DuplicateRule, BadPattern, ReplaceWithoutPattern, BadAddress}
 use Rattle.mx_config.specs.declared.fault.TableName.{TableName}
-use Rattle.mx_config.specs.declared.fault.TableName.TheVariants.{File, Proxy, Users, Servers, Rules}
+use Rattle.mx_config.specs.declared.fault.TableName.TheVariants.{File, Proxy, Users, Servers, Rules, Whitelist}
 use Rattle.mx_config.specs.declared.fault.Place.{Place}
 use Rattle.mx_config.specs.declared.fault.ConfigFault.{ConfigFault}
 use Rattle.mx_config.specs.declared.fault.ConfigRefusal.{ConfigRefusal}
@@ -28,6 +28,7 @@ table_number Proxy = 1
 table_number Users = 2
 table_number Servers = 3
 table_number Rules = 4
+table_number Whitelist = 5
 
 -- what is said of a row or a key, or its first fault
 abbrev pub Said : Type 0 → Type 0

@@ -2,6 +2,7 @@ pub mod Address
 pub mod Faults
 pub mod Lawful
 pub mod Lent
+pub mod Lists
 pub mod Names
 pub mod Reading
 pub mod Rows

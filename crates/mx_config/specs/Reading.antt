@@ -1,7 +1,7 @@
 -- What a configuration file says.
-use Rattle.std.specs.Prelude.{ℕ, zero, suc, ◌&&◌, Bool, nat_le, if◌then◌else◌, List, [], ◌∷◌, codes, Option, Some, None, Ok, Err}
+use Rattle.std.specs.Prelude.{ℕ, ◌&&◌, Bool, nat_le, if◌then◌else◌, List, [], ◌∷◌, codes, Option, Some, None, Ok, Err}
 use Rattle.std.specs.Str.{is_utf8}
-use Rattle.toml.specs.Data.{Data, Items, no_items, item, Members, no_members, get_member, as_array}
+use Rattle.toml.specs.Data.{Data, Items, Members, no_members, get_member, as_array}
 use Rattle.toml.specs.Parse.{parse_document}
 use Rattle.hostgroups.specs.declared.row.ServerRow.{ServerRow}
 use Rattle.mx_config.specs.declared.config.Config.{Config}
@@ -9,16 +9,14 @@ use Rattle.mx_config.specs.declared.config.ProxyRow.{ProxyRow}
 use Rattle.mx_config.specs.declared.config.UserRow.{UserRow}
 use Rattle.mx_config.specs.declared.fault.Kind.TheVariants.{NotToml, MissingKey, WrongType, OutOfRange}
 use Rattle.mx_config.specs.declared.fault.Place.{Place}
-use Rattle.mx_config.specs.declared.fault.TableName.TheVariants.{File, Proxy, Users, Servers, Rules}
+use Rattle.mx_config.specs.declared.fault.TableName.TheVariants.{File, Proxy, Users, Servers, Rules, Whitelist}
 use Rattle.mx_config.specs.Faults.{Said, ◌>>=◌, at_row, fault_at}
 use Rattle.query_rules.specs.declared.row.RuleRow.{RuleRow}
 use Rattle.mx_config.specs.RuleRows.{rule_row}
 use Rattle.mx_config.specs.Rows.{known_only, table_at}
-use Rattle.mx_config.specs.Tables.{proxy_row, user_row, server_row, rows_from}
-
-abbrev pub count : Items → ℕ
-count no_items = zero
-count (item d ds) = suc (count ds)
+use Rattle.sql_whitelist.specs.declared.row.ListRow.{ListRow}
+use Rattle.mx_config.specs.Lists.{list_row}
+use Rattle.mx_config.specs.Tables.{count, proxy_row, user_row, server_row, rows_from}
 
 abbrev pub few_rows : Place → (least most : ℕ) → Option Items → Said Items
 few_rows place least most None = Err (fault_at place WrongType [])
@@ -49,8 +47,13 @@ abbrev pub rules_of : (is_pattern : List ℕ → Bool) → Option Data → Said 
 rules_of is_pattern None = Ok []
 rules_of is_pattern (Some d) = rows_at (at_row Rules 0) 0 10000 d >>= rows_from (rule_row is_pattern) []
 
+-- there may be no list
+abbrev pub lists_of : Option Data → Said (List ListRow)
+lists_of None = Ok []
+lists_of (Some d) = rows_at (at_row Whitelist 0) 0 1024 d >>= rows_from list_row []
+
 abbrev pub table_names : List (List ℕ)
-table_names = codes "proxy" ∷ codes "users" ∷ codes "servers" ∷ codes "rules" ∷ []
+table_names = codes "proxy" ∷ codes "users" ∷ codes "servers" ∷ codes "rules" ∷ codes "whitelist" ∷ []
 
 -- the configuration of a document, or its first fault: unknown tables come first, then the tables in order; a test tells
 -- which texts are patterns
@@ -61,7 +64,8 @@ config_of is_pattern file = do
   users ← users_of (get_member (codes "users") file)
   servers ← servers_of (get_member (codes "servers") file)
   rules ← rules_of is_pattern (get_member (codes "rules") file)
-  Ok (record { proxy = proxy; users = users; servers = servers; rules = rules })
+  whitelist ← lists_of (get_member (codes "whitelist") file)
+  Ok (record { proxy = proxy; users = users; servers = servers; rules = rules; whitelist = whitelist })
 
 abbrev pub config_in : (is_pattern : List ℕ → Bool) → Option Members → Said Config
 config_in is_pattern None = Err (fault_at (at_row File 0) NotToml [])

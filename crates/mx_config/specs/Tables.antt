@@ -1,5 +1,5 @@
 -- The tables of a configuration: their keys in order, with the default and the form of each.
-use Rattle.std.specs.Prelude.{ℕ, ◌+◌, nat_lt, if◌then◌else◌, List, [], ◌∷◌, ◌++◌, length, codes, bytes_eq, Bool, Some, None, Ok, Err}
+use Rattle.std.specs.Prelude.{ℕ, zero, suc, ◌+◌, nat_lt, if◌then◌else◌, List, [], ◌∷◌, ◌++◌, length, codes, bytes_eq, Bool, false, Some, None, Ok, Err}
 use Rattle.std.specs.List.{list_any}
 use Rattle.toml.specs.Data.{Data, Items, no_items, item, Members}
 use Rattle.mx_base.specs.declared.names.Address.{Address}
@@ -18,7 +18,11 @@ use Rattle.mx_config.specs.declared.servers.Duty.{Duty}
 use Rattle.mx_config.specs.declared.config.UserRow.{UserRow}
 use Rattle.mx_config.specs.Faults.{Said, ◌>>=◌, at_row, fault_at}
 use Rattle.mx_config.specs.Rows.{known_only, key_of, table_at}
-use Rattle.mx_config.specs.Values.{number, text, address_value, host_value, status_value}
+use Rattle.mx_config.specs.Values.{number, text, address_value, host_value, status_value, switch_value}
+
+abbrev pub count : Items → ℕ
+count no_items = zero
+count (item d ds) = suc (count ds)
 
 -- the members of a row that has no other keys than these
 unfoldable pub row_at : Place → (known : List (List ℕ)) → Data → Said Members
@@ -79,7 +83,7 @@ abbrev pub has_user : List UserRow → List ℕ → Bool
 has_user rows name = list_any (λ row. bytes_eq row.name name) rows
 
 abbrev pub user_keys : List (List ℕ)
-user_keys = codes "name" ∷ codes "password" ∷ codes "default_hostgroup" ∷ []
+user_keys = codes "name" ∷ codes "password" ∷ codes "default_hostgroup" ∷ codes "whitelist" ∷ []
 
 -- no row before has the name
 abbrev pub new_user : Place → (before : List UserRow) → (name : List ℕ) → Said (Unit {0})
@@ -90,7 +94,8 @@ user_of place ms = do
   name ← key_of place (codes "name") None (text NotEmpty) ms
   password ← key_of place (codes "password") None (text Any) ms
   default_hostgroup ← key_of place (codes "default_hostgroup") (Some 0) (number 0 65535) ms
-  Ok (record { name = name; password = password; default_hostgroup = record { 0 = default_hostgroup } })
+  whitelist ← key_of place (codes "whitelist") (Some false) switch_value ms
+  Ok (record { name = name; password = password; default_hostgroup = record { 0 = default_hostgroup }; whitelist = whitelist })
 
 -- the row behind these
 unfoldable pub user_row : (before : List UserRow) → Data → Said UserRow

@@ -2,6 +2,7 @@
 use hostgroups::ServerRow;
 use mx_base::{Address, Bytes, Hostgroup, Items};
 use query_rules::RuleRow;
+use sql_whitelist::ListRow;
 
 /// What a configuration file says.
 #[derive(Drop)]
@@ -10,6 +11,7 @@ pub struct Config {
     pub users: Items<UserRow>,
     pub servers: Items<ServerRow>,
     pub rules: Items<RuleRow>,
+    pub whitelist: Items<ListRow>,
 }
 
 /// The table `proxy`: where the proxy listens, how it greets, and its limits.
@@ -45,4 +47,6 @@ pub struct UserRow {
     pub name: Bytes,
     pub password: Bytes,
     pub default_hostgroup: Hostgroup,
+    /// Whether the user may run listed statements alone.
+    pub whitelist: bool,
 }

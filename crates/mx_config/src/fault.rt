@@ -40,6 +40,7 @@ pub(crate) enum TableName {
     Users,
     Servers,
     Rules,
+    Whitelist,
 }
 
 /// Where a fault stands: the table, and its row, counted from 1; 0 is the table as a whole.
@@ -65,8 +66,8 @@ pub(crate) struct Place {
 /// | 10 | a template without a pattern, or with one that has to find nothing |
 /// | 11 | a text that is no address |
 ///
-/// The table is 0 for the file, 1 for `proxy`, 2 for `users`, 3 for `servers` and 4 for `rules`. The row counts from 1, and is 0 for
-/// the table as a whole, and for `proxy`. The key is empty where the fault is no key's.
+/// The table is 0 for the file, 1 for `proxy`, 2 for `users`, 3 for `servers`, 4 for `rules` and 5 for `whitelist`. The row counts from
+/// 1, and is 0 for the table as a whole, and for `proxy`. The key is empty where the fault is no key's.
 #[derive(Debug, Drop)]
 pub struct ConfigFault {
     pub kind: u8,
@@ -122,6 +123,7 @@ impl TableName {
             TableName::Users => 2,
             TableName::Servers => 3,
             TableName::Rules => 4,
+            TableName::Whitelist => 5,
         }
     }
 }

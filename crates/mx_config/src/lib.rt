@@ -1,9 +1,10 @@
-//! The configuration file: a TOML document of the tables `proxy`, `users`, `servers` and `rules`.
+//! The configuration file: a TOML document of the tables `proxy`, `users`, `servers`, `rules` and `whitelist`.
 #![tactic(auto)]
 
 mod address;
 mod config;
 mod fault;
+mod lists;
 mod proxy;
 mod read;
 mod row;

@@ -7,9 +7,10 @@ ghost use Rattle.mx_config.specs.Faults.{Gives, at_row};
 ghost use Rattle.mx_config.specs.Lawful.{IsLawfulProxy, AreLawfulUsers, AreLawfulServers, AreLawfulRules, IsLawful, IsBetween};
 ghost use Rattle.mx_config.specs.Values.{Agrees};
 ghost use Rattle.mx_config.specs.Lent.{GivesRows};
-ghost use Rattle.mx_config.specs.Reading.{config_of, proxy_of, users_of, servers_of, rules_of, rows_at, reading_of};
+ghost use Rattle.mx_config.specs.Reading.{config_of, proxy_of, users_of, servers_of, rules_of, lists_of, rows_at, reading_of};
 
 use crate::fault::{Kind, Place, TableName, refusal};
+use crate::lists::read_list_rows;
 use crate::proxy::read_proxy_row;
 use crate::row::{Row, row_table};
 use crate::rules::read_rule_rows;
@@ -20,10 +21,11 @@ use crate::{Config, ConfigRefusal, ProxyRow, UserRow};
 use hostgroups::ServerRow;
 use mx_base::Items;
 use query_rules::RuleRow;
+use sql_whitelist::ListRow;
 use std::alloc::Global;
 use toml::{Table, Value};
 
-/// The rows that the table `users` or `servers` may have.
+/// The rows that the table `users`, `servers` or `whitelist` may have.
 const MAX_ROWS: usize = 1024;
 
 /// The rows that the table `rules` may have.
@@ -33,7 +35,7 @@ const MAX_RULES: usize = 10_000;
 /// those of `mysql_variables`, `mysql_users`, `mysql_servers` and `mysql_query_rules`, in TOML).
 ///
 /// Bytes that are no TOML document come first, then unknown tables, the least name first, then the tables `proxy`, `users`,
-/// `servers` and `rules` in this order, each with its rows in order. In a row the least unknown key comes first, and then its keys
+/// `servers`, `rules` and `whitelist` in this order, each with its rows in order. In a row the least unknown key comes first, and then its keys
 /// in the order of their fields in `ProxyRow`, `UserRow` and `ServerRow`, of a rule in that of the README's table, each tried for
 /// being missing, for its type, for an address, for its range and for a pattern; then comes a template without a match, and last
 /// a row that is a duplicate of an earlier one. A table that is none, or has too
@@ -70,16 +72,18 @@ fn read_file(alloc: Global, file: &Table) -> Result<Config, ConfigRefusal>
         place: whole(TableName::File),
         members: file,
     };
-    row.only(&["proxy", "users", "servers", "rules"])?;
+    row.only(&["proxy", "users", "servers", "rules", "whitelist"])?;
     let proxy = read_proxy(alloc, file)?;
     let users = read_users(alloc, file)?;
     let servers = read_servers(alloc, file)?;
     let rules = read_rules(alloc, file)?;
+    let whitelist = read_whitelist(alloc, file)?;
     Ok(Config {
         proxy,
         users,
         servers,
         rules,
+        whitelist,
     })
 }
 
@@ -133,6 +137,18 @@ fn read_rules(alloc: Global, file: &Table) -> Result<Items<RuleRow>, ConfigRefus
         Some(value) => {
             let items = table_rows(alloc, whole(TableName::Rules), 0, MAX_RULES, value)?;
             read_rule_rows(alloc, items)
+        }
+        None => Ok(Items::new(alloc)),
+    }
+}
+
+fn read_whitelist(alloc: Global, file: &Table) -> Result<Items<ListRow>, ConfigRefusal>
+    ensures { Gives result (lists_of (get_member (codes "whitelist") (table_view file.now))) }
+{
+    match member(file, "whitelist") {
+        Some(value) => {
+            let items = table_rows(alloc, whole(TableName::Whitelist), 0, MAX_ROWS, value)?;
+            read_list_rows(alloc, items)
         }
         None => Ok(Items::new(alloc)),
     }

@@ -17,7 +17,7 @@ use std::alloc::Global;
 use toml::Value;
 
 /// The keys of a row, in order.
-const KEYS: [&str; 3] = ["name", "password", "default_hostgroup"];
+const KEYS: [&str; 4] = ["name", "password", "default_hostgroup", "whitelist"];
 
 // The users so far.
 type UserTable = KeyedRows<UserRow>;
@@ -71,10 +71,12 @@ fn read_user(row: &Row) -> Result<UserRow, ConfigRefusal>
     let name = row.text("name", None, TextForm::NotEmpty)?;
     let password = row.text("password", None, TextForm::Any)?;
     let hostgroup = row.number("default_hostgroup", Some(0), 0, 65_535)?;
+    let whitelist = row.switch("whitelist", false)?;
     Ok(UserRow {
         name,
         password,
         default_hostgroup: Hostgroup(hostgroup as u16),
+        whitelist,
     })
 }
 

@@ -55,6 +55,17 @@ rule_id = 2
 colour = 1
 ";
 
+/// A list of statements with a digest that is none.
+pub const BAD_LIST: &str = "[[users]]
+name = \"u\"
+password = \"\"
+whitelist = 1
+[[whitelist]]
+user = \"u\"
+schema = \"information_schema\"
+digests = [\"xyz\"]
+";
+
 /// A key that no user has, and one that no server has.
 pub const UNKNOWN_KEYS: &str = "[[users]]
 name = \"u\"

@@ -1,5 +1,7 @@
 // What a run is given beside its wire.
-use crate::configs::{NO_SERVER, ONE_SERVER, PROXY, TWO_CLIENTS, UNKNOWN_KEYS, UNKNOWN_RULE_KEY};
+use crate::configs::{
+    BAD_LIST, NO_SERVER, ONE_SERVER, PROXY, TWO_CLIENTS, UNKNOWN_KEYS, UNKNOWN_RULE_KEY,
+};
 use crate::names::spelled;
 use crate::tables::add;
 use check_lines::Answer;
@@ -96,6 +98,7 @@ pub fn files_of(answer: &mut Answer, recording: &str) -> Vec<(Bytes, Bytes)> {
     add_file(answer, &mut files, "two_clients", PROXY, TWO_CLIENTS);
     add_file(answer, &mut files, "unknown_keys", PROXY, UNKNOWN_KEYS);
     add_file(answer, &mut files, "rules", PROXY, UNKNOWN_RULE_KEY);
+    add_file(answer, &mut files, "bad_list", PROXY, BAD_LIST);
     add_file(answer, &mut files, "empty", "", "");
     add_file(answer, &mut files, "recording", "", recording);
     files

@@ -10,6 +10,7 @@ mod fronts;
 mod given;
 mod names;
 mod plays;
+mod reports;
 mod runs;
 mod scripts;
 mod shown;
@@ -29,6 +30,7 @@ use tables::found;
 enum Reader {
     Replay,
     Words { are_taken: bool },
+    Report,
     Serve,
     Flood,
     One,
@@ -36,13 +38,14 @@ enum Reader {
 }
 
 // Readers by their words, with the names that stand in their answers.
-const READERS: [(&str, (Reader, Names)); 7] = [
+const READERS: [(&str, (Reader, Names)); 8] = [
     ("replay", (Reader::Replay, Names::Recorded)),
     ("run", (Reader::Words { are_taken: false }, Names::Recorded)),
     (
         "taken",
         (Reader::Words { are_taken: true }, Names::Recorded),
     ),
+    ("report", (Reader::Report, Names::Recorded)),
     ("serve", (Reader::Serve, Names::Recorded)),
     ("flood", (Reader::Flood, Names::Recorded)),
     ("scripted", (Reader::One, Names::Scripted)),
@@ -53,6 +56,7 @@ fn read_by<R: Threads + Sync>(rt: &R, fields: &mut Fields<'_>, reader: Reader) {
     match reader {
         Reader::Replay => runs::replay(rt, fields),
         Reader::Words { are_taken } => runs::words(rt, fields, are_taken),
+        Reader::Report => reports::report(rt, fields),
         Reader::Serve => tapes::serve(rt, fields),
         Reader::Flood => flood::answer(fields),
         Reader::One => plays::one(rt, fields),

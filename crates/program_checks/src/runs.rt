@@ -54,8 +54,8 @@ fn push_outcome(answer: &mut Answer, status: u8, printed: &[u8]) {
     push_lines(answer, " ", printed);
 }
 
-// The outcome over a wire to which nobody comes, whose ports are taken or not.
-fn run_bare<R: Threads + Sync>(rt: &R, answer: &mut Answer, given: Given<'_>, are_taken: bool) {
+/// The outcome over a wire to which nobody comes, whose ports are taken or not.
+pub fn run_bare<R: Threads + Sync>(rt: &R, answer: &mut Answer, given: Given<'_>, are_taken: bool) {
     let mut wire = BareWire::without_clients(are_taken);
     let _ = run_given(rt, answer, given, &mut wire);
 }

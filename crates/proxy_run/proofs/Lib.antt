@@ -1,3 +1,4 @@
 mod Turns
 mod Ending
 pub mod Keeping
+mod Learning

@@ -1,4 +1,6 @@
 pub mod Replay
+pub mod ReportWords
+pub mod Reports
 pub mod Run
 pub mod Serve
 pub mod Words

@@ -8,6 +8,8 @@ use Rattle.mx_config.specs.declared.fault.ConfigFault.{ConfigFault}
 use Rattle.proxy_run.specs.declared.stop.Stop.{Stop}
 use Rattle.proxy_run.specs.declared.stop.Stop.TheVariants as stop
 use Rattle.ready_loop.specs.Serving.{EndsWith, IsOver, IsPortFault}
+use Rattle.proxy_run.specs.ReportWords.{ReportNamed, report_words}
+use Rattle.proxy_run.specs.Reports.{Reported, ReportedInPart}
 use Rattle.proxy_run.specs.Words.{Named, replay_words, serve_words, text_words}
 use Rattle.proxy_run.specs.Replay.{Held, IsMisconfigured, Replayed, ReplayedInPart, IsUnconfigured, IsRefused, RanOut, IsUnread}
 use Rattle.proxy_run.specs.Serve.{Served, ServedUntil, IsUntouched, IsWornOut}
@@ -22,7 +24,7 @@ pub record Says (line : List ℕ) (old : Option (List ℕ)) (before : ℕ) (new 
   pub either : (Takes old line new) ⊎ (FailsAt line old before new now)
 
 abbrev pub usage_line : List ℕ
-usage_line = codes "usage: mx_proxy serve <config> or replay <config> <recording> or load <start> <clients> <statements> or audit <config> <lines> <workers>\n"
+usage_line = codes "usage: mx_proxy serve <config> or replay <config> <recording> or load <start> <clients> <statements> or audit <config> <lines> <workers> or learn <config> <lines> <workers>\n"
 
 abbrev pub fault_line : RecordFault → List ℕ
 fault_line fault = codes "recording: line " ++ (decimal fault.line ++ (codes " kind " ++ (decimal fault.kind ++ codes "\n")))
@@ -34,6 +36,7 @@ table_name table =
     else if table == 2 then codes "users"
     else if table == 3 then codes "servers"
     else if table == 4 then codes "rules"
+    else if table == 5 then codes "whitelist"
     else codes "file"
 
 unfoldable pub config_line : ConfigFault → List ℕ
@@ -84,6 +87,24 @@ abbrev pub OutcomeOf : Option (List ℕ) → List (List ℕ) → Held → (read_
 OutcomeOf (Some name) words held read_before read_now told ports_before ports_now old before new now status = ServeOutcome name held read_before read_now told ports_before ports_now old before new now status
 OutcomeOf None words held read_before read_now told ports_before ports_now old before new now status = ReplayOutcome words held read_before read_now old before new now status
 
+-- The same of a report.
+pub data ReportOutcome (names : ReportNamed) (held : Held) (read_before read_now : ℕ) (old : Option (List ℕ)) (before : ℕ) (new : Option (List ℕ)) (now : ℕ) : ℕ → Type 0 where
+  ReportPut : Reported names held old new → ReportOutcome names held read_before read_now old before new now 0
+  ReportUnconfigured : (fault : ConfigFault) → IsMisconfigured names.config held fault → Says (config_line fault) old before new now → ReportOutcome names held read_before read_now old before new now 1
+  ReportUnread : read_before < read_now → Says (codes "read fault\n") old before new now → ReportOutcome names held read_before read_now old before new now 3
+  ReportUnput : ReportedInPart names held old before new now → ReportOutcome names held read_before read_now old before new now 4
+  ReportNoMemory : Says (codes "out of memory\n") old before new now → ReportOutcome names held read_before read_now old before new now 5
+
+-- and the wire isn't touched
+pub record ReportRun (names : ReportNamed) (held : Held) (read_before read_now : ℕ) (told : Option Log) (old : Option (List ℕ)) (before : ℕ) (new : Option (List ℕ)) (now : ℕ) (status : ℕ) : Type 0 where
+  pub outcome : ReportOutcome names held read_before read_now old before new now status
+  pub untouched : IsUntouched told
+
+-- Words that don't ask for a report ask for serving or a replay, or are no command.
+abbrev pub AskedOutcome : Option ReportNamed → List (List ℕ) → Held → (read_before read_now : ℕ) → Option Log → (ports_before ports_now : ℕ) → Option (List ℕ) → ℕ → Option (List ℕ) → ℕ → ℕ → Type 0
+AskedOutcome (Some names) words held read_before read_now told ports_before ports_now old before new now status = ReportRun names held read_before read_now told old before new now status
+AskedOutcome None words held read_before read_now told ports_before ports_now old before new now status = OutcomeOf (serve_words words) words held read_before read_now told ports_before ports_now old before new now status
+
 -- A text that was asked for is put, or a front of it where the sink failed.
 pub record TextPut (text : List ℕ) (old : Option (List ℕ)) (before : ℕ) (new : Option (List ℕ)) (now : ℕ) (status : ℕ) : Type 0 where
   pub either : ((status ≡ 0) × Takes old text new) ⊎ ((status ≡ 4) × FailsAt text old before new now)
@@ -95,7 +116,7 @@ pub record TextOutcome (text : List ℕ) (told : Option Log) (old : Option (List
 
 abbrev pub OutcomeBy : Option (List ℕ) → List (List ℕ) → Held → (read_before read_now : ℕ) → Option Log → (ports_before ports_now : ℕ) → Option (List ℕ) → ℕ → Option (List ℕ) → ℕ → ℕ → Type 0
 OutcomeBy (Some text) words held read_before read_now told ports_before ports_now old before new now status = TextOutcome text told old before new now status
-OutcomeBy None words held read_before read_now told ports_before ports_now old before new now status = OutcomeOf (serve_words words) words held read_before read_now told ports_before ports_now old before new now status
+OutcomeBy None words held read_before read_now told ports_before ports_now old before new now status = AskedOutcome (report_words words) words held read_before read_now told ports_before ports_now old before new now status
 
 abbrev pub Outcome : List (List ℕ) → Held → (read_before read_now : ℕ) → Option Log → (ports_before ports_now : ℕ) → Option (List ℕ) → ℕ → Option (List ℕ) → ℕ → ℕ → Type 0
 Outcome words held read_before read_now told ports_before ports_now old before new now status = OutcomeBy (text_words words) words held read_before read_now told ports_before ports_now old before new now status

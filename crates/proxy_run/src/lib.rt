@@ -1,8 +1,11 @@
-//! What the words of the command line ask for: a configuration is judged, and served by over a wire, or a recording is replayed and
-//! printed.
+//! What the words of the command line ask for: a configuration is judged, and served by over a wire; a recording is replayed and
+//! printed; or a file of statements is reported on.
 #![tactic(auto)]
 
 mod replay;
+mod report_words;
+mod reporting;
+mod reports;
 mod running;
 mod serving;
 mod stop;

@@ -2,10 +2,13 @@
 ghost use Rattle.std.specs.Prelude.{◌≡◌, ◌≢◌, ◌↔◌, [], Option, Some, None, IsSome, IfOk};
 ghost use Rattle.mx_wire.specs.Log.{Log};
 ghost use Rattle.std.specs.Option.{option_map};
-ghost use Rattle.proxy_run.specs.Words.{texts, replay_words, serve_words, text_word, text_words, IsNoCommand, IsUnknown};
-ghost use Rattle.proxy_run.specs.Run.{Says, Told, TextPut, ServeOutcome, ReplayOutcome, Outcome, OutcomeOf, LeavesWire, table_name, config_line};
+ghost use Rattle.proxy_run.specs.Words.{texts, replay_words, serve_words, text_word, text_words, IsNoCommand, IsUnasked, IsUnknown};
+ghost use Rattle.proxy_run.specs.ReportWords.{report_words};
+ghost use Rattle.proxy_run.specs.Run.{Says, Told, TextPut, ServeOutcome, ReplayOutcome, AskedOutcome, Outcome, OutcomeOf, LeavesWire, table_name, config_line};
 
 use crate::replay::replay;
+use crate::report_words::report_words;
+use crate::reporting::run_report;
 use crate::serving::serve_by;
 use crate::stop::Stop;
 use crate::words::serve_words;
@@ -21,12 +24,14 @@ use std::thread::Threads;
 pub struct Status(pub u8);
 
 const USAGE: &[u8] =
-    b"usage: mx_proxy serve <config> or replay <config> <recording> or load <start> <clients> <statements> or audit <config> <lines> <workers>\n";
+    b"usage: mx_proxy serve <config> or replay <config> <recording> or load <start> <clients> <statements> or audit <config> <lines> <workers> or learn <config> <lines> <workers>\n";
 
 const VERSION: &[u8] = b"mx_proxy 0.1.0\n";
 
 const HELP: &[u8] = b"mx_proxy serve <config>
 mx_proxy replay <config> <recording>
+mx_proxy audit <config> <lines> <workers>
+mx_proxy learn <config> <lines> <workers>
 mx_proxy --help
 mx_proxy --version
 README.md says what each does.
@@ -84,6 +89,7 @@ fn table_name(table: u8) -> &'static str
         2 => "users",
         3 => "servers",
         4 => "rules",
+        5 => "whitelist",
         _ => "file",
     }
 }
@@ -127,7 +133,7 @@ fn say_fault<O: Sink>(alloc: Global, out: &mut O, fault: RecordFault) -> Status
 }
 
 // Puts the line of a stop, and gives its status.
-fn tell<O: Sink>(alloc: Global, out: &mut O, stop: Stop) -> Status
+pub(crate) fn tell<O: Sink>(alloc: Global, out: &mut O, stop: Stop) -> Status
     ensures { Told stop (O.taken out.old) (O.faults out.old) (O.taken out.new) (O.faults out.new) result.0 }
 {
     match stop {
@@ -197,9 +203,31 @@ fn run_command<W: Wire, F: Files, O: Sink>(
     }
 }
 
+// Reports, serves or replays.
+fn run_asked<R: Threads + Sync, W: Wire, F: Files, O: Sink>(
+    rt: &R,
+    alloc: Global,
+    words: &[String],
+    files: &mut F,
+    wire: &mut W,
+    out: &mut O,
+) -> Status
+    requires fresh { (log : Log) → W.told wire.old ≡ Some log → log ≡ [] }
+    ensures outcome { AskedOutcome (report_words (texts words.now)) (texts words.now) (F.held files.old) (F.faults files.old) (F.faults files.new) (W.told wire.new) (W.port_faults wire.old) (W.port_faults wire.new) (O.taken out.old) (O.faults out.old) (O.taken out.new) (O.faults out.new) result.0 }
+    ensures wire { LeavesWire (serve_words (texts words.now)) result.0 wire.old wire.new }
+    ensures usage { (result.0 ≡ 2) ↔ IsUnasked (texts words.now) }
+{
+    match report_words(words) {
+        Some(names) => run_report(rt, alloc, names, files, out),
+        None => run_command(alloc, words, files, wire, out),
+    }
+}
+
 /// Does what the words after the program's name ask for, and puts what that prints. `serve <config>` judges a configuration and
 /// serves by it over the wire, until that has nothing more. `replay <config> <recording>` judges a configuration, then replays a
-/// recording over a wire of its own, and puts the transcript of its log. `--help` and `--version` put these texts, and touch nothing else.
+/// recording over a wire of its own, and puts the transcript of its log. `audit <config> <lines> <workers>` judges a configuration, then
+/// puts the report of a file of statements, one a line; `learn` with the same words puts the hashes of their digests. `--help` and
+/// `--version` put these texts, and touch nothing else.
 ///
 /// The wire that is handed in is for `serve` alone: any other words leave it as it was, and so does a configuration that can't be read or is
 /// refused. `serve` and a replay listen at both addresses of the configuration, that for clients first, before any other call of their wire,
@@ -212,17 +240,17 @@ fn run_command<W: Wire, F: Files, O: Sink>(
 ///
 /// | Status | Comes | Line |
 /// |---|---|---|
-/// | 0 | the wire had nothing more; of a replay the transcript was put; the text that was asked for was put | none |
+/// | 0 | the wire had nothing more; of a replay the transcript was put, of a report all of it; the text that was asked for was put | none |
 /// | 1 | only where the configuration is refused | `config: <kind> <table name> <row> <key>` |
-/// | 2 | exactly where the words are no command | the usage |
+/// | 2 | exactly where the words are no command, or the workers aren't 1 to 64 | the usage |
 /// | 3 | only where a read failed | `read fault` |
-/// | 4 | only where the sink failed, in a replay or with a text that was asked for | none |
+/// | 4 | only where the sink failed, in a replay, a report or with a text that was asked for | none |
 /// | 5 | memory was refused. In `serve` what is so of a log is so up to the call, with its answer, by which it was refused | `out of memory` |
 /// | 6 | only where a port or a wait failed, in `serve` | `listen fault` |
 /// | 7 | only where the recording is refused | `recording: line <line> kind <kind>` |
 /// | 8 | only where one wake made 4,294,967,296 calls of the wire, or `serve` woke 4,611,686,018,427,387,904 times | `turns spent` |
 pub fn run<R: Threads + Sync, W: Wire, F: Files, O: Sink>(
-    _rt: &R,
+    rt: &R,
     alloc: Global,
     words: &[String],
     files: &mut F,
@@ -237,6 +265,6 @@ pub fn run<R: Threads + Sync, W: Wire, F: Files, O: Sink>(
 {
     match text_words(words) {
         Some(text) => put_text(out, text),
-        None => run_command(alloc, words, files, wire, out),
+        None => run_asked(rt, alloc, words, files, wire, out),
     }
 }

@@ -5,6 +5,7 @@ use hostgroups::ServerRow;
 use mx_base::Bytes;
 use mx_config::{Config, ConfigFault, ConfigRefusal, ProxyRow, UserRow, read_config};
 use query_rules::RuleRow;
+use sql_whitelist::ListRow;
 use std::fmt::Debug;
 
 // What stands around the number of a user, and of a rule.
@@ -22,6 +23,7 @@ enum Shown {
     Whole,
     Rows,
     Rules,
+    Lists,
 }
 
 /// `config <lines>`: the configuration, or its first fault.
@@ -49,6 +51,15 @@ pub(crate) fn rules(fields: &mut Fields<'_>) {
     show_written(&mut fields.answer, text, Shown::Rules);
 }
 
+/// `lists <count> <digests>`: how many rows a whitelist of so many has, each with so many digests, or its first fault.
+pub(crate) fn lists(fields: &mut Fields<'_>) {
+    let mut text = Answer::new(fields.answer.alloc());
+    text.text(PROXY);
+    put_numbered(&mut text, 1, USER);
+    put_lists(&mut text, fields.number(), fields.number());
+    show_written(&mut fields.answer, text, Shown::Lists);
+}
+
 // Rows, each of which has its number between these texts.
 fn put_numbered(text: &mut Answer, count: u16, around: [&str; 2]) {
     for n in 0..count {
@@ -65,6 +76,20 @@ fn put_servers(text: &mut Answer, count: u16, connections: u16) {
         text.text("\nmax_connections = ");
         text.display(connections);
         text.text("\n");
+    }
+}
+
+fn put_lists(text: &mut Answer, count: u16, digests: u16) {
+    for _ in 0..count {
+        text.text("[[whitelist]]\nuser = 'u'\nschema = 's'\ndigests = [");
+        put_digests(text, digests);
+        text.text("]\n");
+    }
+}
+
+fn put_digests(text: &mut Answer, count: u16) {
+    for _ in 0..count {
+        text.text("'a9993e364706816a',");
     }
 }
 
@@ -86,15 +111,18 @@ fn show_config(answer: &mut Answer, config: &Config, shown: Shown) {
     let users = config.users.as_slice();
     let servers = config.servers.as_slice();
     let rules = config.rules.as_slice();
+    let lists = config.whitelist.as_slice();
     match shown {
         Shown::Whole => {
             put_proxy(answer, &config.proxy);
             put_users(answer, users);
             put_servers_of(answer, servers);
             put_rules_of(answer, rules);
+            put_lists_of(answer, lists);
         }
         Shown::Rows => answer.debug((users.len(), servers.len())),
         Shown::Rules => answer.debug(rules.len()),
+        Shown::Lists => answer.debug(lists.len()),
     }
 }
 
@@ -148,6 +176,17 @@ fn put_users(answer: &mut Answer, rows: &[UserRow]) {
         answer.text("; user ");
         put(answer, (text_of(&row.name), text_of(&row.password)));
         answer.display(row.default_hostgroup.0);
+        if row.whitelist {
+            answer.text(" listed");
+        }
+    }
+}
+
+fn put_lists_of(answer: &mut Answer, rows: &[ListRow]) {
+    for row in rows {
+        answer.text("; list ");
+        put(answer, (text_of(&row.user), text_of(&row.schema)));
+        answer.debug(row.digests.as_slice());
     }
 }
 

@@ -1,0 +1,7 @@
+mod Counting
+pub mod Digests
+mod InOrder
+mod KeyOrder
+mod LineSteps
+mod Reported
+mod Tallying

@@ -1,0 +1,5 @@
+pub mod Keys
+pub mod Lines
+pub mod Report
+pub mod Tallies
+pub mod Text

@@ -1,0 +1,3 @@
+mod Hashing
+mod Listing
+mod Sending

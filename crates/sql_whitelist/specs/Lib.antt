@@ -1,0 +1,5 @@
+pub mod Commands
+pub mod Hashes
+pub mod Held
+pub mod Listed
+pub mod Text
