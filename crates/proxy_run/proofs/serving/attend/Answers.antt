@@ -1,5 +1,6 @@
 use Rattle.std.specs.Prelude.{◌≡◌, ◌⊎◌, ℕ, Option, Some}
 use Rattle.std.proofs.Common.{inl, inr, subst, sym, ◌∙◌}
+use Rattle.std.proofs.lemmas.Result.{err_from_is_err_and}
 use Rattle.mx_wire.specs.Log.{Log}
 use Rattle.mx_config.specs.declared.config.Config.{Config}
 use Rattle.ready_loop.specs.declared.ends.ServeEnd.TheVariants as ended
@@ -16,18 +17,23 @@ use Rattle.proxy_run.proofs.Keeping.{Ran, listens-at, ran-of, ran-serves, stood-
 use Rattle.proxy_run.proofs.serving.attend.Goals as goal
 
 -- what a core keeps that ends with the setup of the configuration
-serves-by : (config : Config) (core : Core) (told : Option Log) → core.setup ≡ setup_of config → ((log : Log) → told ≡ Some log → Ran core.setup log) → ListensFirst config.proxy.listen config.proxy.admin_listen told → ServesAt config told
-serves-by config core told by ran listens = record {
+serves-by : (config : Config) (setup : Setup) (told : Option Log) → setup ≡ setup_of config → ((log : Log) → told ≡ Some log → Ran setup log) → ListensFirst config.proxy.listen config.proxy.admin_listen told → ServesAt config told
+serves-by config setup told by ran listens = record {
   run = λ log is. record { fits = (ran log is).fits; listens = listens.holds log is };
-  serves = λ log is. subst (λ (setup : Setup). Serves setup log) by (ran-serves core.setup log (ran log is));
+  serves = λ log is. subst (λ (s : Setup). Serves s log) by (ran-serves setup log (ran log is));
 }
 
 serves : (config : Config) (core : Core) (told : Option Log) → core.setup ≡ setup_of config → StandsFor Stands core told → ListensFirst config.proxy.listen config.proxy.admin_listen told → ServesAt config told
-serves config core told by standing listens = serves-by config core told by (λ log is. ran-of core log (standing.holds log is)) listens
+serves config core told by standing listens = serves-by config core.setup told by (λ log is. ran-of core log (standing.holds log is)) listens
 
 worn : (turns : ℕ) (reads : _) (sends : _) (log : Log) → IsOut turns reads sends log ⊎ IsBusy log → (wakes_of log ≡ turns) ⊎ IsBusy log
 worn turns reads sends log (inl out) = inl out.woke
 worn turns reads sends log (inr busy) = inr busy
+
+pub returns-in_err-core-clause-err : goal.returns-in_err-core-clause-err
+returns-in_err-core-clause-err g c =
+    let p = err_from_is_err_and c.from_residual.result c.from_residual.ensures.1 in
+    rw (p.1, p.2) (inl (record { empty = c.requires.fresh }))
 
 pub returns-in-Over-clause-ok : goal.returns-in-Over-clause-ok
 returns-in-Over-clause-ok g c = record {
