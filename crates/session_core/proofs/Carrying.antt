@@ -5,13 +5,16 @@ use Rattle.ready_loop.specs.Machine.{Acts, CarriesOver, Closes, HasActed, IsAwai
 use Rattle.mx_base.specs.declared.names.ClientNo.{ClientNo}
 use Rattle.router_world.specs.World.{closed_by, closes_next, late_closes, late_leaves, late_of, offers, step, tables_after, wrote_on}
 use Rattle.router_world.specs.declared.seat.Seat.{Seat}
-use Rattle.session_core.specs.Says.{Asked, Becomes, asks, awaits, changed, farewell, next_leaver, on_event, reads, sends, until_of}
+use Rattle.session_core.specs.Says.{Asked, Becomes, asks, awaits, changed, farewell, next_leaver, on_event, quit_at, quitter_of, reads, sends, until_of}
 use Rattle.session_core.{proofs.Standing.IsApart, proofs.Standing.acted-after, proofs.Standing.apart-of, proofs.Standing.awaited-after, specs.Stands.Stands}
 use Rattle.router_world.proofs.{Promises.offers-none, Stepping.done}
-use Rattle.lend_core.specs.Changes.{closes_first}
+use Rattle.lend_core.specs.{Changes.closes_first, Events.quits_on, Lends.Lends}
+use Rattle.session_core.specs.declared.known.Leaver.{Leaver}
+use Rattle.std.specs.List.{list_any}
+use Rattle.std.specs.Option.{option_or}
 use Rattle.session_core.proofs.Standing.{carried, due_in, unasked, sends-after, tables-more, waits-after}
 use Rattle.std.proofs.Common.{ap, append-nil, append_assoc, arith, inl, inr, subst, sym, ◌∙◌}
-use Rattle.std.specs.Prelude.{IfSome, IsSome, List, None, OnOk, Option, Result, Some, [], false, is_some, length, nat_eq, refl, take, true, ℕ, ◌++◌, ◌∷◌, ◌≡◌}
+use Rattle.std.specs.Prelude.{Bool, IfSome, IsSome, List, None, OnOk, Option, Result, Some, [], cond, false, is_some, length, nat_eq, refl, take, true, tt, ℕ, ◌++◌, ◌∷◌, ◌≡◌, ◌⊎◌}
 use Rattle.mx_base.{specs.Fields.AreBytes, specs.Sent.MayTake, specs.Sent.Sent, specs.declared.names.LinkId.LinkId}
 use Rattle.mx_wire.{specs.Growth.bool_cases, specs.Moments.AllLawful, specs.Moments.lawful-more, specs.Tells.Fits, specs.declared.entry.Entry.Entry}
 use Rattle.promises.{proofs.Moments.one-more, specs.Closes.is_write}
@@ -247,5 +250,82 @@ acts_owe old new result asked =
 
 -- What the core asks for leaves no more to be read or written.
 
+some-either : {X : Type 0} (a b : Option X) → IsSome (option_or a b) → IsSome a ⊎ IsSome b
+some-either None b is = inr is
+some-either (Some x) b is = inl tt
+
+either-some : {X : Type 0} (a b : Option X) → IsSome a ⊎ IsSome b → IsSome (option_or a b)
+either-some None b (inl is) = absurd is
+either-some None b (inr is) = is
+either-some (Some x) b is = tt
+
+-- what a link is offered that is to close was so before its close was asked for
+quitter-said : (link : LinkId) (closing : List LinkId) (quit : Option LinkId) → IsSome (farewell link (quitter_of closing quit))
+    → quits_on link closing quit ≡ true
+quitter-said link [] quit is = absurd is
+quitter-said link (first ∷ later) None is = absurd is
+quitter-said link (first ∷ later) (Some quit) is = grind (arith, common_steps, nat_eq-true, (nat_eq quit.0 first.0), (nat_eq first.0 link.0))
+
+quit-said : (link : LinkId) (lends : Lends) → quits_on link lends.closing lends.quit ≡ true → IsSome (quit_at link lends)
+quit-said link lends is = subst (λ b. IsSome (cond b (Some acts.quit_sent) None)) (sym is) tt
+
+leaver-said : (link : LinkId) (leaver : Option Leaver) (lends : Lends) → IsSome (farewell link (next_leaver leaver lends))
+    → IsSome (farewell link leaver) ⊎ IsSome (quit_at link lends)
+leaver-said link None lends is = inr (quit-said link lends (quitter-said link lends.closing lends.quit is))
+leaver-said link (Some leaver) lends is = by leaver.is_asked is where
+  offered : (here quits : Bool) (bytes : List ℕ) → IsSome (cond here (acts.reply_sent bytes) None)
+      → IsSome (cond here (cond quits (Some acts.quit_sent) (acts.reply_sent bytes)) None)
+  offered true true bytes is = tt
+  offered true false bytes is = is
+  offered false quits bytes is = absurd is
+
+  by : (asked : Bool) → IsSome (farewell link (cond asked (quitter_of lends.closing lends.quit) (Some (record leaver { is_asked = true; quits = false }))))
+      → IsSome (farewell link (Some leaver)) ⊎ IsSome (quit_at link lends)
+  by true is = inr (quit-said link lends (quitter-said link lends.closing lends.quit is))
+  by false is = inl (offered (nat_eq leaver.parting.link.0 link.0) leaver.quits leaver.parting.bytes is)
+
+closed-quit : (parting : List Parting) (tables : Tables) (link : LinkId) → IsSome (quit_at link (closed_by parting tables).lends)
+    → IsSome (quit_at link tables.lends)
+closed-quit (parting ∷ later) tables link is = is
+closed-quit [] tables link is = next tables.lends.closing is where
+  leaves : (client : ClientNo) (o : Option Seat) → IsSome (quit_at link (late_leaves client o tables).lends) → IsSome (quit_at link tables.lends)
+  leaves client None is = is
+  leaves client (Some seat) is = is
+
+  late : (o : Option ClientNo) → IsSome (quit_at link (late_closes o tables).lends) → IsSome (quit_at link tables.lends)
+  late None is = is
+  late (Some client) is = leaves client (tables.seats client.0) is
+
+  first : (closing : List LinkId) → IsSome (quit_at link (closes_first closing tables.lends)) → IsSome (quit_at link tables.lends)
+  first [] is = is
+  first (other ∷ []) is = absurd is
+  first (other ∷ another ∷ later) is = absurd is
+
+  next : (closing : List LinkId) → IsSome (quit_at link (closes_next closing tables).lends) → IsSome (quit_at link tables.lends)
+  next [] is = late (late_of tables.clock) is
+  next (other ∷ later) is = first tables.lends.closing is
+
 pub acts_only : (old new : Core) (result : Option Act) → Asked old new result → ChangesOnly changed reads sends old new
-acts_only old new result asked = grind (arith, common_steps, closed-reads, closed-sends)
+acts_only old new result asked = record { others = λ link unchanged. (
+    let was : changed old link ≡ false = ap (λ xs. list_any (λ (other : LinkId). nat_eq link.0 other.0) xs.items) (sym asked.changed) ∙ unchanged in
+    record {
+      read = λ is. (was, closed-reads at.parting at link (ap (λ (t : Tables). acts.reads t link) (sym asked.tables) ∙ is));
+      written = λ is. (was, said link (subst (λ (l : Option Leaver). IsSome (option_or (farewell link l)
+          (option_or (quit_at link (closed_by at.parting at).lends) (acts.sends (closed_by at.parting at) link)))) asked.leaver
+          (subst (λ (t : Tables). IsSome (option_or (farewell link new.known.leaver) (option_or (quit_at link t.lends) (acts.sends t link)))) asked.tables is)));
+    }) } where
+      abbrev at : Tables
+      at = tables_of old.known
+
+      said : (link : LinkId) → IsSome (option_or (farewell link (next_leaver old.known.leaver at.lends))
+          (option_or (quit_at link (closed_by at.parting at).lends) (acts.sends (closed_by at.parting at) link))) → IsSome (sends old link)
+      said link is = either-some _ _ (elim (some-either _ _ is) [
+        | inl leaves ↦ (elim (leaver-said link old.known.leaver at.lends leaves) [
+          | inl before ↦ inl before
+          | inr quit ↦ inr (either-some _ _ (inl quit))
+        ])
+        | inr others ↦ inr (either-some _ _ (elim (some-either _ _ others) [
+          | inl quit ↦ inl (closed-quit at.parting at link quit)
+          | inr more ↦ inr (closed-sends at.parting at link more)
+        ]))
+      ])

@@ -1,5 +1,8 @@
 -- What changes of what the router knows, and which links may have something new.
-use Rattle.lend_core.specs.{Changes.closes_first, Changes.without_close, Lends.oldest}
+use Rattle.lend_core.specs.{Changes.closes_first, Changes.without_close, Changes.without_link, Decisions.due_on, Decisions.quietly, Decisions.told_by, Lends.oldest, declared.lent.Lent.Lent}
+use Rattle.server_side.specs.Hearing.{Fails, Got, Hears, got_of}
+use Rattle.server_side.specs.declared.hear.Heard.TheVariants.{LoggedIn, Part, Quiet, Whole}
+use Rattle.std.specs.Option.{option_map_or}
 use Rattle.lend_core.specs.{Changes.taken_on, Events.asked, Events.gone, declared.ask.Answered.Answered, declared.ask.Ask.Ask, declared.lender.Lender.Lender}
 use Rattle.lend_core.specs.{Events.heard, Events.left_in, Events.lost, Events.open_failed, Events.opened, Lends.Lends, Lends.Told, Lends.lends_of, Lends.set}
 use Rattle.mx_base.specs.{Sent.MayTake, declared.names.ClientNo.ClientNo, declared.names.LinkId.LinkId}
@@ -9,7 +12,7 @@ use Rattle.router_world.specs.{Tables.without_number, Tables.without_seat, World
 use Rattle.session_core.specs.Says.{Becomes, Tells, known_reads, known_sends, quit_at, quitter_of}
 use Rattle.session_core.specs.{Known.Marked, Known.parted_by, Known.is_at, Known.is_changed, Known.tables_of, declared.known.Known.Known}
 use Rattle.std.proofs.{Common.ap, Common.arith, Common.sym, Common.◌∙◌, lemmas.Grind.common_steps, lemmas.Result.on_ok_weaker}
-use Rattle.std.specs.Prelude.{IsSome, List, None, OnOk, Option, Result, Some, [], false, nat_eq, refl, true, ℕ, ◌++◌, ◌-◌, ◌||◌, ◌∷◌, ◌≡◌}
+use Rattle.std.specs.Prelude.{IsSome, List, None, OnOk, Option, Result, Some, [], false, length, nat_eq, refl, true, ℕ, ◌++◌, ◌-◌, ◌||◌, ◌∷◌, ◌≡◌}
 use Rattle.client_talk.specs.{declared.session.Session.Session}
 use Rattle.{ready_loop.specs.Changes.ChangesOnly, std.specs.HashMap.get, std.specs.Option.option_map}
 use Rattle.router_world.specs.Acts as acts
@@ -162,11 +165,28 @@ pub failed_tells : (old : Known) (lender : Lender) (answer : Option Answered) �
 failed_tells old lender answer is answer_is = tells open_failed None old old lender answer (unmarked old) is answer_is
     (λ k off. grind (arith, common_steps)) (λ k off. grind (arith, common_steps))
 
+-- a QUIT that a link hears is its own
+heard-quits : (k link : LinkId) (piece : List ℕ) (lends : Lends) → is_at k (Some link) ≡ false → IsSome (quit_at k (heard link piece lends).lends)
+    → IsSome (quit_at k lends)
+heard-quits k link piece lends off is = by (lends.links link.0) is where
+  told : (lent : Lent) (got : Got) → IsSome (quit_at k (told_by link (due_on lent.backend) lent (length piece) got (without_link link lends)).lends)
+      → IsSome (quit_at k lends)
+  told lent (Hears Quiet left) is = is
+  told lent (Hears (Part used) left) is = is
+  told lent (Hears LoggedIn left) is = grind (arith, common_steps)
+  told lent (Hears (Whole used) left) is = grind (arith, common_steps)
+  told lent (Fails fault) is = grind (arith, common_steps)
+
+  by : (o : Option Lent) → IsSome (quit_at k (option_map_or (λ (lent : Lent). told_by link (due_on lent.backend) lent (length piece)
+      (got_of piece lent.backend) (without_link link lends)) o (quietly (without_link link lends))).lends) → IsSome (quit_at k lends)
+  by None is = is
+  by (Some lent) is = told lent (got_of piece lent.backend) is
+
 module _ (link : LinkId) (old mid : Known) (lender : Lender) (answer : Option Answered) (marked : Marked (Some link) old mid) where
   pub heard_tells : (piece : List ℕ) → lends_of lender ≡ (heard link piece (lends_of mid.lender)).lends
       → answer ≡ (heard link piece (lends_of mid.lender)).answer → Tells (heard link piece (tables_of old).lends) answer old (record mid { lender = lender })
   heard_tells piece is said = tells (heard link piece) _ old mid lender answer marked is said (λ k off. grind (arith, common_steps))
-      (λ k off. grind (arith, common_steps))
+      (λ k off. heard-quits k link piece (tables_of old).lends off)
 
   pub lost_tells : lends_of lender ≡ (lost link (lends_of mid.lender)).lends → answer ≡ (lost link (lends_of mid.lender)).answer
       → Tells (lost link (tables_of old).lends) answer old (record mid { lender = lender })
