@@ -5,13 +5,16 @@ use Rattle.ready_loop.specs.Machine.{Acts, CarriesOver, Closes, HasActed, IsAwai
 use Rattle.mx_base.specs.declared.names.ClientNo.{ClientNo}
 use Rattle.router_world.specs.World.{closed_by, closes_next, late_closes, late_leaves, late_of, offers, step, tables_after, wrote_on}
 use Rattle.router_world.specs.declared.seat.Seat.{Seat}
-use Rattle.session_core.specs.Says.{Asked, Becomes, asks, awaits, changed, farewell, next_leaver, on_event, reads, sends, until_of}
+use Rattle.session_core.specs.Says.{Asked, Becomes, acting, asks, awaits, changed, farewell, next_leaver, on_event, quit_at, quitter_of, reads, sends, until_of}
 use Rattle.session_core.{proofs.Standing.IsApart, proofs.Standing.acted-after, proofs.Standing.apart-of, proofs.Standing.awaited-after, specs.Stands.Stands}
 use Rattle.router_world.proofs.{Promises.offers-none, Stepping.done}
-use Rattle.lend_core.specs.Changes.{closes_first}
+use Rattle.lend_core.specs.{Changes.closes_first, Events.quits_on, Lends.Lends}
+use Rattle.session_core.specs.declared.known.Leaver.{Leaver}
+use Rattle.std.specs.List.{list_any}
+use Rattle.std.specs.Option.{option_or}
 use Rattle.session_core.proofs.Standing.{carried, due_in, unasked, sends-after, tables-more, waits-after}
 use Rattle.std.proofs.Common.{ap, append-nil, append_assoc, arith, inl, inr, subst, sym, ◌∙◌}
-use Rattle.std.specs.Prelude.{IfSome, IsSome, List, None, OnOk, Option, Result, Some, [], false, is_some, length, nat_eq, refl, take, true, ℕ, ◌++◌, ◌∷◌, ◌≡◌}
+use Rattle.std.specs.Prelude.{Bool, IfSome, IsSome, List, None, OnOk, Option, Result, Some, [], cond, false, is_some, length, nat_eq, refl, take, true, ℕ, ◌++◌, ◌∷◌, ◌≡◌, ◌⊎◌}
 use Rattle.mx_base.{specs.Fields.AreBytes, specs.Sent.MayTake, specs.Sent.Sent, specs.declared.names.LinkId.LinkId}
 use Rattle.mx_wire.{specs.Growth.bool_cases, specs.Moments.AllLawful, specs.Moments.lawful-more, specs.Tells.Fits, specs.declared.entry.Entry.Entry}
 use Rattle.promises.{proofs.Moments.one-more, specs.Closes.is_write}
@@ -21,6 +24,8 @@ use Rattle.session_core.{specs.Known.tables_of, specs.declared.known.Known.Known
 use Rattle.std.{proofs.lemmas.Grind.common_steps, proofs.lemmas.List.length-take-le, proofs.lemmas.Result.on_ok_weaker, specs.Option.option_to_list}
 use Rattle.{client_session.specs.Setups.Setup, lend_core.specs.Events.left_in, packet_frame.specs.PacketLaws.nat_eq-true}
 use Rattle.mx_wire.specs.declared.entry.Entry.TheVariants as entry
+use Rattle.ready_loop.specs.declared.machines.Act.TheVariants as act
+use Rattle.client_session.specs.declared.setup.ServerAt.{ServerAt}
 use Rattle.router_world.specs.Acts as acts
 
 -- nothing was offered to a link where none is to close
@@ -241,11 +246,103 @@ acts_awaited old new result asked = (let at = asked.is in let tables = asked.tab
 pub acts_carry : (old new : Core) (result : Option Act) → Asked old new result → Acts Stands due_in sends old new result
 acts_carry old new result asked = subst (λ (c : Core). Acts Stands due_in sends old c result) (sym asked.same) (grind (arith, common_steps, closes))
 
+acting-closes : (next : Option LinkId) (target : Option ServerAt) (waiting : List ClientNo) (link : LinkId)
+    → Some (act.Close link) ≡ acting next target waiting → next ≡ Some link
+acting-closes (Some other) target waiting link is = cc
+acting-closes None target waiting link is = grind (arith, common_steps)
+
 pub acts_owe : (old new : Core) (result : Option Act) → Asked old new result → OwesFarewell Stands (lends old.setup) sends old new result
-acts_owe old new result asked =
-    subst (λ (c : Core). OwesFarewell Stands (lends old.setup) sends old c result) (sym asked.same) (grind (arith, common_steps, farewell-whole))
+acts_owe old new result asked = subst (λ (c : Core). OwesFarewell Stands (lends old.setup) sends old c result) (sym asked.same) (by result asked.is) where
+  by : (r : Option Act) → r ≡ acting (acts.next_close (tables_of old.known)) old.setup.target (tables_of old.known).lends.waiting
+      → OwesFarewell Stands (lends old.setup) sends old (record old { known = new.known }) r
+  by None is = tt
+  by (Some (act.Open server address)) is = tt
+  by (Some (act.Close link)) is = farewell-whole old new.known link
+      (acting-closes (acts.next_close (tables_of old.known)) old.setup.target (tables_of old.known).lends.waiting link is) asked.tables asked.leaver
 
 -- What the core asks for leaves no more to be read or written.
 
+none-some : {A : Type 0} → false ≡ true → A
+none-some is = cc
+
+some-either : {X : Type 0} (a b : Option X) → IsSome (option_or a b) → IsSome a ⊎ IsSome b
+some-either None b is = inr is
+some-either (Some x) b is = inl refl
+
+either-some : {X : Type 0} (a b : Option X) → IsSome a ⊎ IsSome b → IsSome (option_or a b)
+either-some None b (inl is) = none-some is
+either-some None b (inr is) = is
+either-some (Some x) b is = refl
+
+-- what a link is offered that is to close was so before its close was asked for
+quitter-said : (link : LinkId) (closing : List LinkId) (quit : Option LinkId) → IsSome (farewell link (quitter_of closing quit))
+    → quits_on link closing quit ≡ true
+quitter-said link [] quit is = none-some is
+quitter-said link (first ∷ later) None is = none-some is
+quitter-said link (first ∷ later) (Some quit) is = grind (arith, common_steps, nat_eq-true, (nat_eq quit.0 first.0), (nat_eq first.0 link.0))
+
+quit-said : (link : LinkId) (lends : Lends) → quits_on link lends.closing lends.quit ≡ true → IsSome (quit_at link lends)
+quit-said link lends is = subst (λ b. IsSome (cond b (Some acts.quit_sent) None)) (sym is) refl
+
+leaver-said : (link : LinkId) (leaver : Option Leaver) (lends : Lends) → IsSome (farewell link (next_leaver leaver lends))
+    → IsSome (farewell link leaver) ⊎ IsSome (quit_at link lends)
+leaver-said link None lends is = inr (quit-said link lends (quitter-said link lends.closing lends.quit is))
+leaver-said link (Some leaver) lends is = by leaver.is_asked is where
+  offered : (here quits : Bool) (bytes : List ℕ) → IsSome (cond here (acts.reply_sent bytes) None)
+      → IsSome (cond here (cond quits (Some acts.quit_sent) (acts.reply_sent bytes)) None)
+  offered true true bytes is = refl
+  offered true false bytes is = is
+  offered false quits bytes is = none-some is
+
+  by : (asked : Bool) → IsSome (farewell link (cond asked (quitter_of lends.closing lends.quit) (Some (record leaver { is_asked = true; quits = false }))))
+      → IsSome (farewell link (Some leaver)) ⊎ IsSome (quit_at link lends)
+  by true is = inr (quit-said link lends (quitter-said link lends.closing lends.quit is))
+  by false is = inl (offered (nat_eq leaver.parting.link.0 link.0) leaver.quits leaver.parting.bytes is)
+
+closed-quit : (parting : List Parting) (tables : Tables) (link : LinkId) → IsSome (quit_at link (closed_by parting tables).lends)
+    → IsSome (quit_at link tables.lends)
+closed-quit (parting ∷ later) tables link is = is
+closed-quit [] tables link is = next tables.lends.closing is where
+  leaves : (client : ClientNo) (o : Option Seat) → IsSome (quit_at link (late_leaves client o tables).lends) → IsSome (quit_at link tables.lends)
+  leaves client None is = is
+  leaves client (Some seat) is = is
+
+  late : (o : Option ClientNo) → IsSome (quit_at link (late_closes o tables).lends) → IsSome (quit_at link tables.lends)
+  late None is = is
+  late (Some client) is = leaves client (tables.seats client.0) is
+
+  first : (closing : List LinkId) → IsSome (quit_at link (closes_first closing tables.lends)) → IsSome (quit_at link tables.lends)
+  first [] is = is
+  first (other ∷ []) is = none-some is
+  first (other ∷ another ∷ later) is = none-some is
+
+  next : (closing : List LinkId) → IsSome (quit_at link (closes_next closing tables).lends) → IsSome (quit_at link tables.lends)
+  next [] is = late (late_of tables.clock) is
+  next (other ∷ later) is = first tables.lends.closing is
+
 pub acts_only : (old new : Core) (result : Option Act) → Asked old new result → ChangesOnly changed reads sends old new
-acts_only old new result asked = grind (arith, common_steps, closed-reads, closed-sends)
+acts_only old new result asked = record {
+  others = λ link unchanged. (
+      let was : changed old link ≡ false = ap (λ xs. list_any (λ (other : LinkId). nat_eq link.0 other.0) xs.items) (sym asked.changed) ∙ unchanged in
+      record {
+        read = λ is. (was, closed-reads (tables_of old.known).parting (tables_of old.known) link (ap (λ (t : Tables). acts.reads t link) (sym asked.tables) ∙ is));
+        written = λ is. (
+          was,
+          said link (subst (λ (l : Option Leaver). IsSome (option_or (farewell link l)
+              (option_or (quit_at link (closed_by (tables_of old.known).parting (tables_of old.known)).lends) (acts.sends (closed_by (tables_of old.known).parting (tables_of old.known)) link)))) asked.leaver
+              (subst (λ (t : Tables). IsSome (option_or (farewell link new.known.leaver) (option_or (quit_at link t.lends) (acts.sends t link)))) asked.tables is)),
+        );
+      });
+} where
+  said : (link : LinkId) → IsSome (option_or (farewell link (next_leaver old.known.leaver (tables_of old.known).lends))
+      (option_or (quit_at link (closed_by (tables_of old.known).parting (tables_of old.known)).lends) (acts.sends (closed_by (tables_of old.known).parting (tables_of old.known)) link))) → IsSome (sends old link)
+  said link is = either-some _ _ (elim (some-either _ _ is) [
+    | inl leaves ↦ (elim (leaver-said link old.known.leaver (tables_of old.known).lends leaves) [
+      | inl before ↦ inl before
+      | inr quit ↦ inr (either-some _ _ (inl quit))
+    ])
+    | inr others ↦ inr (either-some _ _ (elim (some-either _ _ others) [
+      | inl quit ↦ inl (closed-quit (tables_of old.known).parting (tables_of old.known) link quit)
+      | inr more ↦ inr (closed-sends (tables_of old.known).parting (tables_of old.known) link more)
+    ]))
+  ])

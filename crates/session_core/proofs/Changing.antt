@@ -1,5 +1,12 @@
 -- What changes of what the router knows, and which links may have something new.
-use Rattle.lend_core.specs.{Changes.closes_first, Changes.without_close, Lends.oldest}
+use Rattle.lend_core.specs.{Changes.closes_first, Changes.without_close, Changes.without_link, Decisions.closed, Decisions.dropped, Decisions.due_on, Decisions.is_clean, Decisions.kept_for, Decisions.may_stay, Decisions.quietly, Decisions.told_by, Lends.oldest, declared.lent.Lent.Lent}
+use Rattle.lend_core.specs.Events.{quits_on}
+use Rattle.packet_frame.specs.PacketLaws.{nat_eq-true}
+use Rattle.server_side.specs.Handing.{without_reply}
+use Rattle.std.proofs.Common.{subst}
+use Rattle.server_side.specs.Hearing.{Fails, Got, Hears, got_of}
+use Rattle.server_side.specs.declared.hear.Heard.TheVariants.{LoggedIn, Part, Quiet, Whole}
+use Rattle.std.specs.Option.{option_map_or}
 use Rattle.lend_core.specs.{Changes.taken_on, Events.asked, Events.gone, declared.ask.Answered.Answered, declared.ask.Ask.Ask, declared.lender.Lender.Lender}
 use Rattle.lend_core.specs.{Events.heard, Events.left_in, Events.lost, Events.open_failed, Events.opened, Lends.Lends, Lends.Told, Lends.lends_of, Lends.set}
 use Rattle.mx_base.specs.{Sent.MayTake, declared.names.ClientNo.ClientNo, declared.names.LinkId.LinkId}
@@ -9,7 +16,7 @@ use Rattle.router_world.specs.{Tables.without_number, Tables.without_seat, World
 use Rattle.session_core.specs.Says.{Becomes, Tells, known_reads, known_sends, quit_at, quitter_of}
 use Rattle.session_core.specs.{Known.Marked, Known.parted_by, Known.is_at, Known.is_changed, Known.tables_of, declared.known.Known.Known}
 use Rattle.std.proofs.{Common.ap, Common.arith, Common.sym, Common.◌∙◌, lemmas.Grind.common_steps, lemmas.Result.on_ok_weaker}
-use Rattle.std.specs.Prelude.{IsSome, List, None, OnOk, Option, Result, Some, [], false, nat_eq, refl, true, ℕ, ◌++◌, ◌-◌, ◌||◌, ◌∷◌, ◌≡◌}
+use Rattle.std.specs.Prelude.{Bool, IsSome, List, None, OnOk, Option, Result, Some, [], cond, false, length, nat_eq, refl, true, ℕ, ◌++◌, ◌-◌, ◌||◌, ◌∷◌, ◌≡◌}
 use Rattle.client_talk.specs.{declared.session.Session.Session}
 use Rattle.{ready_loop.specs.Changes.ChangesOnly, std.specs.HashMap.get, std.specs.Option.option_map}
 use Rattle.router_world.specs.Acts as acts
@@ -162,11 +169,59 @@ pub failed_tells : (old : Known) (lender : Lender) (answer : Option Answered) �
 failed_tells old lender answer is answer_is = tells open_failed None old old lender answer (unmarked old) is answer_is
     (λ k off. grind (arith, common_steps)) (λ k off. grind (arith, common_steps))
 
+-- a QUIT that a link hears is its own
+heard-quits : (k link : LinkId) (piece : List ℕ) (lends : Lends) → is_at k (Some link) ≡ false → IsSome (quit_at k (heard link piece lends).lends)
+    → IsSome (quit_at k lends)
+heard-quits k link piece lends off is = by (lends.links link.0) is where
+  none-said : (closing : List LinkId) (quit : Option LinkId) → quits_on k closing quit ≡ false
+      → IsSome (cond (quits_on k closing quit) (Some acts.quit_sent) None) → IsSome (quit_at k lends)
+  none-said closing quit none some = absurd (let no : false ≡ true = subst (λ b. IsSome (cond b (Some acts.quit_sent) None)) none some in cc)
+
+  no-quit : (closing : List LinkId) → quits_on k closing None ≡ false
+  no-quit [] = refl
+  no-quit (first ∷ later) = refl
+
+  not-mine : (closing : List LinkId) → quits_on k closing (Some link) ≡ false
+  not-mine [] = refl
+  not-mine (first ∷ later) = grind (arith, common_steps, nat_eq-true, (nat_eq first.0 k.0), (nat_eq link.0 k.0))
+
+  drops : (clean : Bool) → IsSome (quit_at k (dropped clean link (without_link link lends))) → IsSome (quit_at k lends)
+  drops true some = none-said (lends.closing ++ link ∷ []) (Some link) (not-mine (lends.closing ++ link ∷ [])) some
+  drops false some = none-said (lends.closing ++ link ∷ []) None (no-quit (lends.closing ++ link ∷ [])) some
+
+  shut : (owner : Option ClientNo) → IsSome (quit_at k (closed link owner (without_link link lends))) → IsSome (quit_at k lends)
+  shut None some = none-said (lends.closing ++ link ∷ []) None (no-quit (lends.closing ++ link ∷ [])) some
+  shut (Some client) some = none-said (lends.closing ++ link ∷ []) None (no-quit (lends.closing ++ link ∷ [])) some
+
+  kept : (owner : Option ClientNo) (lent : Lent) → IsSome (quit_at k (kept_for owner link lent (without_link link lends))) → IsSome (quit_at k lends)
+  kept None lent some = drops (is_clean lent.backend) some
+  kept (Some client) lent some = some
+
+  -- the reply is whole: the link stays, or is to be closed
+  whole : (stays : Bool) (owner : Option ClientNo) (lent : Lent) → IsSome (quit_at k (cond stays
+      (kept_for owner link lent (without_link link lends)) (closed link owner (without_link link lends)))) → IsSome (quit_at k lends)
+  whole true owner lent some = kept owner lent some
+  whole false owner lent some = shut owner some
+
+  told : (lent : Lent) (got : Got) → IsSome (quit_at k (told_by link (due_on lent.backend) lent (length piece) got (without_link link lends)).lends)
+      → IsSome (quit_at k lends)
+  told lent (Hears Quiet left) is = is
+  told lent (Hears (Part used) left) is = is
+  told lent (Hears LoggedIn left) is = grind (arith, common_steps)
+  told lent (Hears (Whole used) left) is = whole (may_stay (due_on lent.backend) (nat_eq used (length piece))) lent.owner
+      (record { owner = lent.owner; backend = without_reply left }) is
+  told lent (Fails fault) is = grind (arith, common_steps)
+
+  by : (o : Option Lent) → IsSome (quit_at k (option_map_or (λ (lent : Lent). told_by link (due_on lent.backend) lent (length piece)
+      (got_of piece lent.backend) (without_link link lends)) o (quietly (without_link link lends))).lends) → IsSome (quit_at k lends)
+  by None is = is
+  by (Some lent) is = told lent (got_of piece lent.backend) is
+
 module _ (link : LinkId) (old mid : Known) (lender : Lender) (answer : Option Answered) (marked : Marked (Some link) old mid) where
   pub heard_tells : (piece : List ℕ) → lends_of lender ≡ (heard link piece (lends_of mid.lender)).lends
       → answer ≡ (heard link piece (lends_of mid.lender)).answer → Tells (heard link piece (tables_of old).lends) answer old (record mid { lender = lender })
   heard_tells piece is said = tells (heard link piece) _ old mid lender answer marked is said (λ k off. grind (arith, common_steps))
-      (λ k off. grind (arith, common_steps))
+      (λ k off. heard-quits k link piece (tables_of old).lends off)
 
   pub lost_tells : lends_of lender ≡ (lost link (lends_of mid.lender)).lends → answer ≡ (lost link (lends_of mid.lender)).answer
       → Tells (lost link (tables_of old).lends) answer old (record mid { lender = lender })

@@ -73,15 +73,15 @@ apart-sound {log = log} {tables} link told sound is = elim (closes-next link sou
     unquit = rw at (elim sound.lends.one_closes as (λ closing one. tables.lends.closing ≡ closing
         → quit_at p.link (record tables.lends { closing = closing }) ≡ None) [
           | Nobody ↦ λ is. refl
-          | One other ↦ λ is. by other tables.lends.quit (apart-links other p.link (λ same. (let its = (sound.lends.closes other is).is_turn in
+          | One other ↦ λ is. by p.link other tables.lends.quit (apart-links other p.link (λ same. (let its = (sound.lends.closes other is).is_turn in
               let mine = parted-unowned stands.parted told in cc (same, mine, its))))
         ] refl);
   })
 ] where
-  by : (other : LinkId) (quit : Option LinkId) {link : LinkId} → nat_eq other.0 link.0 ≡ false
+  by : (link other : LinkId) (quit : Option LinkId) → nat_eq other.0 link.0 ≡ false
       → quit_at link (record tables.lends { closing = other ∷ []; quit = quit }) ≡ None
-  by other None apart = refl
-  by other (Some quit) {link} apart = ap (λ b. cond (b && nat_eq quit.0 link.0) (Some acts.quit_sent) None) apart
+  by link other None apart = refl
+  by link other (Some quit) apart = ap (λ b. cond (b && nat_eq quit.0 link.0) (Some acts.quit_sent) None) apart
 
 pub apart-of : (core : Core) (log : Log) (link : LinkId) → Stands core log → acts.next_close (tables_of core.known) ≡ Some link
     → IsApart (tables_of core.known) log link

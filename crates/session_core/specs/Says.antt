@@ -99,7 +99,7 @@ quitter_of (link ∷ later) quit = quitter link quit
 
 abbrev pub next_leaver : Option Leaver → Lends → Option Leaver
 next_leaver None lends = quitter_of lends.closing lends.quit
-next_leaver (Some leaver) lends = if leaver.is_asked then quitter_of lends.closing lends.quit else Some (record leaver { is_asked = true })
+next_leaver (Some leaver) lends = if leaver.is_asked then quitter_of lends.closing lends.quit else Some (record leaver { is_asked = true; quits = false })
 
 -- Links are closed before others are opened, which is done where a client waits and a server is configured.
 

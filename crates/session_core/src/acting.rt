@@ -66,6 +66,7 @@ impl Known {
         if let Some(leaver) = &mut self.leaver {
             if !leaver.is_asked {
                 leaver.is_asked = true;
+                leaver.quits = false;
                 if leaver.parting.is_client {
                     self.here = self.here.saturating_sub(1);
                 }
