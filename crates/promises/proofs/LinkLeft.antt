@@ -183,7 +183,6 @@ module _ {service : Service} {log : Log} {link : LinkId} {backend : BackendState
 
   pub link-owed : AllLawful Fits log → IsNeeded log turn.client backend → (l : Sent) → left backend ≡ Some l → l.bytes ≡ owed service link log
   link-owed told needed l is = by (left-at backend l is) where
-
     by : LeftAt backend l → l.bytes ≡ owed service link log
     by (OfLogin some same) = cc (same, whole told, first-some backend.own rest some)
     by (OfCommand command none has less same) = ap (λ (l : Sent). l.bytes) same ∙ sym (cc (whole told, none, behind)) where

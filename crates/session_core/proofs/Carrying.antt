@@ -321,23 +321,28 @@ closed-quit [] tables link is = next tables.lends.closing is where
   next (other ∷ later) is = first tables.lends.closing is
 
 pub acts_only : (old new : Core) (result : Option Act) → Asked old new result → ChangesOnly changed reads sends old new
-acts_only old new result asked = record { others = λ link unchanged. (
-    let was : changed old link ≡ false = ap (λ xs. list_any (λ (other : LinkId). nat_eq link.0 other.0) xs.items) (sym asked.changed) ∙ unchanged in
-    record {
-      read = λ is. (was, closed-reads (tables_of old.known).parting (tables_of old.known) link (ap (λ (t : Tables). acts.reads t link) (sym asked.tables) ∙ is));
-      written = λ is. (was, said link (subst (λ (l : Option Leaver). IsSome (option_or (farewell link l)
-          (option_or (quit_at link (closed_by (tables_of old.known).parting (tables_of old.known)).lends) (acts.sends (closed_by (tables_of old.known).parting (tables_of old.known)) link)))) asked.leaver
-          (subst (λ (t : Tables). IsSome (option_or (farewell link new.known.leaver) (option_or (quit_at link t.lends) (acts.sends t link)))) asked.tables is)));
-    }) } where
-      said : (link : LinkId) → IsSome (option_or (farewell link (next_leaver old.known.leaver (tables_of old.known).lends))
-          (option_or (quit_at link (closed_by (tables_of old.known).parting (tables_of old.known)).lends) (acts.sends (closed_by (tables_of old.known).parting (tables_of old.known)) link))) → IsSome (sends old link)
-      said link is = either-some _ _ (elim (some-either _ _ is) [
-        | inl leaves ↦ (elim (leaver-said link old.known.leaver (tables_of old.known).lends leaves) [
-          | inl before ↦ inl before
-          | inr quit ↦ inr (either-some _ _ (inl quit))
-        ])
-        | inr others ↦ inr (either-some _ _ (elim (some-either _ _ others) [
-          | inl quit ↦ inl (closed-quit (tables_of old.known).parting (tables_of old.known) link quit)
-          | inr more ↦ inr (closed-sends (tables_of old.known).parting (tables_of old.known) link more)
-        ]))
-      ])
+acts_only old new result asked = record {
+  others = λ link unchanged. (
+      let was : changed old link ≡ false = ap (λ xs. list_any (λ (other : LinkId). nat_eq link.0 other.0) xs.items) (sym asked.changed) ∙ unchanged in
+      record {
+        read = λ is. (was, closed-reads (tables_of old.known).parting (tables_of old.known) link (ap (λ (t : Tables). acts.reads t link) (sym asked.tables) ∙ is));
+        written = λ is. (
+          was,
+          said link (subst (λ (l : Option Leaver). IsSome (option_or (farewell link l)
+              (option_or (quit_at link (closed_by (tables_of old.known).parting (tables_of old.known)).lends) (acts.sends (closed_by (tables_of old.known).parting (tables_of old.known)) link)))) asked.leaver
+              (subst (λ (t : Tables). IsSome (option_or (farewell link new.known.leaver) (option_or (quit_at link t.lends) (acts.sends t link)))) asked.tables is)),
+        );
+      });
+} where
+  said : (link : LinkId) → IsSome (option_or (farewell link (next_leaver old.known.leaver (tables_of old.known).lends))
+      (option_or (quit_at link (closed_by (tables_of old.known).parting (tables_of old.known)).lends) (acts.sends (closed_by (tables_of old.known).parting (tables_of old.known)) link))) → IsSome (sends old link)
+  said link is = either-some _ _ (elim (some-either _ _ is) [
+    | inl leaves ↦ (elim (leaver-said link old.known.leaver (tables_of old.known).lends leaves) [
+      | inl before ↦ inl before
+      | inr quit ↦ inr (either-some _ _ (inl quit))
+    ])
+    | inr others ↦ inr (either-some _ _ (elim (some-either _ _ others) [
+      | inl quit ↦ inl (closed-quit (tables_of old.known).parting (tables_of old.known) link quit)
+      | inr more ↦ inr (closed-sends (tables_of old.known).parting (tables_of old.known) link more)
+    ]))
+  ])

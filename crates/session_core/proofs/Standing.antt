@@ -72,10 +72,10 @@ apart-sound {log = log} {tables} link told sound is = elim (closes-next link sou
     unnumbered = λ some. stands.unnumbered;
     unquit = rw at (elim sound.lends.one_closes as (λ closing one. tables.lends.closing ≡ closing
         → quit_at p.link (record tables.lends { closing = closing }) ≡ None) [
-      | Nobody ↦ λ is. refl
-      | One other ↦ λ is. by p.link other tables.lends.quit (apart-links other p.link (λ same. (let its = (sound.lends.closes other is).is_turn in
-          let mine = parted-unowned stands.parted told in cc (same, mine, its))))
-    ] refl);
+          | Nobody ↦ λ is. refl
+          | One other ↦ λ is. by p.link other tables.lends.quit (apart-links other p.link (λ same. (let its = (sound.lends.closes other is).is_turn in
+              let mine = parted-unowned stands.parted told in cc (same, mine, its))))
+        ] refl);
   })
 ] where
   by : (link other : LinkId) (quit : Option LinkId) → nat_eq other.0 link.0 ≡ false
