@@ -28,9 +28,9 @@ ends _ name held rb rn log pb pn old before new now status early stops told = ab
 early-one : (given : Stop) (name : List ℕ) (held : Held) (rb rn : ℕ) (log : Option Log) (pb pn : ℕ) (old : Option (List ℕ)) (before : ℕ) (new : Option (List ℕ)) (now status : ℕ) → ServeStops given name held rb rn log pb pn → Told given old before new now status → (status ≡ 1) ⊎ (status ≡ 3) → IsEarly given
 early-one stop.ReadFault name held rb rn log pb pn old before new now status stops told is = tt
 early-one (stop.BadConfig fault) name held rb rn log pb pn old before new now status stops told is = tt
-early-one stop.OutOfMemory name held rb rn log pb pn old before new now status stops told is = elim is [ | inl one ↦ absurd (omega (arith, told.is, one)) | inr three ↦ absurd (omega (arith, told.is, three)) ]
-early-one stop.ListenFault name held rb rn log pb pn old before new now status stops told is = elim is [ | inl one ↦ absurd (omega (arith, told.is, one)) | inr three ↦ absurd (omega (arith, told.is, three)) ]
-early-one stop.TurnsSpent name held rb rn log pb pn old before new now status stops told is = elim is [ | inl one ↦ absurd (omega (arith, told.is, one)) | inr three ↦ absurd (omega (arith, told.is, three)) ]
+early-one stop.OutOfMemory name held rb rn log pb pn old before new now status stops told is = elim is [ inl one ↦ absurd (omega (arith, told.is, one)) | inr three ↦ absurd (omega (arith, told.is, three)) ]
+early-one stop.ListenFault name held rb rn log pb pn old before new now status stops told is = elim is [ inl one ↦ absurd (omega (arith, told.is, one)) | inr three ↦ absurd (omega (arith, told.is, three)) ]
+early-one stop.TurnsSpent name held rb rn log pb pn old before new now status stops told is = elim is [ inl one ↦ absurd (omega (arith, told.is, one)) | inr three ↦ absurd (omega (arith, told.is, three)) ]
 early-one _ name held rb rn log pb pn old before new now status stops told is = absurd stops
 
 no-usage : (name : List ℕ) (held : Held) (rb rn : ℕ) (log : Option Log) (pb pn : ℕ) (old : Option (List ℕ)) (before : ℕ) (new : Option (List ℕ)) (now status : ℕ) → ServeOutcome name held rb rn log pb pn old before new now status → status ≢ 2
