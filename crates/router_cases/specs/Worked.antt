@@ -94,7 +94,7 @@ abbrev pub router : Router
 router = record {
   reads = reads;
   proxy = proxy;
-  users = record { name = codes "app"; password = []; default_hostgroup = group } ∷ [];
+  users = record { name = codes "app"; password = []; default_hostgroup = group; whitelist = false } ∷ [];
   servers = record {
     hostgroup = group;
     address = here;

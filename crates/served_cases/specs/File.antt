@@ -87,7 +87,8 @@ row = record {
 abbrev pub config : Config
 config = record {
   proxy = proxy;
-  users = record { name = codes "app"; password = []; default_hostgroup = home } ∷ [];
+  users = record { name = codes "app"; password = []; default_hostgroup = home; whitelist = false } ∷ [];
   servers = server_in home 3306 ∷ server_in others 3307 ∷ [];
   rules = row ∷ [];
+  whitelist = [];
 }

@@ -25,8 +25,8 @@ other = codes "bob"
 abbrev pub router : Router
 router = record first_router {
   users =
-      record { name = codes "app"; password = []; default_hostgroup = group }
-      ∷ record { name = other; password = []; default_hostgroup = group } ∷ [];
+      record { name = codes "app"; password = []; default_hostgroup = group; whitelist = false }
+      ∷ record { name = other; password = []; default_hostgroup = group; whitelist = false } ∷ [];
 }
 
 abbrev pub other_login : Login
