@@ -5,7 +5,6 @@ use Rattle.toml.proofs.OnLiterals.{toml_on_literals}
 use Rattle.mx_base.specs.Decimal.{number as decimal_number, number_to}
 use Rattle.mx_config.specs.Address.{ipv4, address}
 use Rattle.mx_config.specs.Faults.{fault_at}
-use Rattle.mx_config.specs.Lists.{digest_items, digests_of, list_of, list_row}
 use Rattle.mx_config.specs.Reading.{config_of, reading_of, rows_at}
 use Rattle.mx_config.specs.Rows.{key_of, known_only, optional_key, table_at}
 use Rattle.mx_config.specs.RuleRows.{answers_of, client_of, effects_of, judged_rule, patterns_of, rule_of, rule_row, start_of}
@@ -14,7 +13,7 @@ use Rattle.mx_config.specs.Values.{address_value, digest_value, host_value, numb
 use Rattle.served_cases.specs.File.{config, file}
 
 pub read : (is_pattern : List ℕ → Bool) → reading_of is_pattern file ≡ Ok config
-unfolding toml_on_literals is_utf8 chars decimal_number number_to ipv4 address fault_at digest_items digests_of list_of list_row config_of rows_at
+unfolding toml_on_literals is_utf8 chars decimal_number number_to ipv4 address fault_at config_of rows_at
     key_of known_only optional_key table_at answers_of client_of effects_of judged_rule patterns_of rule_of
     rule_row start_of duty_of listening named_server proxy_limits proxy_row proxy_texts row_at rows_from
     server_row user_of user_row address_value digest_value host_value number pattern_value status_value
