@@ -1,6 +1,6 @@
 -- A test of a log against the definitional router, by terms that are given: each entry is one that it makes, and what the terms have is
 -- what it decides.
-use Rattle.std.specs.Prelude.{ℕ, Bool, true, false, not, ◌&&◌, ◌||◌, bytes_eq, nat_eq, if◌then◌else◌, List, [], ◌∷◌, ◌++◌, map, Option, Some, None}
+use Rattle.std.specs.Prelude.{ℕ, suc, ◌+◌, ◌*◌, Bool, true, false, not, ◌&&◌, ◌||◌, bytes_eq, nat_eq, if◌then◌else◌, List, [], ◌∷◌, ◌++◌, map, Option, Some, None}
 use Rattle.std.specs.List.{list_all}
 use Rattle.std.specs.Option.{option_map_or}
 use Rattle.mx_base.specs.declared.names.Address.{Address}
@@ -152,9 +152,19 @@ ours_from fixed terms before now lent (e ∷ log) =
 abbrev pub ours : Fixed → Terms → Log → Bool
 ours fixed terms log = ours_from fixed terms [] (at_first terms) [] log
 
--- how many entries of the beginning are ours, to find the first that isn't
-abbrev pub how_far : Fixed → Terms → (before : Log) → Now → List Lending → Log → List Bool
-how_far fixed terms before now lent [] = []
-how_far fixed terms before now lent (e ∷ log) =
+-- which entry is the first that isn't, and why
+abbrev pub fault : Known → Entry → ℕ
+fault k e =
+    if not (fits k.log e) then 1
+    else if not (is_ours k e) then 2
+    else if not (tells k e) then 3
+    else if not (list_all (gives k e) k.now.tale.clients) then 4
+    else if not (routes k e) then 5
+    else if not (list_all (ends k e) (ending_in k e).ending.tale.clients) then 6
+    else 0
+
+abbrev pub trial : Fixed → Terms → (n : ℕ) → (before : Log) → Now → List Lending → Log → ℕ
+trial fixed terms n before now lent [] = 0
+trial fixed terms n before now lent (e ∷ log) =
     let k = known_by fixed terms before now lent in
-    (fits before e && (is_ours k e && decides k e)) ∷ how_far fixed terms (before ++ e ∷ []) (next terms now e) (lendings k) log
+    if nat_eq (fault k e) 0 then trial fixed terms (suc n) (before ++ e ∷ []) (next terms now e) (lendings k) log else n * 10 + fault k e
