@@ -5,6 +5,7 @@ pub mod Staying
 pub mod Walking
 pub mod Routing
 pub mod Keeping
+pub mod Stepping
 pub mod Tagging
 pub mod Walks
 pub mod Decidedly

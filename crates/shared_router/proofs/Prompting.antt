@@ -278,7 +278,7 @@ module _ (fixed : Fixed) where
           → (b || list_any (λ (c : Client). is_client c.number m.client && nat_eq c.taken m.ordinal) clients) ≡ true
           → (list_any (λ (c : Client). is_client c.number m.client && nat_eq c.taken m.ordinal) clients ≡ true → IsOld clients m) → IsOld (client ∷ clients) m
       by_first true here is later =
-          let parts = and_parts _ _ here in
+          let parts = and_parts (is_client client.number m.client) (nat_eq client.taken m.ordinal) here in
           or_left _ _ (and_from _ _ parts.0 (le-leb m.ordinal client.taken (let same : client.taken ≡ m.ordinal = number_of client.taken m.ordinal parts.1 in omega arith)))
       by_first false here is later = or_right _ _ (later is)
 

@@ -52,6 +52,7 @@ use Rattle.shared_router.proofs.Keeping.{begins_at}
 use Rattle.shared_router.proofs.Parting.{even_at, next, tale_then}
 use Rattle.shared_router.proofs.Routing.{IsSame, agrees_behind, same_at}
 use Rattle.shared_router.proofs.Staying.{log_at}
+use Rattle.shared_router.proofs.Stepping.{AreBegun, begun_then, first_begun, none_begun}
 
 isnt : {A : Type 0} → false ≡ true → A
 isnt is = absurd (cc)
@@ -146,7 +147,7 @@ module _ (fixed : Fixed) (numbered : IsNumbered fixed) where
   step_told w link tag bytes true false to_server begin fresh = isnt begin
   step_told w link tag bytes false begins to_server begin fresh = isnt to_server
 
-  module _ (before later : Log) (link : LinkId) (tag : Tag) (bytes : List ℕ) where
+  module _ (before later : Log) (link : LinkId) (tag : Tag) (bytes : List ℕ) (begun : AreBegun fixed (world_at fixed before)) where
     abbrev e : Entry
     e = entry.Wrote link tag bytes
 
@@ -216,7 +217,7 @@ module _ (fixed : Fixed) (numbered : IsNumbered fixed) where
         → plan.steps link (w.tale.wires link).begun ≡ step_by k link
     step_is is there begins =
         here.told.steps link (w.tale.wires link).begun (step_by k link)
-        (step_told w link tag bytes (is_to_server w.tale link) (may_begin (setup_of fixed) link (w.tale.wires link) w.tale) there begins is.fresh)
+        (step_told w link tag bytes (is_to_server w.tale link) (may_begin (setup_of fixed) link (w.tale.wires link) w.tale) there begins (none_begun fixed w link begun))
 
     abbrev begins_now : Bool
     begins_now = may_begin (setup_of fixed) link (w.tale.wires link) w.tale
@@ -334,17 +335,18 @@ module _ (fixed : Fixed) (numbered : IsNumbered fixed) where
         subst (λ t. SaysBy t (now.next terms (now_at terms before) e).tale) (sym same_now) (subst (λ t. SaysBy w.tale t) (sym same_later)
         (says_by (is_to_server w.tale link) (closes k link) (w.tale.wires link).entered begins_now refl refl refl refl (writes.front, writes.tagged) fits.some fits.opened writes.acted is))
 
-  tag_so : (before later : Log) (e : Entry) → IsOurs fixed before e → Fits before e → TagsSo (final_terms fixed (before ++ e ∷ later)) before e
-  tag_so before later (entry.Wrote link tag bytes) ours fits = wrote_so before later link tag bytes ours.0 ours.1 fits
-  tag_so before later _ ours fits = tt
+  tag_so : (before later : Log) (e : Entry) → AreBegun fixed (world_at fixed before) → IsOurs fixed before e → Fits before e
+      → TagsSo (final_terms fixed (before ++ e ∷ later)) before e
+  tag_so before later (entry.Wrote link tag bytes) begun ours fits = wrote_so before later link tag bytes begun ours.0 ours.1 fits
+  tag_so before later _ begun ours fits = tt
 
-  tags_from : (before later whole : Log) → before ++ later ≡ whole
+  tags_from : (before later whole : Log) → before ++ later ≡ whole → AreBegun fixed (world_at fixed before)
       → LawfulAfter (IsOurs fixed) before later → LawfulAfter Fits before later → LawfulAfter (TagsSo (final_terms fixed whole)) before later
-  tags_from before [] whole is ours fits = tt
-  tags_from before (e ∷ later) whole is ours fits = (
-    subst (λ l. TagsSo (final_terms fixed l) before e) is (tag_so before later e ours.0 fits.0),
-    tags_from (before ++ e ∷ []) later whole (append_assoc before (e ∷ []) later ∙ is) ours.1 fits.1,
+  tags_from before [] whole is begun ours fits = tt
+  tags_from before (e ∷ later) whole is begun ours fits = (
+    subst (λ l. TagsSo (final_terms fixed l) before e) is (tag_so before later e begun ours.0 fits.0),
+    tags_from (before ++ e ∷ []) later whole (append_assoc before (e ∷ []) later ∙ is) (begun_then fixed before e fits.0 begun) ours.1 fits.1,
   )
 
   pub tags_kept : (log : Log) → LawfulAfter (IsOurs fixed) [] log → LawfulAfter Fits [] log → LawfulAfter (TagsSo (final_terms fixed log)) [] log
-  tags_kept log ours fits = tags_from [] log log refl ours fits
+  tags_kept log ours fits = tags_from [] log log refl (first_begun fixed) ours fits

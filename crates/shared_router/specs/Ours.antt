@@ -41,9 +41,8 @@ pub record Writes (k : Known) (link : LinkId) (tag : Tag) (bytes : List ℕ) : T
 abbrev pub StandsBehind : Known → LinkId → Type 0
 StandsBehind k link = StandsRight k.terms k.now link (link_by k link).stage
 
--- What begins on a link to a server: no step was decided of it before; it stands in its session's hostgroup; and it passes the test.
+-- What begins on a link to a server stands in its session's hostgroup, and passes the test.
 pub record Begins (fixed : Fixed) (w : World More) (link : LinkId) (e : Entry) : Type 0 where
-  pub fresh : w.decided.steps link (w.tale.wires link).begun ≡ None
   pub group : StandsBehind (known fixed (world_step (setup_of fixed) (shared fixed) w e)) link
   pub passes : PassesBy (setup_of fixed) (shared fixed) w e
 
