@@ -13,3 +13,4 @@ pub mod Numbered
 pub mod Lone
 pub mod Asking
 pub mod Prompting
+pub mod Readying

@@ -1,7 +1,7 @@
 //! The router with shared links, as a world that decides: what it does at each entry of a log, and what such a log keeps.
 #![tactic(auto)]
 
-ghost use Rattle.std.specs.Prelude.{◌≡◌, ◌++◌, ℕ, Bool};
+ghost use Rattle.std.specs.Prelude.{◌≡◌, ◌++◌, ℕ, Bool, Some};
 ghost use Rattle.mx_base.specs.declared.names.LinkId.{LinkId};
 ghost use Rattle.mx_wire.specs.Log.{Log};
 ghost use Rattle.mx_wire.specs.Moments.{AllLawful, AtEachMoment};
@@ -17,8 +17,12 @@ ghost use Rattle.router_promises.specs.Verdicts.{verdict};
 ghost use Rattle.router_promises.specs.Terms.{IsRouters, Tried, tale_at};
 ghost use Rattle.shared_router.specs.Fixed.{Fixed, IsNumbered, setup_of};
 ghost use Rattle.shared_router.specs.Judged.{IsFresh, IsMet, JudgedSo, PromptSo, with_rest};
+ghost use Rattle.shared_router.specs.Known.{Known};
+ghost use Rattle.shared_router.specs.Lends.{readied_now};
 ghost use Rattle.shared_router.specs.More.{More, terms_of};
 ghost use Rattle.shared_router.specs.Ours.{IsOurLog};
+ghost use Rattle.shared_router.specs.Waits.{Waits};
+ghost use Rattle.tale_world.specs.Policy.{Readied};
 ghost use Rattle.shared_router.specs.Shared.{final_terms, shared, taking_in, world_at};
 
 /// By what was decided in the end, each beginning of the log tells the tale of the world then.
@@ -61,4 +65,9 @@ pub fn is_lawful()
 /// What it writes has its tags, and stands where it should.
 pub fn is_tagged()
     ensures { (fixed : Fixed) (log : Log) → IsNumbered fixed → IsOurLog fixed log → AllLawful (TagsSo (final_terms fixed log)) log }
+{}
+
+/// A link is readied for a statement that waits: in its client's present session, as it is due there.
+pub fn readied_waits()
+    ensures { (k : Known) (link : LinkId) (r : Readied) → readied_now k link ≡ Some r → Waits k r }
 {}
