@@ -1,0 +1,16 @@
+pub mod Parting
+pub mod Verdicts
+pub mod Judging
+pub mod Staying
+pub mod Walking
+pub mod Routing
+pub mod Keeping
+pub mod Stepping
+pub mod Tagging
+pub mod Walks
+pub mod Decidedly
+pub mod Numbered
+pub mod Lone
+pub mod Asking
+pub mod Prompting
+pub mod Readying
