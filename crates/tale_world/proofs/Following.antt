@@ -135,7 +135,7 @@ module _ {X : Type 0} (setup : Setup) (by : Deciding X) where
   pub since-looked : (w : World X) (client : Client) → IsMore (decided_looked setup by w client) (decided_next setup by w client)
   since-looked w client = up-more w client (is_up setup (decided_looked setup by w client) w.tale client)
 
-  next-more : (w : World X) (client : Client) → IsMore w.decided (decided_next setup by w client)
+  pub next-more : (w : World X) (client : Client) → IsMore w.decided (decided_next setup by w client)
   next-more w client = more-trans w.decided (decided_looked setup by w client) (decided_next setup by w client) (looked-more w client) (since-looked w client)
 
   -- a plan that agrees with more than what was looked at is the same for the client
@@ -228,7 +228,7 @@ module _ {X : Type 0} (setup : Setup) (by : Deciding X) where
   last_more : (w : World X) (client : Client) → IsMore w.decided (decided_last by w client)
   last_more w client = own-more w.decided (λ m. is_message m (name_of client client.taken)) (by.given w)
 
-  called_same : (moment : ℕ) (view : View) (e : Entry) (w : World X) (client : Client) → w.tale.moment ≡ moment → moment ≤ suc w.decided.until
+  pub called_same : (moment : ℕ) (view : View) (e : Entry) (w : World X) (client : Client) → w.tale.moment ≡ moment → moment ≤ suc w.decided.until
       → (plan : Plan) → Agrees (decided_last by w client) moment plan
       → is_called (decided_last by w client) w.tale.moment view e client
       ≡ ((is_event_of view client e || gives_up plan w.tale.moment (name_of client client.taken)) && not (is_before w.tale.moment (plan.ends client.number)))

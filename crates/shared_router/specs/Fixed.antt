@@ -1,0 +1,33 @@
+-- What one router goes by beside its log: its configuration, and what a setup of log_story has to have before the log.
+use Rattle.std.specs.Prelude.{◌≡◌, ℕ, Bool, List, Option}
+use Rattle.private_model.specs.Commands.{Account, Number}
+use Rattle.private_model.specs.Names.{ClientNo, ServerId}
+use Rattle.private_model.specs.Story.{Key}
+use Rattle.private_model.specs.View.{Setup}
+use Rattle.session_state.specs.declared.place.Place.{Place}
+use Rattle.router_promises.specs.Router.{Router}
+
+-- Keys are numbered once for all; accounts and places are guessed, and have to fit what the log says; insert ids of 64 bits;
+-- and at which entries, counted from 1, memory is refused to what a client asks for.
+pub record Fixed : Type 0 where
+  pub router : Router
+  pub keys : ℕ → Key
+  pub number_of : Key → ℕ
+  pub accounts : ClientNo → Account
+  pub places : ClientNo → Place
+  pub stored : (server : ServerId) → List ℕ
+  pub ids : ℕ → Option Number
+  pub starves : (entry : ℕ) → ClientNo → Bool
+
+-- each text and place has its number
+abbrev pub IsNumbered : Fixed → Type 0
+IsNumbered fixed = (key : Key) → fixed.keys (fixed.number_of key) ≡ key
+
+abbrev pub setup_of : Fixed → Setup
+setup_of fixed = record {
+  reads = fixed.router.reads;
+  keys = fixed.keys;
+  accounts = fixed.accounts;
+  places = fixed.places;
+  stored = fixed.stored;
+}

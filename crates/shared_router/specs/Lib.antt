@@ -1,0 +1,12 @@
+pub mod Fixed
+pub mod More
+pub mod Known
+pub mod Spelt
+pub mod Lends
+pub mod Wishes
+pub mod Causes
+pub mod Ends
+pub mod Owed
+pub mod Shared
+pub mod Ours
+pub mod Judged
