@@ -6,4 +6,8 @@ pub mod Walking
 pub mod Routing
 pub mod Keeping
 pub mod Tagging
+pub mod Others
+pub mod Plain
+pub mod Owing
 pub mod Same
+pub mod Later

@@ -28,13 +28,14 @@ use Rattle.tale_world.specs.Served.{SameFor}
 use Rattle.tale_world.specs.World.{are_freed, are_taken, decided_by_now, decided_ends, decided_freed, decided_last, decided_looked, decided_next, decided_told, freed_there, given_up, go_on, goes_on, is_asked, is_called, is_counted, is_ended, is_told, is_up, next_message, next_of, tagged, taken_once, with_login, with_route, with_step, with_taken, world_step}
 use Rattle.tale_world.specs.World.{is_looked_up, is_tagged, looked_at, looked_for}
 use Rattle.tale_world.proofs.Agreeing.{agrees-itself, agrees-less, filled-there, more-refl}
-use Rattle.tale_world.proofs.Following.{looked_same, next-more, since-looked, told-more}
+use Rattle.tale_world.proofs.Following.{are_freed_follows, go_on_follows, looked_same, next-more, since-looked, told-more}
 use Rattle.tale_world.proofs.Looking.{same_messages, same_up}
-use Rattle.shared_router.specs.Fixed.{Fixed, setup_of}
+use Rattle.shared_router.specs.Fixed.{Fixed, IsNumbered, setup_of}
 use Rattle.shared_router.specs.More.{More}
 use Rattle.shared_router.specs.Shared.{shared, world_at}
 use Rattle.shared_router.proofs.Others.{IsOther, entry_keeps}
 use Rattle.shared_router.proofs.Parting.{first, next, world_more}
+use Rattle.shared_router.proofs.Routing.{closed}
 use Rattle.shared_router.proofs.Plain.{IsPlain, IsPlainIf, plain_filled, route_plain}
 
 -- it was decided whether the router answers it
@@ -346,3 +347,18 @@ module _ (fixed : Fixed) where
       → is_seen (world_at fixed log).decided (message_of n due) ≡ true
   due_seen_at log n due is =
       subst (IsSeenDue (world_at fixed log).decided n) is (seen_due setup (world_at fixed log).decided n (world_at fixed log).tale.story (owes_at log).seen)
+
+  -- what was looked at before an entry was so behind it
+  pub seen_step : IsNumbered fixed → (w : World More) (e : Entry) → w.decided.until ≡ w.tale.moment → SeeMore w.decided (next fixed w e).decided
+  seen_step numbered w e even m is =
+      let a : World More = is_told setup by w e in
+      let b : World More = is_counted by a e in
+      let c : World More = are_freed setup by b in
+      let d : World More = go_on setup by (view_of setup w.tale) e c in
+      let f : World More = is_ended by d e in
+      let to_c = are_freed_follows setup by (suc a.tale.moment) b refl in
+      let to_d = go_on_follows setup by c.tale.moment (view_of setup w.tale) e c refl (closed fixed numbered w e even) in
+      let to_g = are_freed_follows setup by f.tale.moment f refl in
+      more_seen f.decided (next fixed w e).decided to_g.more m
+      (more_seen c.decided d.decided to_d.more m (more_seen b.decided c.decided to_c.more m
+      (given_seen (suc a.tale.moment) (by.gives_up a e m) (a.decided.own m) (more_seen w.decided a.decided (told-more setup by w e) m is))))
