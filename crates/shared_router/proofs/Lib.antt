@@ -11,3 +11,6 @@ pub mod Plain
 pub mod Owing
 pub mod Same
 pub mod Later
+pub mod Lasting
+pub mod Counting
+pub mod Opening

@@ -51,7 +51,7 @@ pub now_is : (fixed : Fixed) (terms : Terms) (log : Log) → IsNow fixed terms l
 now_is fixed terms log same =
     λ i. record { clock = same.clock i; tale = same.tale i; servers = same.servers i; flags = same.flags i; since = same.since i; uses = same.uses i }
 
-some_of : {A : Type 0} (o : Option A) → is_some o ≡ true → (a : A) × (o ≡ Some a)
+pub some_of : {A : Type 0} (o : Option A) → is_some o ≡ true → (a : A) × (o ≡ Some a)
 some_of None is = absurd (cc)
 some_of (Some a) is = (a, refl)
 
