@@ -6,6 +6,12 @@ pub mod Walking
 pub mod Routing
 pub mod Keeping
 pub mod Tagging
+pub mod Walks
+pub mod Decidedly
+pub mod Numbered
+pub mod Lone
+pub mod Asking
+pub mod Prompting
 pub mod Others
 pub mod Plain
 pub mod Owing

@@ -1,5 +1,5 @@
 -- For whom links are readied: by the policy, over what the promise counts.
-use Rattle.std.specs.Prelude.{ℕ, zero, suc, Bool, false, ◌&&◌, nat_eq, List, [], ◌∷◌, ◌++◌, length, if◌then◌else◌, Option, Some, None}
+use Rattle.std.specs.Prelude.{ℕ, zero, suc, Bool, false, ◌&&◌, nat_eq, List, [], ◌∷◌, ◌++◌, find, length, if◌then◌else◌, Option, Some, None}
 use Rattle.std.specs.List.{filter_map, list_any}
 use Rattle.std.specs.Option.{option_and_then, option_map, option_map_or}
 use Rattle.private_model.specs.Names.{LinkId, SessionName}
@@ -58,12 +58,17 @@ rest_of k readied = record {
 -- Who still waits keeps the link that is readied for it while that carries nobody, also one whose server is shunned meanwhile; and then
 -- links are lent to the others.
 
-abbrev pub still_waits : Rest → Readied → Bool
-still_waits rest readied = list_any (λ (one : Waiter). is_name one.name readied.name && nat_eq one.due.ordinal readied.due.ordinal) rest.waiters
+abbrev pub is_waiter : Readied → Waiter → Bool
+is_waiter readied one = is_name one.name readied.name && nat_eq one.due.ordinal readied.due.ordinal
+
+abbrev pub as_readied : Waiter → Readied
+as_readied one = record { name = one.name; due = one.due }
+
+abbrev pub still_waits : Rest → Readied → Option Readied
+still_waits rest readied = option_map as_readied (find (is_waiter readied) rest.waiters)
 
 abbrev pub kept : Known → Rest → LinkId → Option Readied
-kept k rest link =
-    option_and_then (λ r. if is_vacant k.terms k.log k.now link && still_waits rest r then Some r else None) (k.readied link)
+kept k rest link = option_and_then (λ r. if is_vacant k.terms k.log k.now link then still_waits rest r else None) (k.readied link)
 
 -- a link is readied for it
 abbrev pub is_readied_for : List LinkId → (LinkId → Option Readied) → SessionName → Bool

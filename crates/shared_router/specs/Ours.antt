@@ -1,5 +1,5 @@
 -- The entries of a log that this router makes, by its world.
-use Rattle.std.specs.Prelude.{◌≡◌, ℕ, Bool, true, false, not, ◌||◌, List, Option, Some, None}
+use Rattle.std.specs.Prelude.{◌≡◌, ◌<◌, ℕ, Bool, true, false, not, ◌||◌, length, List, Option, Some, None}
 use Rattle.std.specs.List.{list_any}
 use Rattle.mx_base.specs.Fields.{AreBytes}
 use Rattle.mx_base.specs.declared.names.Address.{Address}
@@ -92,7 +92,8 @@ OursBy fixed w _ = Unit {0}
 abbrev pub IsOurs : Fixed → Log → Entry → Type 0
 IsOurs fixed log e = OursBy fixed (world_at fixed log) e
 
--- a log of which each entry is ours, and a wire can tell it
+-- a log of which each entry is ours, and a wire can tell it: told logs have fewer than 2^48 entries
 pub record IsOurLog (fixed : Fixed) (log : Log) : Type 0 where
   pub ours : AllLawful (IsOurs fixed) log
   pub fits : AllLawful Fits log
+  pub bounded : length log < 281474976710656
