@@ -74,7 +74,7 @@ module _ (fixed : Fixed) where
       let plan : Plan = plan_of v.decided in
       ap (λ (t : Tale). t.links) (stepped setup by w e plan even (agrees-itself v.decided v.tale.moment)).same ∙ log_links setup plan (e ∷ []) w.tale
 
-  links_at : (log : Log) (e : Entry) → (world_at fixed (log ++ e ∷ [])).tale.links ≡ (world_at fixed log).tale.links ++ opened_links (e ∷ [])
+  pub links_at : (log : Log) (e : Entry) → (world_at fixed (log ++ e ∷ [])).tale.links ≡ (world_at fixed log).tale.links ++ opened_links (e ∷ [])
   links_at log e = ap (λ (w : World More). w.tale.links) (world_more fixed log (e ∷ [])) ∙ step_links (world_at fixed log) e (even_at fixed log)
 
   pub still_there : (log : Log) (e : Entry) (link : LinkId) → is_to_server (world_at fixed log).tale link ≡ true → is_to_server (world_at fixed (log ++ e ∷ [])).tale link ≡ true

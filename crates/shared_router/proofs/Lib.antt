@@ -20,3 +20,5 @@ pub mod Later
 pub mod Lasting
 pub mod Counting
 pub mod Opening
+pub mod Apart
+pub mod Closing

@@ -51,18 +51,18 @@ use Rattle.shared_router.proofs.Same.{now_is, now_same}
 use Rattle.shared_router.proofs.Staying.{log_at, step_at}
 
 -- what is found passes the test
-found_so : {A : Type 0} (test : A → Bool) (xs : List A) (a : A) → find test xs ≡ Some a → test a ≡ true
+pub found_so : {A : Type 0} (test : A → Bool) (xs : List A) (a : A) → find test xs ≡ Some a → test a ≡ true
 found_so test [] a is = absurd (cc)
 found_so test (x ∷ xs) a is = by_test (test x) refl is (found_so test xs a) where
   by_test : (b : Bool) → test x ≡ b → cond b (Some x) (find test xs) ≡ Some a → (find test xs ≡ Some a → test a ≡ true) → test a ≡ true
   by_test true passes is later = let same : x ≡ a = cc in ap test (sym same) ∙ passes
   by_test false fails is later = later is
 
-left_is : (a b : Bool) → (a && b) ≡ true → a ≡ true
+pub left_is : (a b : Bool) → (a && b) ≡ true → a ≡ true
 left_is true b is = refl
 left_is false b is = absurd (cc)
 
-right_is : (a b : Bool) → (a && b) ≡ true → b ≡ true
+pub right_is : (a b : Bool) → (a && b) ≡ true → b ≡ true
 right_is true b is = is
 right_is false b is = absurd (cc)
 
