@@ -1,0 +1,5 @@
+use Rattle.shared_router.proofs.Opening.{opens_kept}
+use Rattle.shared_router.proofs.links.opens_for_those_who_wait.Goals as goal
+
+pub returns : goal.returns
+returns c = λ fixed log numbered our users. opens_kept fixed numbered log users our.ours our.fits
