@@ -1,30 +1,28 @@
 -- Links to servers are closed for a cause.
-use Rattle.std.specs.Prelude.{◌≡◌, ◌⊎◌, ◌+◌, ◌≤◌, ℕ, Bool, true, false, not, ◌&&◌, ◌||◌, find, nat_le, if◌then◌else◌, List, [], ◌∷◌, ◌++◌, Option, Some, None}
-use Rattle.std.specs.Option.{option_map, option_map_or, option_or}
-use Rattle.std.proofs.Common.{refl, sym, ap, ◌∙◌, subst, append_assoc, append-nil, inl, inr}
+use Rattle.std.specs.Prelude.{◌≡◌, ◌⊎◌, ◌+◌, Bool, true, false, not, ◌&&◌, ◌||◌, find, nat_le, [], ◌∷◌, ◌++◌, Option, Some, None}
+use Rattle.std.specs.Option.{option_map, option_or}
+use Rattle.std.proofs.Common.{refl, sym, ap, ◌∙◌, subst, append_assoc, inl, inr}
 use Rattle.std.proofs.lemmas.Bool.{leb-true}
 use Rattle.hostgroups.specs.Servers.{is_known}
-use Rattle.hostgroups.specs.declared.server.Server.{Server}
 use Rattle.mx_base.specs.declared.names.LinkId.{LinkId}
 use Rattle.mx_wire.specs.Log.{Log, is_open}
 use Rattle.mx_wire.specs.Moments.{LawfulAfter, lawful-more}
 use Rattle.mx_wire.specs.Tells.{Fits}
 use Rattle.mx_wire.specs.declared.entry.Entry.{Entry}
 use Rattle.mx_wire.specs.declared.entry.Entry.TheVariants as entry
-use Rattle.private_model.specs.View.{Setup}
-use Rattle.log_story.specs.Tale.{Client, Tale, is_to_server}
+use Rattle.log_story.specs.Tale.{Client, is_to_server}
 use Rattle.tale_world.specs.Deciding.{World}
 use Rattle.router_promises.specs.Closes as closing
 use Rattle.router_promises.specs.Closes.{ClosesSo, MayDrop, has_bad_bytes, is_full, is_in_the_way, is_joined, is_past_reset, is_spoilt, is_unlent, was_amiss, was_refused}
 use Rattle.router_promises.specs.Keys.{LinkKey, key_of}
 use Rattle.router_promises.specs.Now.{Now, link_now, now_at, was_lost, wire_now}
-use Rattle.router_promises.specs.Running.{is_failed, is_off, is_soft, opening_on, status_in}
+use Rattle.router_promises.specs.Running.{is_off, is_soft, status_in}
 use Rattle.router_promises.specs.Terms.{Terms}
 use Rattle.shared_router.specs.Fixed.{Fixed, IsNumbered, setup_of}
-use Rattle.shared_router.specs.Known.{Known, known, link_by, setup_by}
+use Rattle.shared_router.specs.Known.{Known, known}
 use Rattle.shared_router.specs.More.{More, now_of, terms_of}
 use Rattle.shared_router.specs.Ours.{IsOurs}
-use Rattle.shared_router.specs.Owed.{close_by, is_let_go, is_refused, is_to_close, parts}
+use Rattle.shared_router.specs.Owed.{close_by, is_to_close, parts}
 use Rattle.shared_router.specs.Shared.{final_terms, world_at}
 use Rattle.shared_router.proofs.Apart.{IsSeat, all_find, seats_at}
 use Rattle.shared_router.proofs.Later.{AreAlike, elsewhere_same, failed_same, key_same}

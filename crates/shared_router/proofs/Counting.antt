@@ -1,15 +1,12 @@
 -- What the policy counts is what the promise counts.
-use Rattle.std.specs.Prelude.{◌≡◌, ◌+◌, ℕ, zero, suc, Bool, true, false, not, ◌&&◌, ◌||◌, bytes_eq, cond, count_by, filter, fold, length, nat_eq, if◌then◌else◌, List, [], ◌∷◌, ◌++◌, Option, Some, None}
+use Rattle.std.specs.Prelude.{◌≡◌, ◌+◌, ℕ, zero, suc, Bool, true, false, ◌&&◌, bytes_eq, cond, count_by, filter, fold, length, nat_eq, if◌then◌else◌, List, [], ◌∷◌, ◌++◌, Option, Some, None}
 use Rattle.std.specs.List.{cons_option, filter_map}
 use Rattle.std.specs.Option.{option_map, option_map_or}
-use Rattle.std.proofs.Common.{refl, sym, ap, ◌∙◌, subst, arith, length-append}
+use Rattle.std.proofs.Common.{refl, sym, ap, ◌∙◌, arith, length-append}
 use Rattle.mx_base.specs.declared.names.LinkId.{LinkId}
-use Rattle.private_model.specs.Commands.{Account}
 use Rattle.private_model.specs.Names.{ClientNo, Hostgroup, MessageName, SessionName}
 use Rattle.private_model.specs.Story.{BecameDue, Broke, Dropped, Due, Freed, Gone, Heard, Left, LoggedIn, Mirrored, Ran, Sent, Story, Unprepared, is_hostgroup}
-use Rattle.private_model.specs.View.{View}
 use Rattle.server_rule.specs.declared.session.Capabilities.{Capabilities}
-use Rattle.log_story.specs.Tale.{view_of}
 use Rattle.tale_world.specs.Policy as policy
 use Rattle.tale_world.specs.Policy.{Idle, Lends, Opening, Rest, Waiter, next_lend}
 use Rattle.tale_world.specs.Tests as tests

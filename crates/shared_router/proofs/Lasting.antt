@@ -1,5 +1,5 @@
 -- What was decided of links and of opens that failed stays so for the rest of a log.
-use Rattle.std.specs.Prelude.{◌≡◌, ◌+◌, ◌≤◌, ℕ, zero, suc, Bool, true, false, ◌&&◌, ◌||◌, fold, length, nat_eq, if◌then◌else◌, unwrap_or, List, [], ◌∷◌, ◌++◌, Option, Some, None}
+use Rattle.std.specs.Prelude.{◌≡◌, ◌+◌, ◌≤◌, ℕ, zero, suc, Bool, true, false, ◌&&◌, ◌||◌, fold, length, if◌then◌else◌, unwrap_or, List, [], ◌∷◌, ◌++◌, Option, Some, None}
 use Rattle.std.specs.List.{list_any}
 use Rattle.std.specs.Option.{option_map_or}
 use Rattle.std.proofs.Common.{refl, sym, ap, ◌∙◌, subst, append_assoc, append-nil, arith, length-append}
@@ -15,17 +15,15 @@ use Rattle.mx_wire.specs.Tells.{Fits, IsNew}
 use Rattle.mx_wire.specs.declared.entry.Entry.{Entry}
 use Rattle.mx_wire.specs.declared.entry.Entry.TheVariants as entry
 use Rattle.packet_frame.specs.Packets.{Framed}
-use Rattle.private_model.proofs.Maps.{link_of, same_link, same_number}
-use Rattle.private_model.specs.Names.{MessageName}
+use Rattle.private_model.proofs.Maps.{link_of, same_link}
 use Rattle.private_model.specs.Story.{is_link_id, message_of}
 use Rattle.private_model.specs.View.{Setup, View}
 use Rattle.server_side.specs.Account.{Account as Login}
 use Rattle.log_story.specs.Owed.{messages}
 use Rattle.log_story.specs.Plan.{Plan}
 use Rattle.log_story.specs.Servers.{may_begin}
-use Rattle.log_story.specs.Tale.{Client, Tale, first_tale, is_to_server, view_of}
-use Rattle.log_story.specs.Telling.{tale_step}
-use Rattle.tale_world.specs.Decided.{Agrees, Decided, filled, plan_of}
+use Rattle.log_story.specs.Tale.{Client, Tale, is_to_server, view_of}
+use Rattle.tale_world.specs.Decided.{Agrees, Decided, plan_of}
 use Rattle.tale_world.specs.Deciding.{Deciding, World}
 use Rattle.tale_world.specs.World.{are_freed, are_taken, decided_last, decided_looked, decided_next, decided_told, freed_there, go_on, goes_on, is_called, is_counted, is_ended, is_told, is_up, next_message, next_of, taken_once, with_login, with_route, with_step, with_taken}
 use Rattle.tale_world.proofs.Agreeing.{agrees-itself, filled-there, same_login, same_own}

@@ -2,41 +2,28 @@
 -- statements that are due.
 use Rattle.std.specs.Prelude.{◌≡◌, ◌+◌, ℕ, Bool, true, false, not, ◌&&◌, ◌||◌, cond, count_by, fold, is_some, nat_eq, if◌then◌else◌, List, [], ◌∷◌, ◌++◌, Option, Some, None}
 use Rattle.std.specs.List.{list_any}
-use Rattle.std.specs.Option.{option_map, option_map_or}
+use Rattle.std.specs.Option.{option_map_or}
 use Rattle.std.proofs.lemmas.Bool.{or_left, or_right}
-use Rattle.std.proofs.Common.{refl, sym, ap, ◌∙◌, subst, append_assoc, append-nil}
+use Rattle.std.proofs.Common.{refl, ap, ◌∙◌}
 use Rattle.mx_base.specs.declared.names.LinkId.{LinkId}
-use Rattle.mx_wire.specs.Log.{Log, opened_links}
-use Rattle.mx_wire.specs.Moments.{LawfulAfter}
-use Rattle.mx_wire.specs.Tells.{Fits}
-use Rattle.mx_wire.specs.declared.entry.Entry.{Entry}
-use Rattle.mx_wire.specs.declared.entry.Entry.TheVariants as entry
-use Rattle.private_model.proofs.Maps.{link_of, same_link}
+use Rattle.mx_wire.specs.Log.{Log}
+use Rattle.private_model.proofs.Maps.{same_link}
 use Rattle.private_model.specs.Names.{ClientNo, Hostgroup, MessageName, SessionName}
-use Rattle.private_model.specs.Story.{BecameDue, Broke, Dropped, Due, Freed, Gone, Happening, Heard, Left, LoggedIn, Mirrored, Ran, Sent, Story, Unprepared, is_hostgroup, is_link_id, message_of}
+use Rattle.private_model.specs.Story.{BecameDue, Broke, Dropped, Due, Freed, Gone, Heard, Left, LoggedIn, Mirrored, Ran, Sent, Story, Unprepared, is_hostgroup, is_link_id, message_of}
 use Rattle.private_model.specs.View.{Setup, View}
 use Rattle.server_side.specs.Account.{Account as Login}
 use Rattle.log_story.specs.Plan.{Plan, own_at}
 use Rattle.log_story.specs.Tale.{Tale, is_to_server, view_of}
-use Rattle.tale_world.specs.Decided.{Agrees, plan_of}
+use Rattle.tale_world.specs.Decided.{plan_of}
 use Rattle.tale_world.specs.Deciding.{World}
-use Rattle.tale_world.proofs.Agreeing.{agrees-itself, same_login, same_own}
-use Rattle.tale_world.proofs.Following.{stepped}
-use Rattle.tale_world.proofs.Links.{log_links, new_link}
 use Rattle.router_promises.specs.Closes.{waits_elsewhere}
 use Rattle.router_promises.specs.Dues.{is_due, is_unsent}
-use Rattle.router_promises.specs.Keys.{LinkKey, how_many, is_bare, is_free, is_key, is_of_key, is_opening, is_waiting, key_for, key_of, waiters_in}
+use Rattle.router_promises.specs.Keys.{LinkKey, how_many, is_free, is_key, is_of_key, is_opening, is_waiting, key_for, key_of, waiters_in}
 use Rattle.router_promises.specs.Now.{Now, is_here, present_now}
 use Rattle.router_promises.specs.Running.{is_failed, opening_on}
-use Rattle.router_promises.specs.Terms.{Terms, plan_in, setup_in}
+use Rattle.router_promises.specs.Terms.{Terms}
 use Rattle.shared_router.specs.Fixed.{Fixed, setup_of}
-use Rattle.shared_router.specs.More.{More, now_of, terms_of}
-use Rattle.shared_router.specs.Shared.{bare_after, final_terms, shared, world_at}
-use Rattle.shared_router.proofs.Owing.{due_seen_at}
-use Rattle.shared_router.proofs.Parting.{agrees_then, even_at, next, tale_then, world_more}
-use Rattle.shared_router.proofs.Routing.{logins_at}
-use Rattle.shared_router.proofs.Same.{some_of}
-use Rattle.shared_router.proofs.Staying.{step_stays}
+use Rattle.shared_router.specs.More.{More, terms_of}
 
 -- Terms that are the same in what a tale's links and dues look up.
 pub record AreAlike (fixed : Fixed) (tale : Tale) (v last : World More) : Type 0 where

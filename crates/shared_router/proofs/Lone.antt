@@ -1,6 +1,6 @@
 -- What goes to a server is copied nowhere.
-use Rattle.std.specs.Prelude.{◌≡◌, ℕ, Bool, true, false, not, ◌&&◌, is_some, if◌then◌else◌, unwrap_or, List, Option, Some, None}
-use Rattle.std.proofs.Common.{refl, sym, ap, ◌∙◌, subst}
+use Rattle.std.specs.Prelude.{◌≡◌, ℕ, Bool, true, false, if◌then◌else◌, List, Option, Some, None}
+use Rattle.std.proofs.Common.{refl, sym, ap, ◌∙◌}
 use Rattle.hostgroups.specs.declared.server.Server.{Server}
 use Rattle.packet_frame.specs.Packets.{Framed}
 use Rattle.pin_classifier.specs.declared.class.Class.{Class}
@@ -12,19 +12,16 @@ use Rattle.query_rules.specs.declared.ask.Stop.TheVariants as stop
 use Rattle.session_state.specs.Pins.{reads_own}
 use Rattle.private_model.specs.Names.{Hostgroup}
 use Rattle.private_model.specs.Story.{Key}
-use Rattle.log_story.specs.Executes.{Prepared}
-use Rattle.log_story.specs.Owed.{name_of}
 use Rattle.log_story.specs.Plan.{Route}
 use Rattle.log_story.specs.Tale.{Client, view_of}
 use Rattle.tale_world.specs.Deciding.{World}
 use Rattle.router_promises.specs.Errors as error
-use Rattle.router_promises.specs.Router.{home_of}
 use Rattle.router_promises.specs.Statements.{is_full, next_number}
 use Rattle.router_promises.specs.Takings.{Taking, ordinal_of}
 use Rattle.router_promises.specs.Terms.{Terms, plan_in, setup_in}
 use Rattle.router_promises.specs.Verdicts.{Asks, Chooses, Executes, Goes, Kind, Lists, Malformed, Parts, Pings, Prepares, Quits, ResetsStatement, Restarts, Silent, Tells, Unknown, Unprepared, Verdict, Wanted}
-use Rattle.router_promises.specs.Verdicts.{connection_id, has_nowhere, held_in, hostgroup_for, is_connection_id, kind_in, pass_of, passed_on, plain, plain_route, ruled, run_by, sent_unless, tells_one, transaction_in, unless_gone}
-use Rattle.router_promises.specs.Verdicts.{unless_refused, user_in, verdict, verdict_by}
+use Rattle.router_promises.specs.Verdicts.{connection_id, has_nowhere, held_in, is_connection_id, kind_in, pass_of, ruled, sent_unless, tells_one, unless_gone}
+use Rattle.router_promises.specs.Verdicts.{unless_refused, verdict_by}
 use Rattle.shared_router.specs.Fixed.{Fixed}
 use Rattle.shared_router.specs.More.{More, terms_of}
 use Rattle.shared_router.specs.Shared.{goes_by, judged_by, route_by, starves_now}

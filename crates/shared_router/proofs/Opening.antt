@@ -1,5 +1,5 @@
 -- Links are opened for statements that wait.
-use Rattle.std.specs.Prelude.{◌≡◌, ◌+◌, ◌<◌, ℕ, suc, Bool, true, false, not, ◌&&◌, bytes_eq, cond, find, fold, length, nat_eq, if◌then◌else◌, List, [], ◌∷◌, ◌++◌, Option, Some, None}
+use Rattle.std.specs.Prelude.{◌≡◌, ◌+◌, ◌<◌, ℕ, suc, Bool, true, false, ◌&&◌, cond, find, fold, length, nat_eq, if◌then◌else◌, List, [], ◌∷◌, ◌++◌, Option, Some, None}
 use Rattle.std.specs.Option.{option_map, option_map_or}
 use Rattle.std.proofs.Common.{refl, sym, ap, ◌∙◌, subst, append_assoc, arith, length-append}
 use Rattle.hostgroups.specs.Servers.{server_at}
@@ -14,12 +14,11 @@ use Rattle.mx_wire.specs.Tells.{Fits}
 use Rattle.mx_wire.specs.declared.entry.Entry.{Entry}
 use Rattle.mx_wire.specs.declared.entry.Entry.TheVariants as entry
 use Rattle.private_model.proofs.Maps.{hostgroup_of as hostgroup_is, same_link, same_number}
-use Rattle.private_model.specs.Names.{ClientNo, SessionName}
-use Rattle.private_model.specs.Story.{BecameDue, Broke, Dropped, Due, Freed, Gone, Heard, Left, LoggedIn, Mirrored, Ran, Sent, Story, Unprepared, is_hostgroup, is_link_id}
-use Rattle.private_model.specs.View.{View}
+use Rattle.private_model.specs.Names.{ClientNo}
+use Rattle.private_model.specs.Story.{BecameDue, Broke, Dropped, Due, Freed, Gone, Heard, Left, LoggedIn, Mirrored, Ran, Sent, Story, Unprepared, is_hostgroup}
 use Rattle.server_side.specs.Account.{Account as Login}
 use Rattle.log_story.specs.Plan.{Plan}
-use Rattle.log_story.specs.Tale.{Tale, is_to_server, view_of}
+use Rattle.log_story.specs.Tale.{Tale}
 use Rattle.tale_world.specs.Decided.{plan_of}
 use Rattle.tale_world.specs.Deciding.{World}
 use Rattle.tale_world.specs.Policy as policy
@@ -35,13 +34,13 @@ use Rattle.router_promises.specs.Opens.{MayOpen, OpensSo}
 use Rattle.router_promises.specs.Running.{hostgroup_of}
 use Rattle.router_promises.specs.Terms.{Terms, Tried, entry_behind, plan_in}
 use Rattle.shared_router.specs.Fixed.{Fixed, IsNumbered, setup_of}
-use Rattle.shared_router.specs.Known.{Known, known, present_by, setup_by, view_by}
+use Rattle.shared_router.specs.Known.{Known, known, present_by, view_by}
 use Rattle.shared_router.specs.Lends.{settled, waiter_of, waiters_by}
 use Rattle.shared_router.specs.More.{More, now_of, terms_of}
 use Rattle.shared_router.specs.Ours.{IsOurs, OpensThere}
 use Rattle.shared_router.specs.Shared.{final_terms, shared, world_at}
 use Rattle.shared_router.specs.Users.{AreUsers, IsUser, UsersSo}
-use Rattle.shared_router.specs.Wishes.{opened_for, pick, tried_by, wanted_by}
+use Rattle.shared_router.specs.Wishes.{opened_for, pick, tried_by}
 use Rattle.shared_router.proofs.Counting.{from_key, settled_free, settled_opening, settled_so, settled_unsent}
 use Rattle.shared_router.proofs.Later.{free_count, opening_count, waiters_same}
 use Rattle.shared_router.proofs.Lasting.{alike_at, bare_from, opened_as, opened_there, tried_from}
@@ -199,8 +198,10 @@ tried_by_parts tried login bare l b = λ i. record { login = sym l i; bare = sym
 module _ (fixed : Fixed) (numbered : IsNumbered fixed) where
   opened_tried : (before later : Log) (server : ServerId) (address : Address) (link : LinkId) → LawfulAfter Fits before (entry.Opened server address link ∷ later)
       → tried_by (known fixed (world_at fixed before))
-      ≡ record { login = (plan_in (final_terms fixed (before ++ entry.Opened server address link ∷ later))).logins link;
-        bare = (final_terms fixed (before ++ entry.Opened server address link ∷ later)).decided.bare link }
+      ≡ record {
+        login = (plan_in (final_terms fixed (before ++ entry.Opened server address link ∷ later))).logins link;
+        bare = (final_terms fixed (before ++ entry.Opened server address link ∷ later)).decided.bare link;
+      }
   opened_tried before later server address link fits =
       let e : Entry = entry.Opened server address link in
       let w : World More = world_at fixed before in

@@ -1,23 +1,23 @@
 -- What an entry tells, before messages are taken up: no statement becomes due by it.
-use Rattle.std.specs.Prelude.{ℕ, suc, Bool, true, false, ◌&&◌, ◌||◌, not, fold, if◌then◌else◌, unwrap_or, List, [], ◌∷◌, ◌++◌, Option, Some, None}
+use Rattle.std.specs.Prelude.{ℕ, Bool, true, false, ◌&&◌, not, fold, if◌then◌else◌, List, [], ◌∷◌, ◌++◌, Option, Some, None}
 use Rattle.mx_base.specs.declared.names.LinkId.{LinkId}
 use Rattle.mx_base.specs.declared.tag.Tag.{Tag}
 use Rattle.mx_base.specs.declared.tag.Tag.TheVariants as tag
 use Rattle.mx_wire.specs.declared.entry.Entry.{Entry}
 use Rattle.mx_wire.specs.declared.entry.Entry.TheVariants as entry
 use Rattle.private_model.specs.Commands.{Command}
-use Rattle.private_model.specs.Names.{ClientNo, Hostgroup, MessageName, SessionName}
-use Rattle.private_model.specs.Story.{BecameDue, Broke, Dropped, Due, End, Freed, Gone, Happening, Heard, Left, LoggedIn, Own, Prep, Question, Ran, Sent, Statement, Story, Sync, command_of, is_client}
+use Rattle.private_model.specs.Names.{SessionName}
+use Rattle.private_model.specs.Story.{BecameDue, Broke, Dropped, Due, End, Gone, Happening, Left, Own, Prep, Question, Ran, Sent, Statement, Story, Sync, command_of, is_client}
 use Rattle.private_model.specs.Story.{is_link_id}
-use Rattle.private_model.specs.View.{Answered, Asked, Carried, Joined, Lent, Nobody, Quiet, Setup, Stage, View, present, session_in}
+use Rattle.private_model.specs.View.{Answered, Asked, Carried, Joined, Lent, Nobody, Quiet, Setup, Stage, View, present}
 use Rattle.reply_track.specs.Runs.{Ending}
 use Rattle.reply_track.specs.Runs.Ending.{Going, Ended, Failed}
 use Rattle.reply_track.specs.declared.reply.ReplyKind.TheVariants as kind
 use Rattle.server_rule.specs.Servers.{is_some_of}
 use Rattle.server_side.specs.Login.{Opening, Goes, LogsIn, Fails, opening}
 use Rattle.log_story.specs.Clients.{client_leaves}
-use Rattle.log_story.specs.Plan.{Asks, Closes, Plan, Resets, Route, StepText, job_of}
-use Rattle.log_story.specs.Servers.{begins, begun_by, begun_on, copy_by, due_in, ended_by, entered_by, heard_by, hears, kind_by, may_begin, of_due, or_broke, quits_by, quits_for, read_as, reset_by, runs_first, step_for, stepped, tell_all, with_run, writes}
+use Rattle.log_story.specs.Plan.{Asks, Closes, Plan, Resets, StepText, job_of}
+use Rattle.log_story.specs.Servers.{begins, begun_by, begun_on, copy_by, due_in, entered_by, heard_by, hears, kind_by, may_begin, of_due, or_broke, quits_by, quits_for, read_as, reset_by, runs_first, stepped, with_run, writes}
 use Rattle.log_story.specs.Tale.{Client, Tale, Wire, is_reset_step, is_to_server, link_in, tell, view_of, with_wire}
 use Rattle.log_story.specs.Telling.{is_lost_or_left, server_says, told, wire_with}
 

@@ -1,5 +1,5 @@
 -- Of each statement that became due it was decided whether the router answers it: so each plan that agrees has the same statements due.
-use Rattle.std.specs.Prelude.{◌≡◌, ℕ, zero, suc, Bool, true, false, ◌&&◌, not, if◌then◌else◌, fold, is_some, length, nat_eq, slice_get, slice_index_or, unwrap_or, List, [], ◌∷◌, Option, Some, None}
+use Rattle.std.specs.Prelude.{◌≡◌, ℕ, zero, suc, Bool, true, false, ◌&&◌, if◌then◌else◌, fold, is_some, length, nat_eq, slice_get, slice_index_or, unwrap_or, List, [], ◌∷◌, Option, Some, None}
 use Rattle.std.specs.Option.{option_map_or}
 use Rattle.std.proofs.Common.{refl, sym, ap, ◌∙◌, subst}
 use Rattle.mx_base.specs.declared.names.LinkId.{LinkId}
@@ -8,24 +8,23 @@ use Rattle.mx_wire.specs.Log.{Log}
 use Rattle.mx_wire.specs.declared.entry.Entry.{Entry}
 use Rattle.mx_wire.specs.declared.entry.Entry.TheVariants as entry
 use Rattle.packet_frame.specs.Packets.{Framed}
-use Rattle.private_model.proofs.Maps.{client_of, name_of as named, same_message}
-use Rattle.private_model.specs.Commands.{Command, Reply}
-use Rattle.private_model.specs.Names.{ClientNo, Hostgroup, MessageName, SessionName}
+use Rattle.private_model.proofs.Maps.{name_of as named, same_message}
+use Rattle.private_model.specs.Commands.{Reply}
+use Rattle.private_model.specs.Names.{Hostgroup, MessageName, SessionName}
 use Rattle.private_model.specs.Story.{BecameDue, Broke, Capture, Dropped, Due, End, Freed, Gone, Happening, Heard, Left, LoggedIn, Mirrored, Own, Prep, Question, Ran, Sent, Statement, Story, Sync, Unprepared}
-use Rattle.private_model.specs.Story.{for_statement, is_client, is_message, is_name, message_of, put}
+use Rattle.private_model.specs.Story.{for_statement, is_message, is_name, message_of, put}
 use Rattle.private_model.specs.View.{Answered, Asked, Quiet, Setup, Stage, View, present, view_after, view_heard}
 use Rattle.log_story.specs.Clients.{due_by, ended_if_now, next_taken, taken_by}
 use Rattle.log_story.specs.Clients as clients
 use Rattle.log_story.specs.Executes.{Request, requested}
 use Rattle.log_story.specs.Owed.{messages, name_of}
 use Rattle.log_story.specs.Plan.{OwnAnswer, Plan, Route, com_reset, is_now}
-use Rattle.log_story.specs.Servers.{freed_if_done, is_done, may_begin}
+use Rattle.log_story.specs.Servers.{is_done, may_begin}
 use Rattle.log_story.specs.Tale.{Client, Tale, is_to_server, link_in, tell, view_of}
-use Rattle.log_story.specs.Telling.{told}
 use Rattle.tale_world.specs.Decided.{Decided, IsMore, filled, plan_of}
 use Rattle.tale_world.specs.Deciding.{Deciding, World}
 use Rattle.tale_world.specs.Served.{SameFor}
-use Rattle.tale_world.specs.World.{are_freed, are_taken, decided_by_now, decided_ends, decided_freed, decided_last, decided_looked, decided_next, decided_told, freed_there, given_up, go_on, goes_on, is_asked, is_called, is_counted, is_ended, is_told, is_up, next_message, next_of, tagged, taken_once, with_login, with_route, with_step, with_taken, world_step}
+use Rattle.tale_world.specs.World.{are_freed, are_taken, decided_by_now, decided_ends, decided_freed, decided_last, decided_looked, decided_next, decided_told, freed_there, given_up, go_on, goes_on, is_called, is_counted, is_ended, is_told, is_up, next_message, next_of, tagged, taken_once, with_route, with_step, with_taken}
 use Rattle.tale_world.specs.World.{is_looked_up, is_tagged, looked_at, looked_for}
 use Rattle.tale_world.proofs.Agreeing.{agrees-itself, agrees-less, filled-there, more-refl}
 use Rattle.tale_world.proofs.Following.{are_freed_follows, go_on_follows, looked_same, next-more, since-looked, told-more}
@@ -34,7 +33,7 @@ use Rattle.shared_router.specs.Fixed.{Fixed, IsNumbered, setup_of}
 use Rattle.shared_router.specs.More.{More}
 use Rattle.shared_router.specs.Shared.{shared, world_at}
 use Rattle.shared_router.proofs.Others.{IsOther, entry_keeps}
-use Rattle.shared_router.proofs.Parting.{first, next, world_more}
+use Rattle.shared_router.proofs.Parting.{first, next}
 use Rattle.shared_router.proofs.Routing.{closed}
 use Rattle.shared_router.proofs.Plain.{IsPlain, IsPlainIf, plain_filled, route_plain}
 

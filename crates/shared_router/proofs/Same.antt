@@ -1,34 +1,32 @@
 -- The promise's `Now` along a log, by the last terms, is the world's.
-use Rattle.std.specs.Prelude.{◌≡◌, ℕ, ◌+◌, Bool, true, false, not, ◌&&◌, ◌||◌, count_by, fold, is_some, nat_eq, if◌then◌else◌, List, [], ◌∷◌, ◌++◌, Option, Some, None}
+use Rattle.std.specs.Prelude.{◌≡◌, ℕ, ◌+◌, Bool, true, false, not, ◌&&◌, ◌||◌, count_by, is_some, nat_eq, if◌then◌else◌, List, [], ◌∷◌, ◌++◌, Option, Some, None}
 use Rattle.std.specs.Option.{option_map_or}
 use Rattle.std.proofs.Common.{refl, sym, ap, ◌∙◌, subst, append_assoc, append-nil}
 use Rattle.std.proofs.lemmas.Bool.{and_from}
-use Rattle.hostgroups.specs.declared.server.Server.{Server}
 use Rattle.mx_base.specs.declared.tag.Tag.{Tag}
 use Rattle.mx_wire.specs.Log.{Log}
 use Rattle.mx_wire.specs.declared.entry.Entry.{Entry}
 use Rattle.mx_wire.specs.declared.entry.Entry.TheVariants as entry
 use Rattle.private_model.proofs.Maps.{link_of, same_link, same_number}
-use Rattle.private_model.specs.Names.{ClientNo, Hostgroup, LinkId, MessageName, SessionName}
+use Rattle.private_model.specs.Names.{Hostgroup, LinkId, SessionName}
 use Rattle.private_model.specs.Story.{Due, is_link_id, is_name, message_of}
-use Rattle.private_model.specs.View.{Setup, View, present}
+use Rattle.private_model.specs.View.{Setup, present}
 use Rattle.log_story.specs.Plan.{Plan, StepText, own_at}
 use Rattle.log_story.specs.Servers.{may_begin, quits_for}
 use Rattle.log_story.specs.Tale.{Client, Tale, is_to_server, link_in, view_of}
 use Rattle.log_story.specs.Telling.{tale_step}
-use Rattle.tale_world.specs.Decided.{Agrees, Decided, plan_of}
+use Rattle.tale_world.specs.Decided.{Agrees, plan_of}
 use Rattle.tale_world.specs.Deciding.{World}
-use Rattle.tale_world.specs.World.{decided_told, with_step, world_step}
+use Rattle.tale_world.specs.World.{decided_told, with_step}
 use Rattle.tale_world.proofs.Agreeing.{agrees-itself, filled-there, same_own}
 use Rattle.tale_world.proofs.Following as following
 use Rattle.tale_world.proofs.Following.{stepped}
 use Rattle.router_promises.proofs.Saying.{now-tale}
-use Rattle.router_promises.specs.Dues.{is_due}
 use Rattle.router_promises.specs.Now as now
 use Rattle.router_promises.specs.Now.{Now, now_at}
 use Rattle.router_promises.specs.Running.{hostgroup_of}
 use Rattle.router_promises.specs.Terms.{Terms, tale_at}
-use Rattle.router_promises.specs.Uses.{Use, has_lapsed, is_lapse, lapsed_for, lapses, use_after, use_by, use_written, used_by}
+use Rattle.router_promises.specs.Uses.{Use, has_lapsed, is_lapse, lapses, use_after, use_by, used_by}
 use Rattle.shared_router.specs.Fixed.{Fixed, IsNumbered, setup_of}
 use Rattle.shared_router.specs.More.{More, now_of, terms_of, uses_of}
 use Rattle.shared_router.specs.Shared.{final_terms, shared, world_at}
@@ -150,9 +148,11 @@ module _ (fixed : Fixed) (numbered : IsNumbered fixed) where
   step_decided : (w : World More) (link : LinkId) (tag : Tag) (bytes : List ℕ) (there begins : Bool) → there ≡ true → begins ≡ true
       → (step : StepText) × ((if there && begins then with_step (shared fixed) w link tag bytes else w.decided).steps link (w.tale.wires link).begun ≡ Some step)
   step_decided w link tag bytes true true to_server begin =
-      let step = (shared fixed).step w link tag bytes in
-      (_, filled-there (λ n. is_link_id link link && nat_eq n (w.tale.wires link).begun) (λ n. step) (w.decided.steps link) (w.tale.wires link).begun
-      (and_from _ _ (same_link link) (same_number (w.tale.wires link).begun)))
+      let step = (shared fixed).step w link tag bytes in (
+        _,
+        filled-there (λ n. is_link_id link link && nat_eq n (w.tale.wires link).begun) (λ n. step) (w.decided.steps link) (w.tale.wires link).begun
+            (and_from _ _ (same_link link) (same_number (w.tale.wires link).begun)),
+      )
   step_decided w link tag bytes true false to_server begin = absurd (cc)
   step_decided w link tag bytes false begins to_server begin = absurd (cc)
 

@@ -21,11 +21,12 @@ pub fn knows_now()
 /// Links are opened for statements that wait, as their clients, where those are users: at servers with room, while fewer links of the key
 /// are free or opening than statements wait.
 pub fn opens_for_those_who_wait()
-    ensures { (fixed : Fixed) (log : Log) → IsNumbered fixed → IsOurLog fixed log → AllLawful (UsersSo fixed) log
-        → AllLawful (OpensSo (final_terms fixed log)) log }
+    ensures { (fixed : Fixed) (log : Log) → IsNumbered fixed → IsOurLog fixed log
+        → AllLawful (UsersSo fixed) log → AllLawful (OpensSo (final_terms fixed log)) log }
 {}
 
 /// Links to servers are closed for a cause.
 pub fn closes_for_a_cause()
-    ensures { (fixed : Fixed) (log : Log) → IsNumbered fixed → IsOurLog fixed log → AllLawful (ClosesSo (final_terms fixed log)) log }
+    ensures { (fixed : Fixed) (log : Log) → IsNumbered fixed → IsOurLog fixed log
+        → AllLawful (ClosesSo (final_terms fixed log)) log }
 {}
