@@ -1,5 +1,5 @@
 -- The worked logs of the promise, and what the router goes by in them.
-use Rattle.std.specs.Prelude.{ℕ, ◌++◌, Bool, false, drop, nat_eq, take, if◌then◌else◌, List, [], ◌∷◌, Option, Some, None}
+use Rattle.std.specs.Prelude.{◌++◌, false, drop, nat_eq, take, if◌then◌else◌, [], ◌∷◌, Some, None}
 use Rattle.mx_base.specs.declared.tag.Tag.TheVariants.{Own as OwnTag}
 use Rattle.mx_wire.specs.Log.{Log}
 use Rattle.mx_wire.specs.declared.entry.Entry.TheVariants.{Got, Wrote}

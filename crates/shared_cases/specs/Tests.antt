@@ -13,7 +13,6 @@ use Rattle.mx_wire.specs.Log.{Log, is_open}
 use Rattle.mx_wire.specs.declared.entry.Entry.{Entry}
 use Rattle.mx_wire.specs.declared.entry.Entry.TheVariants as entry
 use Rattle.ready_loop.specs.Drained.{all_accepted, all_named, read_dry, write_dry}
-use Rattle.private_model.specs.Names.{MessageName}
 use Rattle.private_model.specs.Story.{is_link_id, is_server}
 use Rattle.server_side.specs.Account.{Account as Login}
 use Rattle.log_story.specs.Owed.{name_of}
@@ -22,13 +21,13 @@ use Rattle.log_story.specs.Servers.{may_begin}
 use Rattle.log_story.specs.Tale.{Client, is_to_server}
 use Rattle.tale_world.specs.Policy.{Readied, Wanted}
 use Rattle.tale_world.specs.Tests.{is_flag}
-use Rattle.promise_tests.specs.Judging.{are_so, is_answer}
+use Rattle.promise_tests.specs.Judging.{are_so}
 use Rattle.promise_tests.specs.Same.{are_each, is_address, is_nothing, is_option, is_tag}
 use Rattle.promise_tests.specs.Telling.{fits, is_front}
 use Rattle.router_promises.specs.Closes.{has_bytes}
 use Rattle.router_promises.specs.Now.{Now, at_first, entry_now, next, takings_now, while_ending, wire_now}
 use Rattle.router_promises.specs.Running.{servers_after}
-use Rattle.router_promises.specs.Terms.{Terms, Tried, plan_in}
+use Rattle.router_promises.specs.Terms.{Terms, plan_in}
 use Rattle.router_promises.specs.Wakes.{wakes_at}
 use Rattle.shared_router.specs.Causes.{given_by}
 use Rattle.shared_router.specs.Ends.{Ending, ends_by, words_by}

@@ -1,5 +1,5 @@
 -- What goes to a server asks it for something.
-use Rattle.std.specs.Prelude.{◌≡◌, ℕ, suc, Bool, true, false, not, ◌&&◌, ◌||◌, is_some, nat_eq, if◌then◌else◌, List, [], ◌∷◌, drop, take, slice_index_or, unwrap_or, Option, Some, None}
+use Rattle.std.specs.Prelude.{◌≡◌, ℕ, suc, Bool, true, false, ◌||◌, is_some, nat_eq, if◌then◌else◌, List, [], ◌∷◌, Option, Some, None}
 use Rattle.std.specs.Option.{option_and_then, option_map}
 use Rattle.std.proofs.Common.{refl, sym, ap, ◌∙◌, subst}
 use Rattle.mx_base.specs.Fields.{number_at}
@@ -7,15 +7,15 @@ use Rattle.hostgroups.specs.declared.server.Server.{Server}
 use Rattle.packet_frame.specs.Packets.{Framed}
 use Rattle.private_model.proofs.Maps.{number_of}
 use Rattle.private_model.specs.View.{Setup, View}
-use Rattle.log_story.specs.Executes.{Prepared, args_in, executed_by, prepared_by, requested, run_of, text_asked}
-use Rattle.log_story.specs.Owed.{messages, name_of}
+use Rattle.log_story.specs.Executes.{Prepared, executed_by, prepared_by, requested}
+use Rattle.log_story.specs.Owed.{messages}
 use Rattle.log_story.specs.Plan.{Plan, Route, com_execute, com_field_list, com_init_db, com_long_data, com_prepare, com_query, com_reset}
 use Rattle.log_story.specs.Tale.{Client, view_of}
 use Rattle.tale_world.specs.Deciding.{World}
-use Rattle.router_promises.specs.Statements.{com_close, is_live, is_whole_execute, known_statement}
+use Rattle.router_promises.specs.Statements.{com_close, is_live, known_statement}
 use Rattle.router_promises.specs.Takings.{Taking}
 use Rattle.router_promises.specs.Terms.{Terms, plan_in, setup_in}
-use Rattle.router_promises.specs.Verdicts.{Asks, Chooses, Executes, Goes, Kind, Lists, Malformed, Parts, Pings, Prepares, Quits, ResetsStatement, Restarts, Silent, Tells, Unknown, Unprepared, Verdict, Wanted}
+use Rattle.router_promises.specs.Verdicts.{Asks, Chooses, Executes, Kind, Lists, Malformed, Pings, Prepares, Quits, ResetsStatement, Restarts, Silent, Unknown, Unprepared}
 use Rattle.router_promises.specs.Verdicts.{com_fetch, com_ping, com_quit, executed, is_with_number, kind_in, kind_of, verdict_by, with_number}
 use Rattle.shared_router.specs.Fixed.{Fixed}
 use Rattle.shared_router.specs.More.{More, terms_of}

@@ -1,14 +1,13 @@
 -- Clients by their numbers, and which messages are old: those that were taken up.
-use Rattle.std.specs.Prelude.{◌≡◌, ◌⊎◌, ◌+◌, ◌≤◌, ◌<◌, ℕ, suc, Bool, true, false, not, ◌&&◌, ◌||◌, nat_eq, nat_le, if◌then◌else◌, length, map, List, [], ◌∷◌, ◌++◌}
+use Rattle.std.specs.Prelude.{◌≡◌, ◌⊎◌, ◌+◌, ◌≤◌, ◌<◌, ℕ, suc, Bool, true, false, not, ◌&&◌, ◌||◌, nat_le, if◌then◌else◌, length, map, List, [], ◌∷◌, ◌++◌}
 use Rattle.std.specs.List.{list_all, list_any}
-use Rattle.std.proofs.Common.{refl, sym, ap, ◌∙◌, subst, arith, inl, inr}
+use Rattle.std.proofs.Common.{refl, sym, ap, ◌∙◌, arith, inl, inr}
 use Rattle.std.proofs.lemmas.Bool.{and_from, and_parts, leb-true, ne_eqb, or_left, or_right, le-leb}
-use Rattle.mx_base.specs.declared.names.LinkId.{LinkId}
 use Rattle.private_model.proofs.Maps.{client_of, same_number}
 use Rattle.private_model.specs.Names.{ClientNo, MessageName}
 use Rattle.private_model.specs.Story.{is_client}
 use Rattle.log_story.specs.Owed.{name_of}
-use Rattle.log_story.specs.Tale.{Client, Tale, new_client, with_client}
+use Rattle.log_story.specs.Tale.{Client}
 use Rattle.tale_world.specs.World.{next_of}
 use Rattle.shared_router.proofs.Walks.{Stays}
 

@@ -1,5 +1,5 @@
 -- Nothing is decided of a message before it comes up: what is decided is of messages that were taken up.
-use Rattle.std.specs.Prelude.{◌≡◌, ◌⊎◌, ◌+◌, ◌*◌, ◌≤◌, ◌<◌, ℕ, zero, suc, Bool, true, false, not, ◌&&◌, ◌||◌, fold, is_some, nat_eq, nat_le, if◌then◌else◌, length, map, slice_get, take}
+use Rattle.std.specs.Prelude.{◌≡◌, ◌⊎◌, ◌+◌, ◌*◌, ◌≤◌, ◌<◌, ℕ, zero, suc, Bool, true, false, not, ◌&&◌, ◌||◌, fold, is_some, nat_eq, if◌then◌else◌, length, map, slice_get, take}
 use Rattle.std.specs.Prelude.{slice_index_or, unwrap_or, List, [], ◌∷◌, ◌++◌, Option, Some, None}
 use Rattle.std.specs.List.{list_any}
 use Rattle.std.specs.Option.{option_and_then, option_map_or}
@@ -17,7 +17,7 @@ use Rattle.mx_wire.specs.declared.entry.Entry.{Entry}
 use Rattle.mx_wire.specs.declared.entry.Entry.TheVariants as entry
 use Rattle.packet_frame.specs.Packets.{Framed}
 use Rattle.private_model.proofs.Maps.{message_is, number_of, same_message}
-use Rattle.private_model.specs.Names.{ClientNo, Hostgroup, MessageName, SessionName}
+use Rattle.private_model.specs.Names.{Hostgroup, MessageName, SessionName}
 use Rattle.private_model.specs.Story.{BecameDue, Broke, Due, Freed, Happening, Left, Story, is_client, is_message, message_of}
 use Rattle.private_model.specs.View.{Carried, Joined, Lent, Nobody, Setup, View, view_after}
 use Rattle.server_rule.specs.Servers.{is_some_of}

@@ -2,7 +2,7 @@
 use Rattle.std.specs.Prelude.{◌≡◌, ◌<◌, ℕ, Bool, true, false, not, ◌&&◌, ◌||◌, bytes_eq, find, length, nat_eq, if◌then◌else◌, List, [], ◌∷◌, ◌++◌, unwrap_or, is_some}
 use Rattle.std.specs.Prelude.{cond, drop, Option, Some, None}
 use Rattle.std.specs.List.{list_any}
-use Rattle.std.specs.Option.{option_map, option_map_or, option_or}
+use Rattle.std.specs.Option.{option_map_or, option_or}
 use Rattle.std.proofs.Common.{refl, sym, ap, ◌∙◌, subst, append_assoc, arith}
 use Rattle.std.proofs.lemmas.Bool.{and_from, or_parts}
 use Rattle.std.proofs.lemmas.Slice.Eq.{bytes_eq-Decides}
@@ -19,14 +19,13 @@ use Rattle.mx_wire.specs.declared.entry.Entry.TheVariants as entry
 use Rattle.packet_frame.specs.Packets.{spelling}
 use Rattle.private_model.proofs.Maps.{link_of, same_link, same_number}
 use Rattle.private_model.specs.Commands.{Quit}
-use Rattle.private_model.specs.Story.{Capture, End, Own, Prep, Question, Statement, Sync, command_of, is_link_id}
+use Rattle.private_model.specs.Story.{Capture, End, Own, Prep, Statement, Sync, is_link_id}
 use Rattle.server_rule.specs.Servers.{is_some_of}
 use Rattle.log_story.specs.Honest.{IsFront, IsStep}
 use Rattle.log_story.specs.Plan.{Asks, Closes, Plan, Resets, StepText, step_payload, text_payload}
 use Rattle.log_story.specs.Servers.{is_quiet, may_begin, quits_for, written_in}
 use Rattle.log_story.specs.Tale.{Client, Tale, is_reset_step, is_to_server, link_in}
 use Rattle.log_story.specs.Telling.{tale_step}
-use Rattle.tale_world.specs.Decided.{Agrees, plan_of}
 use Rattle.tale_world.specs.Deciding.{World}
 use Rattle.tale_world.specs.Wishes.{Says, Sends, Wish}
 use Rattle.tale_world.specs.World.{with_step}
@@ -40,15 +39,15 @@ use Rattle.router_promises.specs.Now.{Now, now_at, was_lost, wire_now}
 use Rattle.router_promises.specs.Running.{is_failed, is_off, opening_on, status_in}
 use Rattle.router_promises.specs.Tags as tagging
 use Rattle.router_promises.specs.Tags.{BeginsRight, IsForSession, TagsSo, WritesTo, last_tag}
-use Rattle.router_promises.specs.Terms.{Terms, plan_in, setup_in}
+use Rattle.router_promises.specs.Terms.{Terms, plan_in}
 use Rattle.shared_router.specs.Fixed.{Fixed, IsNumbered, setup_of}
-use Rattle.shared_router.specs.Known.{Known, known, link_by, setup_by}
+use Rattle.shared_router.specs.Known.{Known, known, link_by}
 use Rattle.shared_router.specs.More.{More, now_of, terms_of}
 use Rattle.shared_router.specs.Ours.{Begins, BeginsIf, IsOurs, Writes}
-use Rattle.shared_router.specs.Owed.{Owed, asks, begun_there, close_by, closes, farewell, is_to_close, is_whole_step, nothing_owed, owed_in_login, owed_next, owed_on}
-use Rattle.shared_router.specs.Owed.{is_let_go, is_refused, owed_on_client, owed_rest, owed_there, parts, step_by}
+use Rattle.shared_router.specs.Owed.{Owed, asks, begun_there, close_by, closes, farewell, is_to_close, is_whole_step, nothing_owed, owed_next}
+use Rattle.shared_router.specs.Owed.{owed_on_client, owed_there, step_by}
 use Rattle.shared_router.specs.Shared.{final_terms, shared, world_at}
-use Rattle.shared_router.specs.Wishes.{tag_of, wish_on, wish_spelt, wish_step, wish_tag}
+use Rattle.shared_router.specs.Wishes.{wish_on, wish_step, wish_tag}
 use Rattle.shared_router.proofs.Keeping.{begins_at}
 use Rattle.shared_router.proofs.Parting.{even_at, next, tale_then}
 use Rattle.shared_router.proofs.Routing.{IsSame, agrees_behind, same_at}

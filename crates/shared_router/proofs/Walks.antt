@@ -1,9 +1,8 @@
 -- What each happening keeps that an entry tells before messages are taken up, the story then has; and so where links are given back and
 -- clients are ended. A statement that is sent is one that is due.
-use Rattle.std.specs.Prelude.{◌≡◌, ℕ, ◌+◌, zero, suc, Bool, true, false, ◌&&◌, ◌||◌, not, nat_eq, fold, is_some, if◌then◌else◌, length, map, unwrap_or, List, [], ◌∷◌, ◌++◌}
+use Rattle.std.specs.Prelude.{◌≡◌, ℕ, ◌+◌, Bool, true, false, ◌&&◌, not, nat_eq, fold, is_some, if◌then◌else◌, length, map, unwrap_or, List, [], ◌∷◌, ◌++◌}
 use Rattle.std.specs.Prelude.{Option, Some, None}
-use Rattle.std.specs.Option.{option_map_or}
-use Rattle.std.proofs.Common.{refl, sym, ap, ◌∙◌}
+use Rattle.std.proofs.Common.{refl}
 use Rattle.mx_base.specs.declared.names.LinkId.{LinkId}
 use Rattle.mx_base.specs.declared.tag.Tag.{Tag}
 use Rattle.mx_base.specs.declared.tag.Tag.TheVariants as tag
@@ -15,13 +14,13 @@ use Rattle.reply_track.specs.declared.reply.ReplyKind.TheVariants as kind
 use Rattle.server_side.specs.Login.{Opening, Goes, LogsIn, Fails, opening}
 use Rattle.server_rule.specs.Servers.{is_some_of}
 use Rattle.private_model.specs.Commands.{Command}
-use Rattle.private_model.specs.Names.{ClientNo, Hostgroup, MessageName, SessionName}
+use Rattle.private_model.specs.Names.{SessionName}
 use Rattle.private_model.specs.Story.{BecameDue, Broke, Capture, Dropped, Due, End, Freed, Gone, Happening, Left, Own, Prep, Question, Ran, Sent, Statement, Story, Sync, command_of, is_client, is_link_id, is_name, message_of}
 use Rattle.private_model.specs.View.{Answered, Asked, Carried, Joined, Lent, Nobody, Quiet, Setup, Stage, View, present, session_in, view_after}
 use Rattle.log_story.specs.Clients.{client_leaves, clients_are_ended, ended_if_now}
-use Rattle.log_story.specs.Plan.{Asks, Closes, Plan, Resets, Route, StepText, is_now, job_of, own_at}
+use Rattle.log_story.specs.Plan.{Asks, Closes, Plan, Resets, StepText, is_now, job_of, own_at}
 use Rattle.log_story.specs.Servers.{begins, begun_by, begun_on, copy_by, due_in, of_due, or_broke, ended_by, entered_by, freed_if_done, heard_by, hears, is_done, kind_by, links_are_freed, may_begin}
-use Rattle.log_story.specs.Servers.{quits_by, quits_for, read_as, reset_by, runs_first, step_for, stepped, tell_all, with_run, writes}
+use Rattle.log_story.specs.Servers.{quits_by, quits_for, read_as, reset_by, runs_first, stepped, tell_all, with_run, writes}
 use Rattle.log_story.specs.Tale.{Client, Tale, Wire, client_gets, client_hears, is_reset_step, is_to_server, link_in, new_client, tell, view_of, with_wire}
 use Rattle.log_story.specs.Telling.{is_lost_or_left, server_says, told, wire_with}
 

@@ -1,5 +1,5 @@
 -- The entries of a log that this router makes, by its world.
-use Rattle.std.specs.Prelude.{◌≡◌, ◌<◌, ℕ, Bool, true, false, not, ◌||◌, length, List, Option, Some, None}
+use Rattle.std.specs.Prelude.{◌≡◌, ◌<◌, ℕ, Bool, true, false, not, ◌||◌, length, List, Some, None}
 use Rattle.std.specs.List.{list_any}
 use Rattle.mx_base.specs.Fields.{AreBytes}
 use Rattle.mx_base.specs.declared.names.Address.{Address}
@@ -25,7 +25,7 @@ use Rattle.router_promises.specs.Rest.{is_spared_for}
 use Rattle.router_promises.specs.Tags.{StandsRight}
 use Rattle.router_promises.specs.Wakes.{wakes_at}
 use Rattle.shared_router.specs.Fixed.{Fixed, setup_of}
-use Rattle.shared_router.specs.Known.{Known, known, link_by, setup_by}
+use Rattle.shared_router.specs.Known.{Known, known, link_by}
 use Rattle.shared_router.specs.More.{More}
 use Rattle.shared_router.specs.Owed.{asks, close_by, closes, owed_on}
 use Rattle.shared_router.specs.Shared.{shared, world_at}

@@ -1,5 +1,5 @@
-use Rattle.std.specs.Prelude.{◌≡◌, drop, false, take, ◌++◌}
-use Rattle.std.proofs.Common.{ap, arith, subst, sym, ◌∙◌}
+use Rattle.std.specs.Prelude.{◌≡◌, drop, take}
+use Rattle.std.proofs.Common.{ap, arith, subst, ◌∙◌}
 use Rattle.std.proofs.lemmas.List.{take-append-drop}
 use Rattle.log_story.specs.Tale.{Tale, first_tale}
 use Rattle.mx_wire.specs.Log.{Log}
