@@ -32,7 +32,8 @@ use Rattle.tale_world.proofs.Looking.{same_messages, same_up}
 use Rattle.shared_router.specs.Fixed.{Fixed, IsNumbered, setup_of}
 use Rattle.shared_router.specs.More.{More}
 use Rattle.shared_router.specs.Shared.{shared, world_at}
-use Rattle.shared_router.proofs.Others.{IsOther, entry_keeps}
+use Rattle.shared_router.proofs.Dues.{AllDue, all_later, due_is, either, other_due}
+use Rattle.shared_router.proofs.Others.{entry_keeps}
 use Rattle.shared_router.proofs.Parting.{first, next}
 use Rattle.shared_router.proofs.Routing.{closed}
 use Rattle.shared_router.proofs.Plain.{IsPlain, IsPlainIf, plain_filled, route_plain}
@@ -42,32 +43,13 @@ abbrev pub is_seen : Decided → MessageName → Bool
 is_seen d m = is_some (d.own m)
 
 abbrev pub AreSeen : Decided → Story → Type 0
-AreSeen d [] = Unit {0}
-AreSeen d (BecameDue client hostgroup ordinal key command multiplex ∷ past) = (is_seen d (record { client = client; ordinal = ordinal }) ≡ true) × AreSeen d past
-AreSeen d (e ∷ past) = AreSeen d past
+AreSeen d story = AllDue (λ m. is_seen d m ≡ true) story
 
 abbrev SeeMore : Decided → Decided → Type 0
 SeeMore old new = (m : MessageName) → is_seen old m ≡ true → is_seen new m ≡ true
 
 seen_later : (old new : Decided) → SeeMore old new → (story : Story) → AreSeen old story → AreSeen new story
-seen_later old new more [] seen = tt
-seen_later old new more (BecameDue client hostgroup ordinal key command multiplex ∷ past) seen =
-    (more (record { client = client; ordinal = ordinal }) seen.0, seen_later old new more past seen.1)
-seen_later old new more (LoggedIn link server account ∷ past) seen = seen_later old new more past seen
-seen_later old new more (Sent link question ∷ past) seen = seen_later old new more past seen
-seen_later old new more (Ran link ∷ past) seen = seen_later old new more past seen
-seen_later old new more (Heard link reply ∷ past) seen = seen_later old new more past seen
-seen_later old new more (Freed link ∷ past) seen = seen_later old new more past seen
-seen_later old new more (Unprepared link number ∷ past) seen = seen_later old new more past seen
-seen_later old new more (Dropped link ∷ past) seen = seen_later old new more past seen
-seen_later old new more (Gone link ∷ past) seen = seen_later old new more past seen
-seen_later old new more (Left client ∷ past) seen = seen_later old new more past seen
-seen_later old new more (Broke ∷ past) seen = seen_later old new more past seen
-seen_later old new more (Mirrored client job ∷ past) seen = seen_later old new more past seen
-
-other_seen : (d : Decided) (past : Story) (e : Happening) → IsOther e → AreSeen d past → AreSeen d (e ∷ past)
-other_seen d past (BecameDue client hostgroup ordinal key command multiplex) other seen = absurd other
-other_seen d past _ other seen = seen
+seen_later old new more story seen = all_later (λ m. is_seen old m ≡ true) (λ m. is_seen new m ≡ true) more story seen
 
 -- What was decided stays decided.
 
@@ -83,57 +65,6 @@ given_seen moment (Some payloads) (Some None) is = refl
 given_seen moment (Some payloads) (Some (Some answer)) is = refl
 given_seen moment (Some payloads) None is = absurd (cc)
 given_seen moment None own is = is
-
--- A statement that is due in a session became due.
-
-either : {A : Type 0} (P : A → Type 0) (b : Bool) (x y : A) → P x → P y → P (if b then x else y)
-either P true x y one two = one
-either P false x y one two = two
-
-abbrev IsSeenDue : Decided → SessionName → Option Due → Type 0
-IsSeenDue d n None = Unit {0}
-IsSeenDue d n (Some due) = is_seen d (message_of n due) ≡ true
-
--- a due that is put there
-seen_put : (d : Decided) (m n : SessionName) (due : Due) (dues : SessionName → Option Due) → is_seen d (message_of m due) ≡ true → IsSeenDue d n (dues n)
-    → IsSeenDue d n (put is_name dues m (Some due) n)
-seen_put d m n due dues now before = by_test (is_name n m) refl where
-  by_test : (b : Bool) → is_name n m ≡ b → IsSeenDue d n (if b then Some due else dues n)
-  by_test true same = ap (λ (k : SessionName). is_seen d (message_of k due)) (named n m same) ∙ now
-  by_test false other = before
-
-seen_sent : (d : Decided) (n : SessionName) (question : Question) (dues : SessionName → Option Due) → IsSeenDue d n (dues n)
-    → IsSeenDue d n (for_statement question (λ m due. put is_name dues m None) dues n)
-seen_sent d n (Statement m due) dues before = either (IsSeenDue d n) (is_name n m) None (dues n) tt before
-seen_sent d n (Prep m key text) dues before = before
-seen_sent d n (Sync m command) dues before = before
-seen_sent d n (Own command) dues before = before
-seen_sent d n (End m) dues before = before
-seen_sent d n (Capture m) dues before = before
-
-module _ (setup : Setup) (d : Decided) (n : SessionName) where
-  seen_heard : (view : View) (link : LinkId) (reply : Reply) (stage : Stage) → IsSeenDue d n (view.dues n) → IsSeenDue d n ((view_heard setup view link reply stage).dues n)
-  seen_heard view link reply (Answered question) before = before
-  seen_heard view link reply (Asked question) before = before
-  seen_heard view link reply Quiet before = before
-
-  pub seen_due : (story : Story) → AreSeen d story → IsSeenDue d n ((view_after setup story).dues n)
-  seen_due [] seen = tt
-  seen_due (BecameDue client hostgroup ordinal key command multiplex ∷ past) seen =
-      let view = view_after setup past in
-      seen_put d (present view client hostgroup) n _ view.dues seen.0 (seen_due past seen.1)
-  seen_due (Sent link question ∷ past) seen = seen_sent d n question (view_after setup past).dues (seen_due past seen)
-  seen_due (Heard link reply ∷ past) seen =
-      let view = view_after setup past in seen_heard view link reply (view.links link).stage (seen_due past seen)
-  seen_due (LoggedIn link server account ∷ past) seen = seen_due past seen
-  seen_due (Ran link ∷ past) seen = seen_due past seen
-  seen_due (Freed link ∷ past) seen = seen_due past seen
-  seen_due (Unprepared link number ∷ past) seen = seen_due past seen
-  seen_due (Dropped link ∷ past) seen = seen_due past seen
-  seen_due (Gone link ∷ past) seen = seen_due past seen
-  seen_due (Left client ∷ past) seen = seen_due past seen
-  seen_due (Broke ∷ past) seen = seen_due past seen
-  seen_due (Mirrored client job ∷ past) seen = seen_due past seen
 
 -- Along the log: routes have no mirrors, and what became due was looked at.
 pub record Owes (w : World More) : Type 0 where
@@ -166,7 +97,7 @@ module _ (fixed : Fixed) where
       let d : Decided = decided_told setup by w e in
       record {
         plain = told_plain w e owes.plain;
-        seen = entry_keeps setup (plan_of d) (AreSeen d) (other_seen d) w.tale e
+        seen = entry_keeps setup (plan_of d) (AreSeen d) (other_due (λ m. is_seen d m ≡ true)) w.tale e
             (seen_later w.decided d (more_seen w.decided d (told-more setup by w e)) w.tale.story owes.seen);
       }
 
@@ -345,7 +276,8 @@ module _ (fixed : Fixed) where
   pub due_seen_at : (log : Log) (n : SessionName) (due : Due) → (view_of setup (world_at fixed log).tale).dues n ≡ Some due
       → is_seen (world_at fixed log).decided (message_of n due) ≡ true
   due_seen_at log n due is =
-      subst (IsSeenDue (world_at fixed log).decided n) is (seen_due setup (world_at fixed log).decided n (world_at fixed log).tale.story (owes_at log).seen)
+      let d : Decided = (world_at fixed log).decided in
+      due_is (λ m. is_seen d m ≡ true) setup n (world_at fixed log).tale.story due (owes_at log).seen is
 
   -- what was looked at before an entry was so behind it
   pub seen_step : IsNumbered fixed → (w : World More) (e : Entry) → w.decided.until ≡ w.tale.moment → SeeMore w.decided (next fixed w e).decided
