@@ -13,6 +13,7 @@ pub mod Lone
 pub mod Asking
 pub mod Prompting
 pub mod Others
+pub mod Dues
 pub mod Plain
 pub mod Owing
 pub mod Same
@@ -22,3 +23,4 @@ pub mod Counting
 pub mod Opening
 pub mod Apart
 pub mod Closing
+pub mod Seated

@@ -36,7 +36,7 @@ use Rattle.shared_router.proofs.Dues.{AllDue, all_later, due_is, either, other_d
 use Rattle.shared_router.proofs.Others.{entry_keeps}
 use Rattle.shared_router.proofs.Parting.{first, next}
 use Rattle.shared_router.proofs.Routing.{closed}
-use Rattle.shared_router.proofs.Plain.{IsPlain, IsPlainIf, plain_filled, route_plain}
+use Rattle.shared_router.proofs.Plain.{IsPlain, IsPlainIf, plain_filled, plain_of, route_plain}
 
 -- it was decided whether the router answers it
 abbrev pub is_seen : Decided → MessageName → Bool
@@ -160,10 +160,6 @@ module _ (fixed : Fixed) where
       either (λ (t : Tale). AreSeen d t.story) (nat_eq (slice_index_or message.payload 0 0) com_reset) (tell (Left client.number) tale) tale seen seen
   taken_seen d client ordinal message (Some route) tale plain is seen =
       due_seen d client ordinal route (requested setup (view_of setup tale) (plan_of d) client ordinal route message.payload) tale plain is seen
-
-  plain_of : (o : Option (Option Route)) → IsPlainIf o → IsPlain (unwrap_or o None)
-  plain_of None plain = tt
-  plain_of (Some route) plain = plain
 
   next_seen : (d : Decided) (client : Client) (found : Option Framed) (tale : Tale) → ((m : MessageName) → IsPlainIf (d.routes m))
       → ((is_some found && clients.is_up setup (plan_of d) client tale) ≡ true → is_seen d (name_of client (suc client.taken)) ≡ true)

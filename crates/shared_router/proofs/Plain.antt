@@ -21,6 +21,10 @@ abbrev pub IsPlainIf : Option (Option Route) → Type 0
 IsPlainIf None = Unit {0}
 IsPlainIf (Some route) = IsPlain route
 
+pub plain_of : (o : Option (Option Route)) → IsPlainIf o → IsPlain (unwrap_or o None)
+plain_of None plain = tt
+plain_of (Some route) plain = plain
+
 pub plain_filled : (which : MessageName → Bool) (value : MessageName → Option Route) (f : MessageName → Option (Option Route))
     → ((m : MessageName) → IsPlain (value m)) → ((m : MessageName) → IsPlainIf (f m)) → (m : MessageName) → IsPlainIf (filled which value f m)
 plain_filled which value f new old m = by_test (which m) (f m) (old m) where
