@@ -20,7 +20,9 @@ pub mod Same
 pub mod Later
 pub mod Lasting
 pub mod Counting
+pub mod Accounts
 pub mod Opening
 pub mod Apart
 pub mod Closing
 pub mod Seated
+pub mod Users

@@ -39,7 +39,7 @@ use Rattle.shared_router.specs.Lends.{settled, waiter_of, waiters_by}
 use Rattle.shared_router.specs.More.{More, now_of, terms_of}
 use Rattle.shared_router.specs.Ours.{IsOurs, OpensThere}
 use Rattle.shared_router.specs.Shared.{final_terms, shared, world_at}
-use Rattle.shared_router.specs.Users.{AreUsers, IsUser, UsersSo}
+use Rattle.shared_router.proofs.Accounts.{AreUsers, IsUser, UsersSo}
 use Rattle.shared_router.specs.Wishes.{opened_for, pick, tried_by}
 use Rattle.shared_router.proofs.Counting.{from_key, settled_free, settled_opening, settled_so, settled_unsent}
 use Rattle.shared_router.proofs.Later.{free_count, opening_count, waiters_same}

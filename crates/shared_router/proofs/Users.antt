@@ -32,7 +32,7 @@ use Rattle.router_promises.specs.Terms.{AreWhoTheySay, IsWhoItSays, Terms, login
 use Rattle.shared_router.specs.Fixed.{Fixed, setup_of}
 use Rattle.shared_router.specs.More.{More}
 use Rattle.shared_router.specs.Shared.{final_terms, shared, world_at}
-use Rattle.shared_router.specs.Users.{AreUsers, IsUser, UsersSo}
+use Rattle.shared_router.proofs.Accounts.{AreUsers, IsUser, UsersSo}
 use Rattle.shared_router.specs.Wishes.{login_for}
 use Rattle.shared_router.proofs.Dues.{AllDue, due_is}
 use Rattle.shared_router.proofs.Numbered.{AreNumbered}
@@ -51,10 +51,15 @@ all_more P Q more (x ∷ xs) all = (more x all.0, all_more P Q more xs all.1)
 
 -- A client that has messages is logged in.
 
+abbrev nothing : List Framed
+nothing = []
+
+none_at : {A : Type 0} (i : ℕ) (message : Framed) → slice_get nothing i ≡ Some message → A
+none_at i message never = absurd (cc)
+
 no_message : {A : Type 0} (limit : ℕ) (i : ℕ) (message : Framed) → slice_get (split limit 0 []).messages i ≡ Some message → A
-no_message limit i message is = by_place i (ap (λ s. slice_get s i) (sym (ap (λ s. s.messages) (split-nothing limit 0 [] (first_message-empty limit 0)))) ∙ is) where
-  by_place : {A : Type 0} (n : ℕ) → slice_get {A = Framed} [] n ≡ Some message → A
-  by_place n never = absurd (cc)
+no_message limit i message is =
+    none_at i message (sym (ap (λ s. slice_get s.messages i) (split-nothing limit 0 [] (first_message-empty limit 0))) ∙ is)
 
 logged_in : (talk : Talk) (i : ℕ) (message : Framed) → slice_get (messages_of talk).messages i ≡ Some message → (login : Login) × (account talk ≡ Some login)
 logged_in talk i message is = by_opening (opening_of talk) is where

@@ -10,4 +10,3 @@ pub mod Owed
 pub mod Shared
 pub mod Ours
 pub mod Judged
-pub mod Users
