@@ -14,3 +14,17 @@ pub mod Lone
 pub mod Asking
 pub mod Prompting
 pub mod Readying
+pub mod Others
+pub mod Dues
+pub mod Plain
+pub mod Owing
+pub mod Same
+pub mod Later
+pub mod Lasting
+pub mod Counting
+pub mod Accounts
+pub mod Opening
+pub mod Apart
+pub mod Closing
+pub mod Seated
+pub mod Users

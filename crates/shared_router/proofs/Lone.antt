@@ -1,5 +1,5 @@
 -- What goes to a server is copied nowhere.
-use Rattle.std.specs.Prelude.{◌≡◌, ℕ, Bool, true, false, not, ◌&&◌, if◌then◌else◌, List, Option, Some, None}
+use Rattle.std.specs.Prelude.{◌≡◌, ℕ, Bool, true, false, if◌then◌else◌, List, Option, Some, None}
 use Rattle.std.proofs.Common.{refl, sym, ap, ◌∙◌}
 use Rattle.hostgroups.specs.declared.server.Server.{Server}
 use Rattle.packet_frame.specs.Packets.{Framed}
@@ -9,7 +9,7 @@ use Rattle.pin_classifier.specs.declared.class.Refusal.TheVariants as refusal
 use Rattle.query_rules.specs.declared.ask.Routed.{Routed}
 use Rattle.query_rules.specs.declared.ask.Stop.{Stop}
 use Rattle.query_rules.specs.declared.ask.Stop.TheVariants as stop
-use Rattle.session_state.specs.Pins.{is_pinned}
+use Rattle.session_state.specs.Pins.{reads_own}
 use Rattle.private_model.specs.Names.{Hostgroup}
 use Rattle.private_model.specs.Story.{Key}
 use Rattle.log_story.specs.Plan.{Route}
@@ -39,8 +39,8 @@ module _ (terms : Terms) (servers : List Server) (taking : Taking) where
 
   gone_lone : (class : Class) (wanted : Wanted) → wanted.route.mirror ≡ None → IsLone (unless_gone terms servers taking class wanted)
   gone_lone class wanted lone =
-      if_either IsLone (class.reads_diag && not (is_pinned (held_in terms taking wanted.route.hostgroup).pin)) (tells_one error.diagnostics_gone)
-      (sent_unless terms servers taking wanted) tt (sent_lone wanted lone)
+      if_either IsLone (reads_own class (held_in terms taking wanted.route.hostgroup).pin) (sent_unless terms servers taking wanted)
+      (tells_one error.diagnostics_gone) (sent_lone wanted lone) tt
 
   refused_lone : (class : Class) (by : Option Refusal) (wanted : Wanted) → wanted.route.mirror ≡ None → IsLone (unless_refused terms servers taking class by wanted)
   refused_lone class (Some refusal.SetsServer) wanted lone = tt
