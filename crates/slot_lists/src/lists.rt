@@ -1,5 +1,5 @@
 // Lists of slots.
-ghost use Rattle.std.specs.Prelude.{◌≡◌, ◌+◌, ◌^◌, ◌<◌, ℕ, true, List, [], length, All, IfOk, Some, slice_get, slice_index, slice_set};
+ghost use Rattle.std.specs.Prelude.{◌≡◌, ◌+◌, ◌^◌, ◌<◌, ℕ, true, List, [], length, All, IfOk, IfSome, Some, slice_get, slice_index, slice_set};
 ghost use Rattle.slot_lists.specs.Orders.{IsApart, before, has, last, members, placed, stop_of, without};
 ghost use Rattle.slot_lists.specs.Chains.{Spells, slot_at};
 
@@ -70,8 +70,9 @@ impl SlotLists {
     /// The newest slot of a list.
     pub fn newest(&self, list: u32) -> Option<u32>
         requires { list < self.now.lists }
-        ensures { (moments order : List ℕ) → Spells self.now moments order
+        ensures is { (moments order : List ℕ) → Spells self.now moments order
             → result ≡ slice_get (members self.now.list_of list order) 0 }
+        ensures within { IfSome result (λ slot. slot < self.now.slots) }
     {
         self.slot(self.next[(self.slots + list) as usize])
     }
@@ -79,7 +80,8 @@ impl SlotLists {
     /// The oldest slot of a list.
     pub fn oldest(&self, list: u32) -> Option<u32>
         requires { list < self.now.lists }
-        ensures { (moments order : List ℕ) → Spells self.now moments order → result ≡ last (members self.now.list_of list order) }
+        ensures is { (moments order : List ℕ) → Spells self.now moments order → result ≡ last (members self.now.list_of list order) }
+        ensures within { IfSome result (λ slot. slot < self.now.slots) }
     {
         self.slot(self.previous[(self.slots + list) as usize])
     }
@@ -87,9 +89,10 @@ impl SlotLists {
     /// The slot behind another in its list: the newest of those that are older.
     pub fn older(&self, slot: u32) -> Option<u32>
         requires { slot < self.now.slots }
-        ensures { (moments order : List ℕ) (list at : ℕ) → Spells self.now moments order → list < self.now.lists
+        ensures is { (moments order : List ℕ) (list at : ℕ) → Spells self.now moments order → list < self.now.lists
             → slice_get (members self.now.list_of list order) at ≡ Some slot
             → result ≡ slice_get (members self.now.list_of list order) (at + 1) }
+        ensures within { IfSome result (λ slot. slot < self.now.slots) }
     {
         self.slot(self.next[slot as usize])
     }
@@ -97,9 +100,10 @@ impl SlotLists {
     /// The slot before another in its list: the oldest of those that are newer.
     pub fn newer(&self, slot: u32) -> Option<u32>
         requires { slot < self.now.slots }
-        ensures { (moments order : List ℕ) (list at : ℕ) → Spells self.now moments order → list < self.now.lists
+        ensures is { (moments order : List ℕ) (list at : ℕ) → Spells self.now moments order → list < self.now.lists
             → slice_get (members self.now.list_of list order) at ≡ Some slot
             → result ≡ before (members self.now.list_of list order) at }
+        ensures within { IfSome result (λ slot. slot < self.now.slots) }
     {
         self.slot(self.previous[slot as usize])
     }
@@ -111,7 +115,8 @@ impl SlotLists {
         requires moments { length moments.now ≡ self.old.slots }
         ensures slots { self.new.slots ≡ self.old.slots }
         ensures lists { self.new.lists ≡ self.old.lists }
-        ensures list { self.new.list_of ≡ slice_set self.old.list_of slot list }
+        ensures list { slice_index self.new.list_of slot ≡ list }
+        ensures others { self.new.list_of ≡ slice_set self.old.list_of slot list }
         ensures placed { (order : List ℕ) → Spells self.old moments.now order → IsApart slot order → length order < self.old.slots
             → Spells self.new moments.now (placed moments.now slot order) }
     {
@@ -159,7 +164,8 @@ impl SlotLists {
 
     // The slot of a node, None for that of a list.
     fn slot(&self, node: u32) -> Option<u32>
-        ensures { result ≡ slot_at self.now.slots node }
+        ensures is { result ≡ slot_at self.now.slots node }
+        ensures within { IfSome result (λ slot. slot < self.now.slots) }
     {
         if node < self.slots { Some(node) } else { None }
     }

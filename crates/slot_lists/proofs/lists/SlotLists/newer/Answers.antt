@@ -6,9 +6,9 @@ use Rattle.slot_lists.specs.Chains.{Chains, Spells, slot_at}
 use Rattle.slot_lists.proofs.Walking.{newer_of}
 use Rattle.slot_lists.proofs.lists.SlotLists.newer.Goals as goal
 
-pub returns : goal.returns
-returns c =
-    let found = rw (← c.self.view_is) at c.slot.ensures in
+pub returns-clause-is : goal.returns-clause-is
+returns-clause-is c =
+    let found = rw (← c.self.view_is) at c.slot.ensures.is in
     let asked = rw (← c.self.view_is) at c.requires in
     let read : c.index.result.now ≡ slice_index c.self.inside.previous.items (c.args.slot) =
     get_or_read c.self.inside.previous.items (c.args.slot) c.index.result.now (omega (arith, asked, c.self.invariant.previous_length)) c.index.ensures 0 in
