@@ -1,6 +1,6 @@
 -- Slots that are kept, the newest first; each is of a kind, and kept since a moment. What a slot was last stays known of one that isn't
 -- kept any more.
-use Rattle.std.specs.Prelude.{ℕ, List, slice_set}
+use Rattle.std.specs.Prelude.{◌≡◌, ℕ, List, [], replicate, slice_set}
 use Rattle.slot_lists.specs.Orders.{members, placed, without}
 
 pub record Aged : Type 0 where
@@ -9,6 +9,13 @@ pub record Aged : Type 0 where
   pub since : List ℕ
   pub slots : ℕ
   pub kinds : ℕ
+
+-- none of so many slots, of so many kinds
+pub record IsNone (a : Aged) (slots kinds : ℕ) : Type 0 where
+  pub no_slot : a.order ≡ []
+  pub no_moment : a.since ≡ replicate slots 0
+  pub slots_of : a.slots ≡ slots
+  pub kinds_of : a.kinds ≡ kinds
 
 -- those of a kind, the newest first
 abbrev pub of_kind : Aged → (kind : ℕ) → List ℕ

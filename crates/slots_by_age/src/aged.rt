@@ -1,7 +1,7 @@
 // Slots by age.
-ghost use Rattle.std.specs.Prelude.{◌≡◌, ◌+◌, ◌^◌, ◌<◌, ℕ, false, true, List, [], length, IfOk, IfSome, Some, slice_get, slice_index};
+ghost use Rattle.std.specs.Prelude.{◌≡◌, ◌+◌, ◌^◌, ◌<◌, ℕ, false, true, List, [], length, IfOk, IfSome, Some, replicate, slice_get, slice_index};
 ghost use Rattle.slot_lists.specs.Orders.{IsApart, before, has, last, placed};
-ghost use Rattle.slots_by_age.specs.Aged.{of_kind, put, taken};
+ghost use Rattle.slots_by_age.specs.Aged.{IsNone, of_kind, put, taken};
 
 use mx_base::OutOfMemory;
 use slot_lists::SlotLists;
@@ -42,9 +42,7 @@ impl SlotsByAge {
     pub fn new(alloc: Global, slots: u32, kinds: u32) -> Result<Self, OutOfMemory>
         requires slots { slots + 1 < 2 ^ 32 }
         requires kinds { slots + kinds < 2 ^ 32 }
-        ensures order { IfOk result (λ all. all.order ≡ []) }
-        ensures slots { IfOk result (λ all. all.slots ≡ slots) }
-        ensures kinds { IfOk result (λ all. all.kinds ≡ kinds) }
+        ensures { IfOk result (λ all. IsNone all slots kinds) }
     {
         Ok(SlotsByAge {
             all: SlotLists::new(alloc, slots, 1)?,

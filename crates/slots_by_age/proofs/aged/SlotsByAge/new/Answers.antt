@@ -10,5 +10,10 @@ invariant_of-result c =
     c.in_ok-new-2.ensures.slots c.in_ok-new-2.ensures.lists (omega (arith, c.requires.slots)) c.in_ok-new.ensures.empty c.in_ok-new-2.ensures.empty
     (ap length (c.in_ok-vec.ensures.items_if_clones_equal (λ y e. e)) ∙ length-replicate c.args.slots 0) (c.in_ok-vec-2.ensures.items_if_clones_equal (λ y e. e)) (c.in_ok-vec-3.ensures.items_if_clones_equal (λ y e. e))
 
-pub returns-clause-order : goal.returns-clause-order
-returns-clause-order c = order_of c.in_ok-new.field-0 [] [] (c.in_ok-new.ensures.empty []) c.in_ok-new.ensures.lists
+pub returns : goal.returns
+returns c = record {
+  no_slot = order_of c.in_ok-new.field-0 [] [] (c.in_ok-new.ensures.empty []) c.in_ok-new.ensures.lists;
+  no_moment = c.in_ok-vec.ensures.items_if_clones_equal (λ y e. e);
+  slots_of = c.in_ok-new.ensures.slots;
+  kinds_of = c.in_ok-new-2.ensures.lists;
+}
