@@ -5,11 +5,15 @@ use Rattle.conn_pool.specs.declared.sizes.Sizes.{Sizes}
 use Rattle.conn_pool.specs.Shelves.{Shelves}
 use Rattle.conn_pool.specs.Pools.{Idle, Links}
 
--- small enough to be counted
+-- small enough to be counted, and something of each
 pub record IsSmall (s : Sizes) : Type 0 where
   pub links : s.links + 1 < 2 ^ 32
   pub few_wait : s.waiters + 1 < 2 ^ 32
   pub waiters : s.waiters + s.keys < 2 ^ 32
+  pub some_keys : 0 < s.keys
+  pub some_places : 0 < s.places
+  pub some_groups : 0 < s.groups
+  pub some_servers : 0 < s.servers
   pub keys : s.links + s.keys < 2 ^ 32
   pub places : s.links + s.places < 2 ^ 32
   pub groups : s.links + s.groups < 2 ^ 32

@@ -76,7 +76,6 @@ impl IdleLinks {
         requires place { place < self.old.lendable.places }
         ensures link { result ≡ best_for self.old.lendable key place }
         ensures lent { self.new ≡ busy_if self.old result }
-        ensures key { IfSome result (λ link. (shelf_of self.old.lendable link).key ≡ key) }
     {
         let link = self.best(key, place)?;
         self.take(link);

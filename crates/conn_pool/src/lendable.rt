@@ -74,7 +74,8 @@ impl Lendable {
     /// Where a link belongs, or belonged last.
     pub fn shelf(&self, link: u32) -> Shelf
         requires { link < self.now.slots }
-        ensures { result ≡ shelf_of self.now link }
+        ensures is { result ≡ shelf_of self.now link }
+        ensures fits { Fits self.now result }
     {
         Shelf {
             key: self.told.keys.kind(link),

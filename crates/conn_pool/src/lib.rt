@@ -3,11 +3,13 @@
 #![tactic(auto)]
 
 mod idle;
+mod laws;
 mod lendable;
 mod pool;
 mod shelf;
 mod sizes;
 
+pub use laws::lends_its_key;
 pub use pool::Pool;
 pub use shelf::Shelf;
 pub use sizes::Sizes;

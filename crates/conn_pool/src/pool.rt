@@ -108,7 +108,6 @@ impl Pool {
         requires place { place < self.old.idle.lendable.places }
         ensures link { result ≡ best_for self.old.idle.lendable key place }
         ensures lent { self.new ≡ record self.old { idle = busy_if self.old.idle result } }
-        ensures key { IfSome result (λ link. (shelf_of self.old.idle.lendable link).key ≡ key) }
     {
         self.idle.lend(key, place)
     }

@@ -1,5 +1,5 @@
 // Lists of slots.
-ghost use Rattle.std.specs.Prelude.{◌≡◌, ◌+◌, ◌^◌, ◌<◌, ℕ, true, List, [], length, All, IfOk, IfSome, Some, slice_get, slice_index, slice_set};
+ghost use Rattle.std.specs.Prelude.{◌≡◌, ◌+◌, ◌^◌, ◌<◌, ℕ, true, List, [], length, All, IfOk, IfSome, Some, replicate, slice_get, slice_index, slice_set};
 ghost use Rattle.slot_lists.specs.Orders.{IsApart, before, has, last, members, placed, stop_of, without};
 ghost use Rattle.slot_lists.specs.Chains.{Spells, slot_at};
 
@@ -48,6 +48,7 @@ impl SlotLists {
         requires few { slots + lists < 2 ^ 32 }
         ensures slots { IfOk result (λ all. all.slots ≡ slots) }
         ensures lists { IfOk result (λ all. all.lists ≡ lists) }
+        ensures first { IfOk result (λ all. all.list_of ≡ replicate slots 0) }
         ensures empty { IfOk result (λ all. (moments : List ℕ) → Spells all moments []) }
     {
         Ok(SlotLists {

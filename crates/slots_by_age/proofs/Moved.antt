@@ -86,6 +86,16 @@ counted-put list_of counts since order slot kind n kinds here apart ordered long
       get_or-set_other counts kind other (n + 1) 0 two ∙ so other small' ∙ sym (length-placed_out list_of since slot kind other order here apart two)
 ]
 
+within-put : (list_of list_of' : List ℕ) (slot kind kinds slots : ℕ) → kind < kinds → slice_index list_of' slot ≡ kind → list_of' ≡ set list_of slot kind
+    → ((other : ℕ) → other < slots → slice_index list_of other < kinds) → (other : ℕ) → other < slots → slice_index list_of' other < kinds
+within-put list_of list_of' slot kind kinds slots small here others so other small' = elim (cases_Bool (nat_eq other slot)) [
+  | inl hit ↦ let one : other ≡ slot = eqb-true other slot hit in rw one (omega (arith, here, small))
+  | inr miss ↦
+      let two : other ≢ slot = λ e. let hit : nat_eq other slot ≡ true = eq-eqb other slot e in cc in
+      let same : slice_index list_of' other ≡ slice_index list_of other = rw others (get_or-set_other list_of slot other kind 0 two) in
+      omega (arith, same, so other small')
+]
+
 pub tables-put : (all kinds all' kinds' : Chains) (since : List ℕ) (kept : List Bool) (counts : List ℕ) (slot kind moment n : ℕ)
     → AreTables all kinds since kept counts → slot < all.slots → kind < kinds.lists → has slot (order_in all) ≡ false
     → IsIn all all' (set since slot moment) slot 0 → IsIn kinds kinds' (set since slot moment) slot kind → n ≡ slice_index counts kind
@@ -103,6 +113,8 @@ tables-put all kinds all' kinds' since kept counts slot kind moment n t small wi
       counts_length = length-set counts kind (n + 1) ∙ t.counts_length ∙ sym (of'.lists);
       whole = rw order (placed_all all all' since slot 0 moment t.whole small apart in');
       parts = rw order (of'.placed (order_in all) spelled apart (omega (arith, t.slots, room_for all since (order_in all) slot t.whole small apart)));
+      within = λ other small'. omega (arith, of'.lists, within-put kinds.list_of kinds'.list_of slot kind kinds.lists all.slots within of'.here of'.others
+          t.within other (omega (arith, small', in'.slots)));
       is_kept = λ other small'. rw order (kept-put kept (set since slot moment) (order_in all) slot all.slots small t.kept_length t.is_kept other
           (omega (arith, small', in'.slots)));
       counted = λ other small'. rw (order, of'.others) (counted-put kinds.list_of counts (set since slot moment) (order_in all) slot kind n kinds.lists
@@ -179,6 +191,7 @@ tables-taken all kinds all' kinds' since kept counts slot n t small here out off
       counts_length = length-set counts (slice_index kinds.list_of slot) (n - 1) ∙ t.counts_length ∙ sym (off.lists);
       whole = rw order (out.without since (order_in all) t.whole here);
       parts = rw order (off.without since (order_in all) t.parts here);
+      within = λ other small'. rw off.list (omega (arith, off.lists, t.within other (omega (arith, small', out.slots))));
       is_kept = λ other small'. rw order (kept-taken kept (order_in all) slot all.slots small t.kept_length t.is_kept other (omega (arith, small', out.slots)));
       counted = λ other small'. rw (order, off.list) (counted-taken kinds since (order_in all) counts slot n t.parts here t.counts_length is t.counted other
           (omega (arith, small', off.lists)));
@@ -191,8 +204,8 @@ zeros_at (suc n) (suc i) = zeros_at n i
 
 pub tables-none : (all kinds : Chains) (since : List ℕ) (slots many : ℕ) (kept : List Bool) (counts : List ℕ) → all.slots ≡ slots → all.lists ≡ 1
     → kinds.slots ≡ slots → kinds.lists ≡ many → slots < 2 ^ 32 → ((moments : List ℕ) → Spells all moments []) → ((moments : List ℕ) → Spells kinds moments [])
-    → length since ≡ slots → kept ≡ replicate slots false → counts ≡ replicate many 0 → AreTables all kinds since kept counts
-tables-none all kinds since slots many kept counts slots_is one slots_of many_of few none none_of long kept_is counts_is =
+    → kinds.list_of ≡ replicate slots 0 → 0 < many → length since ≡ slots → kept ≡ replicate slots false → counts ≡ replicate many 0 → AreTables all kinds since kept counts
+tables-none all kinds since slots many kept counts slots_is one slots_of many_of few none none_of first some long kept_is counts_is =
     let order : order_in all ≡ [] = order_of all since [] (none since) one in
     record {
       slots = slots_of ∙ sym slots_is;
@@ -203,6 +216,7 @@ tables-none all kinds since slots many kept counts slots_is one slots_of many_of
       counts_length = rw counts_is (length-replicate many 0 ∙ sym many_of);
       whole = rw order (none since);
       parts = rw order (none_of since);
+      within = λ slot small. rw first (omega (arith, zeros_at slots slot, some, many_of));
       is_kept = λ slot small. rw (order, kept_is) (get_or-replicate slots slot false false (omega (arith, small, slots_is)));
       counted = λ kind small. rw (order, counts_is) (zeros_at many kind);
     }

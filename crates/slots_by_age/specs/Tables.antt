@@ -12,5 +12,6 @@ pub record AreTables (all kinds : Chains) (since : List ℕ) (kept : List Bool) 
   pub counts_length : length counts ≡ kinds.lists
   pub whole : Spells all since (order_in all)
   pub parts : Spells kinds since (order_in all)
+  pub within : (slot : ℕ) → slot < all.slots → slice_index kinds.list_of slot < kinds.lists
   pub is_kept : (slot : ℕ) → slot < all.slots → slice_index_or kept slot false ≡ has slot (order_in all)
   pub counted : (kind : ℕ) → kind < kinds.lists → slice_index counts kind ≡ length (members kinds.list_of kind (order_in all))

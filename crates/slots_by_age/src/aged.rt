@@ -42,6 +42,7 @@ impl SlotsByAge {
     pub fn new(alloc: Global, slots: u32, kinds: u32) -> Result<Self, OutOfMemory>
         requires slots { slots + 1 < 2 ^ 32 }
         requires kinds { slots + kinds < 2 ^ 32 }
+        requires some { 0 < kinds }
         ensures { IfOk result (λ all. IsNone all slots kinds) }
     {
         Ok(SlotsByAge {
@@ -64,7 +65,8 @@ impl SlotsByAge {
     /// The kind that a slot is or was last of.
     pub fn kind(&self, slot: u32) -> u32
         requires { slot < self.now.slots }
-        ensures { result ≡ slice_index self.now.kind_of slot }
+        ensures is { result ≡ slice_index self.now.kind_of slot }
+        ensures within { result < self.now.kinds }
     {
         self.kinds.list(slot)
     }

@@ -8,6 +8,7 @@ invariant_of-result c =
     tables-none c.in_ok-new.field-0 c.in_ok-new-2.field-0 c.in_ok-vec.field-0.items c.args.slots c.args.kinds
     c.in_ok-vec-2.field-0.items c.in_ok-vec-3.field-0.items c.in_ok-new.ensures.slots c.in_ok-new.ensures.lists
     c.in_ok-new-2.ensures.slots c.in_ok-new-2.ensures.lists (omega (arith, c.requires.slots)) c.in_ok-new.ensures.empty c.in_ok-new-2.ensures.empty
+    c.in_ok-new-2.ensures.first c.requires.some
     (ap length (c.in_ok-vec.ensures.items_if_clones_equal (λ y e. e)) ∙ length-replicate c.args.slots 0) (c.in_ok-vec-2.ensures.items_if_clones_equal (λ y e. e)) (c.in_ok-vec-3.ensures.items_if_clones_equal (λ y e. e))
 
 pub returns : goal.returns
