@@ -1,5 +1,5 @@
 -- Which link is lent.
-use Rattle.std.proofs.Common.{◌≡◌, ℕ, Bool, true, false, List, [], ◌∷◌, refl, inl, inr}
+use Rattle.std.proofs.Common.{◌≡◌, ℕ, true, List, [], ◌∷◌, refl, inl, inr}
 use Rattle.std.specs.Prelude.{nat_eq, slice_get, slice_index, IfSome, Option, Some, None}
 use Rattle.std.proofs.lemmas.Bool.{cases_Bool, eqb-true, eq-eqb}
 use Rattle.slot_lists.specs.Orders.{has, members}

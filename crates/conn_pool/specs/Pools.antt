@@ -9,14 +9,14 @@ use Rattle.conn_pool.specs.Shelves.{Shelves, of_key, shelf_of, shelved, unshelve
 -- links that carry nobody
 pub record Idle : Type 0 where
   pub lendable : Shelves
-  pub aside : Aged     -- by server
-  pub resting : Aged   -- all of them, since they were given back
+  pub aside : Aged  -- by server
+  pub resting : Aged  -- all of them, since they were given back
 
 pub record Links : Type 0 where
-  pub links : Aged     -- open ones, by server
+  pub links : Aged  -- open ones, by server
   pub entering : Aged  -- by key: those whose login isn't through
   pub idle : Idle
-  pub waiting : Aged   -- clients, by key
+  pub waiting : Aged  -- clients, by key
 
 -- What changes.
 

@@ -1,5 +1,5 @@
 -- Links that may be lent, the newest first: of each its key, the place that it was told, its hostgroup and its server.
-use Rattle.std.specs.Prelude.{◌≡◌, ℕ, ◌<◌, Bool, nat_eq, if◌then◌else◌, List, length, slice_get, slice_index, slice_set, Option, Some, None}
+use Rattle.std.specs.Prelude.{◌≡◌, ℕ, ◌<◌, nat_eq, if◌then◌else◌, List, slice_get, slice_index, slice_set, Option, Some, None}
 use Rattle.slot_lists.specs.Orders.{last, members, placed, without}
 use Rattle.slots_by_age.specs.Aged.{Aged}
 use Rattle.conn_pool.specs.declared.shelf.Shelf.{Shelf}

@@ -1,6 +1,6 @@
 -- How large tables are, and tables with nothing in them.
-use Rattle.std.specs.Prelude.{◌≡◌, ℕ, ◌+◌, ◌^◌, ◌<◌, [], replicate}
-use Rattle.slots_by_age.specs.Aged.{Aged, IsNone}
+use Rattle.std.specs.Prelude.{◌≡◌, ◌+◌, ◌^◌, ◌<◌, [], replicate}
+use Rattle.slots_by_age.specs.Aged.{IsNone}
 use Rattle.conn_pool.specs.declared.sizes.Sizes.{Sizes}
 use Rattle.conn_pool.specs.Shelves.{Shelves}
 use Rattle.conn_pool.specs.Pools.{Idle, Links}

@@ -6,14 +6,13 @@ ghost use Rattle.conn_pool.specs.Shelves.{Fits, best_for, longest_in, of_key, of
 ghost use Rattle.conn_pool.specs.Sized.{IsSmall, NoneIdle};
 ghost use Rattle.conn_pool.specs.Pools.{brought_back, busy, busy_if, expiring, given_back, put_aside};
 
+use crate::lendable::Lendable;
+use crate::shelf::Shelf;
+use crate::sizes::Sizes;
 use mx_base::OutOfMemory;
 use slots_by_age::SlotsByAge;
 use std::alloc::Global;
 use std::marker::Model;
-
-use crate::lendable::Lendable;
-use crate::shelf::Shelf;
-use crate::sizes::Sizes;
 
 // Those that stand aside by server, and all of them by when they were given back.
 #[derive(Drop)]
@@ -120,7 +119,7 @@ impl IdleLinks {
 
     /// One of the links to a server that stand aside may be lent again. None: there is no more.
     pub fn bring_back(&mut self, server: u32, now_ms: u64) -> Option<u32>
-        requires { server < self.old.aside.kinds }
+        requires { server < self.old.lendable.servers }
         ensures link { result ≡ last (of_kind self.old.aside server) }
         ensures back { self.new ≡ brought_back self.old now_ms result }
     {

@@ -7,5 +7,4 @@ ghost use Rattle.conn_pool.specs.Shelves.{Shelves, best_for, shelf_of};
 pub fn lends_its_key()
     ensures key { (s : Shelves) (key place : ℕ) → IfSome (best_for s key place) (λ link. (shelf_of s link).key ≡ key) }
     ensures lendable { (s : Shelves) (key place : ℕ) → IfSome (best_for s key place) (λ link. has link s.order ≡ true) }
-{
-}
+{}

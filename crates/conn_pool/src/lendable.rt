@@ -5,13 +5,12 @@ ghost use Rattle.conn_pool.specs.Shelves.{Fits, of_group, of_key, of_place, of_s
 ghost use Rattle.slots_by_age.specs.Aged.{IsNone};
 ghost use Rattle.conn_pool.specs.Sized.{AreNone, IsSmall};
 
+use crate::shelf::Shelf;
+use crate::sizes::Sizes;
 use mx_base::OutOfMemory;
 use slots_by_age::SlotsByAge;
 use std::alloc::Global;
 use std::marker::Model;
-
-use crate::shelf::Shelf;
-use crate::sizes::Sizes;
 
 // By key and by place.
 #[derive(Drop)]

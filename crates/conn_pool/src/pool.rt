@@ -6,14 +6,13 @@ ghost use Rattle.conn_pool.specs.Shelves.{Fits, best_for, longest_in, of_server,
 ghost use Rattle.conn_pool.specs.Sized.{IsFor, IsSmall};
 ghost use Rattle.conn_pool.specs.Pools.{brought_back, busy_if, closed, expiring, given_back, opened, put_aside, wants_link};
 
+use crate::idle::IdleLinks;
+use crate::shelf::Shelf;
+use crate::sizes::Sizes;
 use mx_base::OutOfMemory;
 use slots_by_age::SlotsByAge;
 use std::alloc::Global;
 use std::marker::Model;
-
-use crate::idle::IdleLinks;
-use crate::shelf::Shelf;
-use crate::sizes::Sizes;
 
 // Open links by server, and those whose login isn't through by key.
 #[derive(Drop)]
