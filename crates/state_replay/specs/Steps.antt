@@ -23,7 +23,7 @@ text_step None (Some text) = Some (SetText text)
 text_step None None = None
 
 -- SET NAMES first, then SET SESSION, of what differs
-abbrev pub settings_step : (told wanted : List SlotValue) → Option Step
+unfoldable pub settings_step : (told wanted : List SlotValue) → Option Step
 settings_step told wanted = text_step (names_text (difference_of told wanted)) (session_text (difference_of told wanted))
 
 abbrev pub place_step : Told → Place → Option Step
@@ -43,7 +43,7 @@ abbrev pub next_step : Told → Place → (known wanted : Option ℕ) → Step
 next_step told place known wanted = step_or (place_step told place) (id_step known wanted)
 
 -- settings with autocommit as in others
-abbrev pub calm : (settings told : List SlotValue) → List SlotValue
+unfoldable pub calm : (settings told : List SlotValue) → List SlotValue
 calm settings told = applied settings (record { slot = Autocommit; value = value_at told Autocommit; adds = false } ∷ [])
 
 abbrev pub preparation_step : Told → Place → Step

@@ -1,13 +1,13 @@
 // The next step.
 ghost use Rattle.std.specs.Prelude.{◌≡◌, IsTrue, IfOk, OnOk, OnErr};
 ghost use Rattle.session_vars.specs.Settings.{difference_of, is_text, value_at};
-ghost use Rattle.state_replay.specs.Steps.{after, id_step, needs_schema, next_step, place_step, preparation_step, settings_step};
+ghost use Rattle.state_replay.specs.Steps.{after, id_step, needs_schema, next_step, place_step, preparation_step, settings_step, text_step};
 
 use crate::calm::calm;
 use crate::step::Step;
 use mx_base::{Bytes, OutOfMemory};
 use session_state::{Place, Told};
-use session_vars::{SetShape, Settings, Slot, difference, read_set, set_texts};
+use session_vars::{SetShape, SetTexts, Settings, Slot, difference, read_set, set_texts};
 use std::alloc::Global;
 
 /// What goes to a link next for a statement that is prepared there, if it has to be: the step to its place, or to its insert id, or the
@@ -85,9 +85,19 @@ fn settings_step(alloc: Global, told: &Settings, wanted: &Settings) -> Result<Op
 {
     let changes = difference(alloc, told, wanted)?;
     let texts = set_texts(alloc, changes.as_slice())?;
-    match texts.names {
-        Some(text) => Ok(Some(Step::SetText(text))),
-        None => Ok(texts.session.map(Step::SetText)),
+    let SetTexts { names, session } = texts;
+    Ok(text_step(names, session))
+}
+
+fn text_step(names: Option<Bytes>, session: Option<Bytes>) -> Option<Step>
+    ensures { result ≡ text_step names session }
+{
+    match names {
+        Some(text) => Some(Step::SetText(text)),
+        None => match session {
+            Some(text) => Some(Step::SetText(text)),
+            None => None,
+        },
     }
 }
 

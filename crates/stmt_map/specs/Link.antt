@@ -1,17 +1,18 @@
 -- The statements that are prepared on a link: keys with their numbers, in the order of preparation.
-use Rattle.std.specs.Prelude.{ℕ, Bool, not, ◌||◌, nat_eq, if◌then◌else◌, List, [], ◌∷◌, ◌++◌, filter, Option, Some, None}
+use Rattle.std.specs.Prelude.{ℕ, Bool, not, ◌||◌, nat_eq, List, filter, Option}
+use Rattle.std.specs.HashMap.{get}
+use Rattle.indexmap.specs.IndexMap.{insert_entry}
+use Rattle.stmt_map.specs.declared.link.LinkStatements.{LinkStatements}
 
-abbrev pub number_in : List (ℕ × ℕ) → (key : ℕ) → Option ℕ
-number_in [] key = None
-number_in (entry ∷ entries) key = if nat_eq key entry.0 then Some entry.1 else number_in entries key
+abbrev pub prepared : LinkStatements → List (ℕ × ℕ)
+prepared s = s.numbers.entries
+
+abbrev pub number_of : LinkStatements → (key : ℕ) → Option ℕ
+number_of s key = get nat_eq s.numbers key
 
 abbrev pub stays : (key number : ℕ) → (ℕ × ℕ) → Bool
 stays key number entry = not (nat_eq entry.0 key || nat_eq entry.1 number)
 
--- it stands last, and neither its key nor its number stands elsewhere
+-- neither its key nor its number stands elsewhere, so it stands last
 abbrev pub added : List (ℕ × ℕ) → (key number : ℕ) → List (ℕ × ℕ)
-added entries key number = filter (stays key number) entries ++ (key, number) ∷ []
-
-abbrev pub without_key : List (ℕ × ℕ) → (key : ℕ) → List (ℕ × ℕ)
-without_key [] key = []
-without_key (entry ∷ entries) key = if nat_eq key entry.0 then entries else entry ∷ without_key entries key
+added entries key number = insert_entry nat_eq (filter (stays key number) entries) key number

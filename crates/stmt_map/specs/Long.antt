@@ -5,14 +5,14 @@ use Rattle.session_vars.specs.declared.long_part.LongPart.{LongPart}
 abbrev pub place_of : List LongPart → (parameter : ℕ) → Option ℕ
 place_of parts parameter = position (λ (part : LongPart). nat_eq part.parameter parameter) parts
 
-abbrev pub bytes_of : Option LongPart → List ℕ
-bytes_of None = []
-bytes_of (Some part) = part.bytes
+-- bytes go to the end of the part at a place
+abbrev pub grown_at : List LongPart → (place : ℕ) → List ℕ → Option LongPart → List LongPart
+grown_at parts place bytes None = parts
+grown_at parts place bytes (Some part) = slice_set parts place (record { parameter = part.parameter; bytes = part.bytes ++ bytes })
 
 abbrev pub joined : List LongPart → (parameter : ℕ) → List ℕ → Option ℕ → List LongPart
 joined parts parameter bytes None = parts ++ record { parameter = parameter; bytes = bytes } ∷ []
-joined parts parameter bytes (Some place) =
-    slice_set parts place (record { parameter = parameter; bytes = bytes_of (slice_get parts place) ++ bytes })
+joined parts parameter bytes (Some place) = grown_at parts place bytes (slice_get parts place)
 
 -- bytes go to the end of their parameter's part
 abbrev pub long_with : List LongPart → (parameter : ℕ) → List ℕ → List LongPart

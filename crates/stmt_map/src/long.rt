@@ -1,6 +1,6 @@
 // Long data of a statement.
-ghost use Rattle.std.specs.Prelude.{◌≡◌, ◌≤◌, OnOk, OnErr};
-ghost use Rattle.stmt_map.specs.Long.{grown, long_with, no_long, place_of};
+ghost use Rattle.std.specs.Prelude.{◌≡◌, ◌<◌, ◌≤◌, OnOk, OnErr, length, slice_get};
+ghost use Rattle.stmt_map.specs.Long.{grown, grown_at, long_with, no_long, place_of};
 
 use mx_base::{Bytes, OutOfMemory};
 use session_vars::LongPart;
@@ -16,7 +16,10 @@ pub enum LongFault {
 }
 
 impl From<OutOfMemory> for LongFault {
-    ghost from_gives = { λ error result. result ≡ LongFault.OutOfMemory };
+    ghost use Rattle.std.specs.Prelude.{◌≡◌};
+    ghost use Rattle.stmt_map.specs.declared.long.LongFault.TheVariants as faults;
+
+    ghost from_gives = { λ _ fault. fault ≡ faults.OutOfMemory };
 
     fn from(_error: OutOfMemory) -> Self {
         LongFault::OutOfMemory
@@ -84,11 +87,20 @@ fn append_part(alloc: Global, parts: &mut Vec<LongPart>, parameter: u16, bytes: 
     ensures err { OnErr result (parts.new.items ≡ parts.old.items) }
 {
     match place_of(parts, parameter) {
-        Some(place) => parts[place].bytes.append(bytes),
+        Some(place) => append_at(parts, place, bytes),
         None => {
             let bytes = Bytes::from_slice(alloc, bytes)?;
             parts.push(LongPart { parameter, bytes })?;
             Ok(())
         }
     }
+}
+
+fn append_at(parts: &mut Vec<LongPart>, place: usize, bytes: &[u8]) -> Result<(), OutOfMemory>
+    requires { place < length parts.old.items }
+    ensures ok { OnOk result (parts.new.items ≡ grown_at parts.old.items place bytes.now (slice_get parts.old.items place)) }
+    ensures err { OnErr result (parts.new.items ≡ parts.old.items) }
+{
+    parts[place].bytes.append(bytes)?;
+    Ok(())
 }

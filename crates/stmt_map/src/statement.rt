@@ -1,6 +1,4 @@
 // A client's prepared statement.
-ghost use Rattle.std.specs.Prelude.{◌≡◌};
-
 use crate::long::LongData;
 use mx_base::{Bytes, Hostgroup, OutOfMemory};
 
@@ -30,7 +28,10 @@ pub enum AddFault {
 }
 
 impl From<OutOfMemory> for AddFault {
-    ghost from_gives = { λ error result. result ≡ AddFault.OutOfMemory };
+    ghost use Rattle.std.specs.Prelude.{◌≡◌};
+    ghost use Rattle.stmt_map.specs.declared.statement.AddFault.TheVariants as faults;
+
+    ghost from_gives = { λ _ fault. fault ≡ faults.OutOfMemory };
 
     fn from(_error: OutOfMemory) -> Self {
         AddFault::OutOfMemory
