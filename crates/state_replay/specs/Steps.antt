@@ -1,8 +1,6 @@
 -- The next step on a link, by what it was told and what is wanted.
 use Rattle.std.specs.Prelude.{ℕ, Bool, false, not, ◌&&◌, bytes_eq, nat_eq, if◌then◌else◌, List, [], ◌∷◌, Option, Some, None}
-use Rattle.session_vars.specs.declared.change.Change.{Change}
 use Rattle.session_vars.specs.declared.change.SlotValue.{SlotValue}
-use Rattle.session_vars.specs.declared.slot.Slot.{Slot}
 use Rattle.session_vars.specs.declared.slot.Slot.TheVariants.{Autocommit}
 use Rattle.session_vars.specs.Settings.{applied, difference_of, value_at}
 use Rattle.session_vars.specs.Shapes.{changes_by}

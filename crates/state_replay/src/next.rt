@@ -13,7 +13,13 @@ use std::alloc::Global;
 /// What goes to a link next for a statement that is prepared there, if it has to be: the step to its place, or to its insert id, or the
 /// statement. `known` is the insert id that the link is known to have, `wanted` the one that the statement has to find, None where it
 /// finds none or may find any. SET NAMES can't take names back, so the place has them as a text.
-pub fn next_step(alloc: Global, told: &Told, place: &Place, known: Option<u64>, wanted: Option<u64>) -> Result<Step, OutOfMemory>
+pub fn next_step(
+    alloc: Global,
+    told: &Told,
+    place: &Place,
+    known: Option<u64>,
+    wanted: Option<u64>,
+) -> Result<Step, OutOfMemory>
     requires { IsTrue (is_text (value_at place.now.settings Slot.Names)) }
     ensures { IfOk result (λ step. step ≡ next_step told.now place.now known wanted) }
 {
@@ -79,7 +85,11 @@ fn place_step(alloc: Global, told: &Told, place: &Place) -> Result<Option<Step>,
     settings_step(alloc, &told.settings, &place.settings)
 }
 
-fn settings_step(alloc: Global, told: &Settings, wanted: &Settings) -> Result<Option<Step>, OutOfMemory>
+fn settings_step(
+    alloc: Global,
+    told: &Settings,
+    wanted: &Settings,
+) -> Result<Option<Step>, OutOfMemory>
     requires { IsTrue (is_text (value_at wanted.now Slot.Names)) }
     ensures { IfOk result (λ step. step ≡ settings_step told.now wanted.now) }
 {

@@ -56,7 +56,9 @@ impl ClientStatements {
             types: None,
             long: LongData::new(alloc),
         };
-        self.statements.insert(number, statement).map_err(|_| OutOfMemory)?;
+        self.statements
+            .insert(number, statement)
+            .map_err(|_| OutOfMemory)?;
         self.last = number;
         Ok(number)
     }
@@ -80,7 +82,14 @@ impl ClientStatements {
     }
 
     /// Long data comes for a parameter. Nothing changes where the number is unknown. `most` is how many bytes a statement may have.
-    pub fn append_long(&mut self, alloc: Global, number: u32, parameter: u16, bytes: &[u8], most: u64) -> Result<(), LongFault>
+    pub fn append_long(
+        &mut self,
+        alloc: Global,
+        number: u32,
+        parameter: u16,
+        bytes: &[u8],
+        most: u64,
+    ) -> Result<(), LongFault>
         ensures appended { OnOk result (Changes self.old self.new number (option_map (with_long parameter bytes.now) (statement_at self.old number))) }
     {
         if let Some(statement) = self.statements.get_mut(&number) {

@@ -61,7 +61,13 @@ impl LongData {
     }
 
     /// Appends bytes to a parameter's part. `most` is how many bytes there may be of all parameters.
-    pub fn append(&mut self, alloc: Global, parameter: u16, bytes: &[u8], most: u64) -> Result<(), LongFault>
+    pub fn append(
+        &mut self,
+        alloc: Global,
+        parameter: u16,
+        bytes: &[u8],
+        most: u64,
+    ) -> Result<(), LongFault>
         ensures ok { OnOk result (self.new ≡ grown self.old parameter bytes.now) }
         ensures within { OnOk result (self.new.size ≤ most) }
         ensures err { OnErr result (self.new ≡ self.old) }
@@ -82,7 +88,12 @@ fn place_of(parts: &[LongPart], parameter: u16) -> Option<usize>
     parts.iter().position(|part| part.parameter == parameter)
 }
 
-fn append_part(alloc: Global, parts: &mut Vec<LongPart>, parameter: u16, bytes: &[u8]) -> Result<(), OutOfMemory>
+fn append_part(
+    alloc: Global,
+    parts: &mut Vec<LongPart>,
+    parameter: u16,
+    bytes: &[u8],
+) -> Result<(), OutOfMemory>
     ensures ok { OnOk result (parts.new.items ≡ long_with parts.old.items parameter bytes.now) }
     ensures err { OnErr result (parts.new.items ≡ parts.old.items) }
 {
