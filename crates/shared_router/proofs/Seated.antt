@@ -77,7 +77,7 @@ of_numbered from (x ∷ xs) y are (inl same) = (
 )
 of_numbered from (x ∷ xs) y are (inr there) = (
   λ is. absurd (let same : x.number.0 ≡ y.number.0 = ap (λ (n : ClientNo). n.0) (client_of x.number y.number is) in let first : x.number.0 ≡ from = are.0 in
-  let later : suc from ≤ y.number.0 = number_from (suc from) xs y are.1 there in omega arith),
+      let later : suc from ≤ y.number.0 = number_from (suc from) xs y are.1 there in omega arith),
   of_numbered (suc from) xs y are.1 there,
 )
 
