@@ -12,5 +12,7 @@ pub mod Decidedly
 pub mod Numbered
 pub mod Lone
 pub mod Asking
+pub mod Holding
+pub mod TakingUp
 pub mod Prompting
 pub mod Readying
