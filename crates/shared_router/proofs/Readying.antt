@@ -11,7 +11,7 @@ use Rattle.tale_world.specs.Policy.{Idle, Lends, Readied, Rest, Waiter, best, ne
 use Rattle.router_promises.specs.Dues.{is_unsent}
 use Rattle.router_promises.specs.Keys.{is_vacant, is_waiting}
 use Rattle.shared_router.specs.Known.{Known, present_by, view_by}
-use Rattle.shared_router.specs.Lends.{as_readied, is_readied_for, is_waiter, kept, lending, lent, readied_now, rest_of, still_waits, waiter_of, waiters_by}
+use Rattle.shared_router.specs.Lends.{as_readied, if_near, is_near, is_readied_for, is_waiter, kept, lending, lent, readied_now, rest_of, still_waits, waiter_of, waiters_by}
 use Rattle.shared_router.specs.Waits.{Waits}
 
 no_some : {A B : Type 0} (a : A) → None ≡ Some a → B
@@ -76,11 +76,18 @@ module _ (k : Known) where
 
   kept_waits : (rest : Rest) → AllWait rest.waiters → AreWaiting (kept k rest)
   kept_waits rest all link r is = by_readied (k.readied link) is where
-    by_vacant : (b : Bool) (was : Readied) → (if b then still_waits rest was else None) ≡ Some r → Waits k r
-    by_vacant true was is = found_waits (is_waiter was) rest.waiters r all is
+    by_near : (o : Option Readied) → ((one : Readied) → o ≡ Some one → Waits k one) → option_and_then (if_near k link) o ≡ Some r → Waits k r
+    by_near None waits is = no_some r is
+    by_near (Some one) waits is = by_test (is_near k link one) is where
+      by_test : (b : Bool) → (if b then Some one else None) ≡ Some r → Waits k r
+      by_test true is = waits r is
+      by_test false is = no_some r is
+
+    by_vacant : (b : Bool) (was : Readied) → (if b then option_and_then (if_near k link) (still_waits rest was) else None) ≡ Some r → Waits k r
+    by_vacant true was is = by_near (still_waits rest was) (λ one found. found_waits (is_waiter was) rest.waiters one all found) is
     by_vacant false was is = no_some r is
 
-    by_readied : (o : Option Readied) → option_and_then (λ was. if is_vacant k.terms k.log k.now link then still_waits rest was else None) o ≡ Some r → Waits k r
+    by_readied : (o : Option Readied) → option_and_then (λ was. if is_vacant k.terms k.log k.now link then option_and_then (if_near k link) (still_waits rest was) else None) o ≡ Some r → Waits k r
     by_readied None is = no_some r is
     by_readied (Some was) is = by_vacant (is_vacant k.terms k.log k.now link) was is
 
