@@ -102,7 +102,7 @@ with_like (x ∷ xs) (y ∷ ys) client like of = (by_test (is_client y.number cl
 module _ (setup : Setup) (plan : Plan) where
   -- as an entry is told
 
-  abbrev clients_by : Tale → Entry → List Client
+  abbrev pub clients_by : Tale → Entry → List Client
   clients_by tale (entry.Accepted port link salt) = tale.clients ++ new_client (length tale.clients + 1) link salt ∷ []
   clients_by tale (entry.Got link bytes) = if is_to_server tale link then tale.clients else map (client_hears link bytes) tale.clients
   clients_by tale (entry.Wrote link tag bytes) = if is_to_server tale link then tale.clients else map (client_gets link (length bytes)) tale.clients
@@ -125,7 +125,7 @@ module _ (setup : Setup) (plan : Plan) where
   losing_clients link tale =
       same_clients (is_to_server tale link) (tell (Gone link) tale) (fold (client_leaves link) tale tale.clients) tale.clients refl (leaving_clients link tale.clients tale)
 
-  told_clients : (tale : Tale) (e : Entry) → (told setup plan tale e).clients ≡ clients_by tale e
+  pub told_clients : (tale : Tale) (e : Entry) → (told setup plan tale e).clients ≡ clients_by tale e
   told_clients tale (entry.Got link bytes) =
       if_clients (is_to_server tale link) (server_says setup plan link bytes tale) (record tale { clients = map (client_hears link bytes) tale.clients }) _ _
       (says-moved setup plan link bytes tale).clients refl
