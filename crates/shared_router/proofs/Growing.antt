@@ -1,5 +1,5 @@
 -- Clients stay, and what was read of them is the beginning of what is: so who says in a login that is whole who it is says so later.
-use Rattle.std.specs.Prelude.{◌≡◌, ◌+◌, ◌≤◌, All, ℕ, zero, suc, Bool, true, false, drop, length, map, take, if◌then◌else◌, List, [], ◌∷◌, ◌++◌, Option, Some, None}
+use Rattle.std.specs.Prelude.{◌≡◌, ◌+◌, All, ℕ, zero, suc, drop, length, map, take, List, [], ◌∷◌, ◌++◌}
 use Rattle.std.proofs.Common.{refl, sym, ap, ◌∙◌, subst, append_assoc, append-nil, arith, take-append-drop}
 use Rattle.client_session.specs.Accounts.{account_of}
 use Rattle.client_session.specs.Answers.{account, account_in, opening_of}
@@ -11,7 +11,6 @@ use Rattle.mx_wire.specs.declared.entry.Entry.{Entry}
 use Rattle.mx_wire.specs.declared.entry.Entry.TheVariants as entry
 use Rattle.private_model.specs.Story.{is_link_id}
 use Rattle.private_model.specs.View.{Setup}
-use Rattle.server_side.specs.Account.{Account as Login}
 use Rattle.log_story.specs.Owed.{talk_of}
 use Rattle.log_story.specs.Plan.{Plan}
 use Rattle.log_story.specs.Tale.{Client, Tale, client_gets, client_hears, is_to_server, new_client}
