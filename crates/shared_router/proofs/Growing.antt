@@ -98,7 +98,7 @@ module _ (setup : Setup) (plan : Plan) where
 -- Along a log.
 
 module _ (fixed : Fixed) where
-  tale_so : (log : Log) (e : Entry) → (plan : Plan) × ((world_at fixed (log ++ e ∷ [])).tale ≡ tale_step (setup_of fixed) plan (world_at fixed log).tale e)
+  pub tale_so : (log : Log) (e : Entry) → (plan : Plan) × ((world_at fixed (log ++ e ∷ [])).tale ≡ tale_step (setup_of fixed) plan (world_at fixed log).tale e)
   tale_so log e =
       let w : World More = world_at fixed log in
       let v : World More = next fixed w e in (
@@ -130,7 +130,7 @@ module _ (fixed : Fixed) where
 
 -- Who says so later said so.
 
-abbrev IsWho : Terms → Client → Type 0
+abbrev pub IsWho : Terms → Client → Type 0
 IsWho t client = IsWhoItSays t client (opening_of (talk_of (plan_in t) client))
 
 module _ (t : Terms) (x y : Client) (grown : IsGrown x y) where
@@ -152,7 +152,7 @@ module _ (t : Terms) (x y : Client) (grown : IsGrown x y) where
       let both = says login (same ∙ found) in
       (ap (λ n. t.decided.accounts n) (sym grown.number) ∙ both.0, ap (λ n. t.decided.places n) (sym grown.number) ∙ both.1)
 
-  who_earlier : IsWho t y → IsWho t x
+  pub who_earlier : IsWho t y → IsWho t x
   who_earlier who = earlier who (opening_of (talk_of (plan_in t) x)) refl
 
 who_all : (t : Terms) (xs ys : List Client) → AreGrown xs ys → AllOf (IsWho t) ys → AllOf (IsWho t) xs
@@ -160,7 +160,7 @@ who_all t [] ys grown who = tt
 who_all t (x ∷ xs) [] grown who = absurd grown
 who_all t (x ∷ xs) (y ∷ ys) grown who = (who_earlier t x y grown.0 who.0, who_all t xs ys grown.1 who.1)
 
-all_from : (Q : Client → Type 0) (xs : List Client) → AllOf Q xs → All Q xs
+pub all_from : (Q : Client → Type 0) (xs : List Client) → AllOf Q xs → All Q xs
 all_from Q [] all k d within = absurd (omega (arith, within))
 all_from Q (x ∷ xs) all zero d within = all.0
 all_from Q (x ∷ xs) all (suc k) d within = all_from Q xs all.1 k d (omega (arith, within))

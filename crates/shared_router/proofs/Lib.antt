@@ -27,3 +27,4 @@ pub mod Closing
 pub mod Seated
 pub mod Users
 pub mod Growing
+pub mod Fitting

@@ -29,6 +29,7 @@ use Rattle.shared_router.proofs.Walks.{gets_stays, hears_stays}
 
 pub record IsLike (x y : Client) : Type 0 where
   pub number : y.number ≡ x.number
+  pub link : y.link ≡ x.link
   pub salt : y.salt ≡ x.salt
   pub read : y.read ≡ x.read
 
@@ -38,11 +39,11 @@ AreLike [] (y ∷ ys) = ⊥
 AreLike (x ∷ xs) [] = ⊥
 AreLike (x ∷ xs) (y ∷ ys) = IsLike x y × AreLike xs ys
 
-like_itself : (xs : List Client) → AreLike xs xs
+pub like_itself : (xs : List Client) → AreLike xs xs
 like_itself [] = tt
-like_itself (x ∷ xs) = (record { number = refl; salt = refl; read = refl }, like_itself xs)
+like_itself (x ∷ xs) = (record { number = refl; link = refl; salt = refl; read = refl }, like_itself xs)
 
-like_numbered : (from : ℕ) (xs ys : List Client) → AreLike xs ys → AreNumbered from xs → AreNumbered from ys
+pub like_numbered : (from : ℕ) (xs ys : List Client) → AreLike xs ys → AreNumbered from xs → AreNumbered from ys
 like_numbered from [] [] like are = tt
 like_numbered from [] (y ∷ ys) like are = absurd like
 like_numbered from (x ∷ xs) [] like are = absurd like
@@ -55,7 +56,7 @@ IsOf (x ∷ xs) client = (is_client x.number client.number ≡ true → IsLike x
 
 of_next : (xs : List Client) (client : Client) → IsOf xs client → IsOf xs (record client { taken = suc client.taken })
 of_next [] client of = tt
-of_next (x ∷ xs) client of = (λ is. record { number = (of.0 is).number; salt = (of.0 is).salt; read = (of.0 is).read }, of_next xs client of.1)
+of_next (x ∷ xs) client of = (λ is. record { number = (of.0 is).number; link = (of.0 is).link; salt = (of.0 is).salt; read = (of.0 is).read }, of_next xs client of.1)
 
 of_later : (from : ℕ) (xs : List Client) (y : Client) → AreNumbered from xs → y.number.0 < from → IsOf xs y
 of_later from [] y are less = tt
@@ -72,7 +73,7 @@ number_from from (x ∷ xs) y are (inr there) = let later : suc from ≤ y.numbe
 of_numbered : (from : ℕ) (xs : List Client) (y : Client) → AreNumbered from xs → IsIn y xs → IsOf xs y
 of_numbered from [] y are there = absurd there
 of_numbered from (x ∷ xs) y are (inl same) = (
-  λ is. record { number = ap (λ (c : Client). c.number) same; salt = ap (λ (c : Client). c.salt) same; read = ap (λ (c : Client). c.read) same },
+  λ is. record { number = ap (λ (c : Client). c.number) same; link = ap (λ (c : Client). c.link) same; salt = ap (λ (c : Client). c.salt) same; read = ap (λ (c : Client). c.read) same },
   of_later (suc from) xs y are.1 (let is : y.number.0 ≡ from = ap (λ (c : Client). c.number.0) same ∙ are.0 in omega arith),
 )
 of_numbered from (x ∷ xs) y are (inr there) = (
@@ -140,7 +141,7 @@ module _ (setup : Setup) (plan : Plan) where
   told_clients tale (entry.Closed link) = losing_clients link tale
   told_clients tale _ = refl
 
-  numbered_by : (tale : Tale) (e : Entry) → AreNumbered 1 tale.clients → AreNumbered 1 (clients_by tale e)
+  pub numbered_by : (tale : Tale) (e : Entry) → AreNumbered 1 tale.clients → AreNumbered 1 (clients_by tale e)
   numbered_by tale (entry.Accepted port link salt) are = numbered_comes 1 tale.clients (new_client (length tale.clients + 1) link salt) are (omega arith)
   numbered_by tale (entry.Got link bytes) are =
       either (AreNumbered 1) (is_to_server tale link) tale.clients (map (client_hears link bytes) tale.clients) are

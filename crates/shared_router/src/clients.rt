@@ -1,7 +1,10 @@
 // Clients: who they are.
 ghost use Rattle.mx_wire.specs.Log.{Log};
 ghost use Rattle.mx_wire.specs.Moments.{AtEachMoment};
+ghost use Rattle.private_model.specs.Commands.{Account};
+ghost use Rattle.private_model.specs.Names.{ClientNo};
 ghost use Rattle.router_promises.specs.Terms.{AreWhoTheySay};
+ghost use Rattle.session_state.specs.declared.place.Place.{Place};
 ghost use Rattle.shared_router.specs.Fixed.{Fixed};
 ghost use Rattle.shared_router.specs.Shared.{final_terms};
 
@@ -9,4 +12,10 @@ ghost use Rattle.shared_router.specs.Shared.{final_terms};
 pub fn stay_who_they_say()
     ensures { (fixed : Fixed) (log : Log) → AreWhoTheySay (final_terms fixed log) log
         → AtEachMoment (AreWhoTheySay (final_terms fixed log)) log }
+{}
+
+/// Who clients are can be said before a log: for each there are accounts and places by which they are who they say.
+pub fn can_be_guessed()
+    ensures { (fixed : Fixed) (log : Log) → (accounts : ClientNo → Account) × (places : ClientNo → Place)
+        × AreWhoTheySay (final_terms (record fixed { accounts = accounts; places = places }) log) log }
 {}
