@@ -1,5 +1,5 @@
 -- Who clients are can be said before a log: what is read of them hangs on no decision, so accounts and places are read off it.
-use Rattle.std.specs.Prelude.{◌≡◌, ◌⊎◌, ◌+◌, ◌≤◌, ◌<◌, All, ℕ, suc, Bool, true, false, cond, find, fold, length, map, if◌then◌else◌, List, [], ◌∷◌, ◌++◌, Option, Some, None}
+use Rattle.std.specs.Prelude.{◌≡◌, ◌+◌, ◌≤◌, All, ℕ, suc, Bool, true, false, cond, find, fold, length, map, if◌then◌else◌, List, [], ◌∷◌, ◌++◌, Option, Some}
 use Rattle.std.specs.List.{list_any}
 use Rattle.std.specs.Option.{option_map_or}
 use Rattle.std.proofs.Common.{refl, sym, ap, ◌∙◌, subst, append_assoc, append-nil, arith, inl, inr}
@@ -11,7 +11,7 @@ use Rattle.mx_base.specs.declared.names.LinkId.{LinkId}
 use Rattle.mx_wire.specs.Log.{Log, opened_links}
 use Rattle.mx_wire.specs.declared.entry.Entry.{Entry}
 use Rattle.mx_wire.specs.declared.entry.Entry.TheVariants as entry
-use Rattle.private_model.proofs.Maps.{client_of, same_number}
+use Rattle.private_model.proofs.Maps.{same_number}
 use Rattle.private_model.specs.Commands.{Account}
 use Rattle.private_model.specs.Names.{ClientNo}
 use Rattle.private_model.specs.Story.{is_client, is_link_id}
@@ -23,18 +23,15 @@ use Rattle.log_story.specs.Plan.{Plan}
 use Rattle.log_story.specs.Tale.{Client, Tale, client_gets, client_hears, first_tale, is_to_server, new_client}
 use Rattle.log_story.specs.Telling.{tale_step, told}
 use Rattle.tale_world.specs.Decided.{first_decided, plan_of}
-use Rattle.tale_world.specs.Deciding.{World}
 use Rattle.router_promises.specs.Router.{first_place, service_of}
 use Rattle.router_promises.specs.Terms.{AreWhoTheySay, IsWhoItSays, Terms, login_as, plan_in, tale_at}
 use Rattle.shared_router.specs.Fixed.{Fixed, setup_of}
-use Rattle.shared_router.specs.More.{More}
-use Rattle.shared_router.specs.Shared.{final_terms, shared, world_at}
-use Rattle.shared_router.proofs.Dues.{either}
+use Rattle.shared_router.specs.Shared.{final_terms, world_at}
 use Rattle.shared_router.proofs.Growing.{IsWho, all_from, numbered_at, tale_so, who_earlier}
 use Rattle.shared_router.proofs.Lasting.{links_at}
 use Rattle.shared_router.proofs.Numbered.{AreNumbered, IsIn}
 use Rattle.shared_router.proofs.Parting.{service_kept, tale_then}
-use Rattle.shared_router.proofs.Seated.{AllOf, AreLike, IsLike, clients_by, like_itself, like_numbered, step_like, told_clients}
+use Rattle.shared_router.proofs.Seated.{AllOf, AreLike, IsLike, clients_by, step_like, told_clients}
 use Rattle.shared_router.proofs.Users.{talk_by}
 
 like_on : (xs ys zs : List Client) → AreLike xs ys → AreLike ys zs → AreLike xs zs
