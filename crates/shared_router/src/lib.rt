@@ -1,6 +1,7 @@
 //! The router with shared links, as a world that decides: what it does at each entry of a log, and what such a log keeps.
 #![tactic(auto)]
 
+mod clients;
 mod links;
 
 ghost use Rattle.std.specs.Prelude.{◌≡◌, ◌++◌, ℕ, Bool, Some, true};
