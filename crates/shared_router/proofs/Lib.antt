@@ -28,3 +28,4 @@ pub mod Apart
 pub mod Closing
 pub mod Seated
 pub mod Users
+pub mod Spelling
