@@ -30,9 +30,6 @@ pub mod Apart
 pub mod Closing
 pub mod Seated
 pub mod Users
-<<<<<<< HEAD
 pub mod Growing
 pub mod Fitting
-=======
 pub mod Spelling
->>>>>>> 9e571fd4520117a3e6850169b0112924bef41260
