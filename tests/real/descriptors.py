@@ -9,14 +9,15 @@ LIMIT, CLIENTS = 128, 150
 codes = []
 
 
+def one_client():
+    link = connect(connect_timeout=60)
+    link.cursor().execute("SELECT SLEEP(0.1)")
+    link.close()
+
+
 def client():
     """Logs in, has a session on the server, and goes."""
-    code = code_of(connect, connect_timeout=60)
-    if code == 0:
-        link = connect(connect_timeout=60)
-        code = code_of(link.cursor().execute, "SELECT SLEEP(0.1)")
-        link.close()
-    codes.append(code)
+    codes.append(code_of(one_client))
 
 
 # World's own limit is 65,536; this one is set behind it.
