@@ -28,3 +28,5 @@ pub mod Apart
 pub mod Closing
 pub mod Seated
 pub mod Users
+pub mod Growing
+pub mod Fitting

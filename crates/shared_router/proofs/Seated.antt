@@ -29,6 +29,7 @@ use Rattle.shared_router.proofs.Walks.{gets_stays, hears_stays}
 
 pub record IsLike (x y : Client) : Type 0 where
   pub number : y.number ≡ x.number
+  pub link : y.link ≡ x.link
   pub salt : y.salt ≡ x.salt
   pub read : y.read ≡ x.read
 
@@ -38,11 +39,11 @@ AreLike [] (y ∷ ys) = ⊥
 AreLike (x ∷ xs) [] = ⊥
 AreLike (x ∷ xs) (y ∷ ys) = IsLike x y × AreLike xs ys
 
-like_itself : (xs : List Client) → AreLike xs xs
+pub like_itself : (xs : List Client) → AreLike xs xs
 like_itself [] = tt
-like_itself (x ∷ xs) = (record { number = refl; salt = refl; read = refl }, like_itself xs)
+like_itself (x ∷ xs) = (record { number = refl; link = refl; salt = refl; read = refl }, like_itself xs)
 
-like_numbered : (from : ℕ) (xs ys : List Client) → AreLike xs ys → AreNumbered from xs → AreNumbered from ys
+pub like_numbered : (from : ℕ) (xs ys : List Client) → AreLike xs ys → AreNumbered from xs → AreNumbered from ys
 like_numbered from [] [] like are = tt
 like_numbered from [] (y ∷ ys) like are = absurd like
 like_numbered from (x ∷ xs) [] like are = absurd like
@@ -55,7 +56,7 @@ IsOf (x ∷ xs) client = (is_client x.number client.number ≡ true → IsLike x
 
 of_next : (xs : List Client) (client : Client) → IsOf xs client → IsOf xs (record client { taken = suc client.taken })
 of_next [] client of = tt
-of_next (x ∷ xs) client of = (λ is. record { number = (of.0 is).number; salt = (of.0 is).salt; read = (of.0 is).read }, of_next xs client of.1)
+of_next (x ∷ xs) client of = (λ is. record { number = (of.0 is).number; link = (of.0 is).link; salt = (of.0 is).salt; read = (of.0 is).read }, of_next xs client of.1)
 
 of_later : (from : ℕ) (xs : List Client) (y : Client) → AreNumbered from xs → y.number.0 < from → IsOf xs y
 of_later from [] y are less = tt
@@ -72,12 +73,12 @@ number_from from (x ∷ xs) y are (inr there) = let later : suc from ≤ y.numbe
 of_numbered : (from : ℕ) (xs : List Client) (y : Client) → AreNumbered from xs → IsIn y xs → IsOf xs y
 of_numbered from [] y are there = absurd there
 of_numbered from (x ∷ xs) y are (inl same) = (
-  λ is. record { number = ap (λ (c : Client). c.number) same; salt = ap (λ (c : Client). c.salt) same; read = ap (λ (c : Client). c.read) same },
+  λ is. record { number = ap (λ (c : Client). c.number) same; link = ap (λ (c : Client). c.link) same; salt = ap (λ (c : Client). c.salt) same; read = ap (λ (c : Client). c.read) same },
   of_later (suc from) xs y are.1 (let is : y.number.0 ≡ from = ap (λ (c : Client). c.number.0) same ∙ are.0 in omega arith),
 )
 of_numbered from (x ∷ xs) y are (inr there) = (
   λ is. absurd (let same : x.number.0 ≡ y.number.0 = ap (λ (n : ClientNo). n.0) (client_of x.number y.number is) in let first : x.number.0 ≡ from = are.0 in
-  let later : suc from ≤ y.number.0 = number_from (suc from) xs y are.1 there in omega arith),
+      let later : suc from ≤ y.number.0 = number_from (suc from) xs y are.1 there in omega arith),
   of_numbered (suc from) xs y are.1 there,
 )
 
@@ -102,7 +103,7 @@ with_like (x ∷ xs) (y ∷ ys) client like of = (by_test (is_client y.number cl
 module _ (setup : Setup) (plan : Plan) where
   -- as an entry is told
 
-  abbrev clients_by : Tale → Entry → List Client
+  abbrev pub clients_by : Tale → Entry → List Client
   clients_by tale (entry.Accepted port link salt) = tale.clients ++ new_client (length tale.clients + 1) link salt ∷ []
   clients_by tale (entry.Got link bytes) = if is_to_server tale link then tale.clients else map (client_hears link bytes) tale.clients
   clients_by tale (entry.Wrote link tag bytes) = if is_to_server tale link then tale.clients else map (client_gets link (length bytes)) tale.clients
@@ -125,7 +126,7 @@ module _ (setup : Setup) (plan : Plan) where
   losing_clients link tale =
       same_clients (is_to_server tale link) (tell (Gone link) tale) (fold (client_leaves link) tale tale.clients) tale.clients refl (leaving_clients link tale.clients tale)
 
-  told_clients : (tale : Tale) (e : Entry) → (told setup plan tale e).clients ≡ clients_by tale e
+  pub told_clients : (tale : Tale) (e : Entry) → (told setup plan tale e).clients ≡ clients_by tale e
   told_clients tale (entry.Got link bytes) =
       if_clients (is_to_server tale link) (server_says setup plan link bytes tale) (record tale { clients = map (client_hears link bytes) tale.clients }) _ _
       (says-moved setup plan link bytes tale).clients refl
