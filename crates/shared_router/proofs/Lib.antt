@@ -12,6 +12,8 @@ pub mod Decidedly
 pub mod Numbered
 pub mod Lone
 pub mod Asking
+pub mod Holding
+pub mod TakingUp
 pub mod Prompting
 pub mod Readying
 pub mod Others

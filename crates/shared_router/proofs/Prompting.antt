@@ -1,13 +1,9 @@
--- Nothing is decided of a message before it comes up: what is decided is of messages that were taken up.
-use Rattle.std.specs.Prelude.{◌≡◌, ◌⊎◌, ◌+◌, ◌*◌, ◌≤◌, ◌<◌, ℕ, zero, suc, Bool, true, false, not, ◌&&◌, ◌||◌, fold, is_some, nat_eq, if◌then◌else◌, length, map, slice_get, take}
-use Rattle.std.specs.Prelude.{slice_index_or, unwrap_or, List, [], ◌∷◌, ◌++◌, Option, Some, None}
-use Rattle.std.specs.List.{list_any}
-use Rattle.std.specs.Option.{option_and_then, option_map_or}
+-- Nothing is decided of a message before it comes up, and no breach is told, along a log.
+use Rattle.std.specs.Prelude.{◌≡◌, ◌⊎◌, ◌+◌, ◌*◌, ◌≤◌, ◌<◌, ℕ, zero, suc, Bool, true, false, not, ◌&&◌, ◌||◌, fold, if◌then◌else◌, length, take}
+use Rattle.std.specs.Prelude.{unwrap_or, List, [], ◌∷◌, ◌++◌, Option, Some, None}
+use Rattle.std.specs.Option.{option_map_or}
 use Rattle.std.proofs.Common.{refl, sym, ap, ◌∙◌, subst, append_assoc, append-nil, arith, inl, inr, length-append}
-use Rattle.std.proofs.lemmas.Bool.{and_from, and_parts, le-leb, ne_eqb, or_left, or_right}
-use Rattle.std.proofs.lemmas.List.{length-map}
-use Rattle.client_session.specs.Setups.{Setup as Service}
-use Rattle.hostgroups.specs.declared.server.Server.{Server}
+use Rattle.std.proofs.lemmas.Bool.{and_parts, ne_eqb}
 use Rattle.mx_base.specs.declared.names.LinkId.{LinkId}
 use Rattle.mx_base.specs.declared.tag.Tag.{Tag}
 use Rattle.mx_base.specs.declared.tag.Tag.TheVariants as tag
@@ -15,152 +11,37 @@ use Rattle.mx_wire.specs.Log.{Log}
 use Rattle.mx_wire.specs.Moments.{LawfulAfter}
 use Rattle.mx_wire.specs.declared.entry.Entry.{Entry}
 use Rattle.mx_wire.specs.declared.entry.Entry.TheVariants as entry
-use Rattle.packet_frame.specs.Packets.{Framed}
-use Rattle.private_model.proofs.Maps.{message_is, number_of, same_message}
-use Rattle.private_model.specs.Names.{Hostgroup, MessageName, SessionName}
-use Rattle.private_model.specs.Story.{BecameDue, Broke, Due, Freed, Happening, Left, Story, is_client, is_message, message_of}
-use Rattle.private_model.specs.View.{Carried, Joined, Lent, Nobody, Setup, View, view_after}
+use Rattle.private_model.proofs.Maps.{message_is, same_message}
+use Rattle.private_model.specs.Names.{MessageName}
+use Rattle.private_model.specs.Story.{Broke, Happening, is_client, is_message, message_of}
+use Rattle.private_model.specs.View.{Setup, View}
 use Rattle.server_rule.specs.Servers.{is_some_of}
-use Rattle.log_story.specs.Clients as clients
-use Rattle.log_story.specs.Clients.{copied, due_by, next_taken, taken_by}
-use Rattle.log_story.specs.Executes.{Request, requested}
 use Rattle.log_story.specs.Owed.{messages, name_of}
-use Rattle.log_story.specs.Plan.{OwnAnswer, Route, com_reset, job_of}
-use Rattle.log_story.specs.Servers.{begins, begun_by, begun_on, is_done, may_begin, or_broke, quits_for, writes}
-use Rattle.log_story.specs.Tale.{Client, Tale, Wire, is_to_server, link_in, new_client, tell, view_of, with_wire}
-use Rattle.tale_world.specs.Decided.{Decided, IsMore, filled, plan_of}
+use Rattle.log_story.specs.Plan.{Route, job_of}
+use Rattle.log_story.specs.Servers.{begins, begun_by, begun_on, may_begin, or_broke, quits_for, writes}
+use Rattle.log_story.specs.Tale.{Client, Tale, Wire, is_to_server, new_client, view_of, with_wire}
+use Rattle.tale_world.specs.Decided.{Decided, plan_of}
 use Rattle.tale_world.specs.Deciding.{Deciding, World}
 use Rattle.tale_world.specs.Tested.{has_broken}
-use Rattle.tale_world.specs.Tests.{may_happen, may_tell}
-use Rattle.tale_world.specs.World.{are_freed, are_taken, decided_ends, decided_freed, decided_last, decided_looked, decided_next, decided_told, freed_there, given_up, go_on, goes_on, has_reply, is_asked, is_called}
-use Rattle.tale_world.specs.World.{is_counted, is_ended, is_looked_up, is_tagged, is_taken_of, is_told, is_up, looked_for, next_message, next_of, tagged, taken_once, with_route, with_step, with_taken}
-use Rattle.tale_world.proofs.Agreeing.{agrees-itself, agrees-less, filled-kept, filled-there, more-refl}
-use Rattle.tale_world.proofs.Following.{freed_follows, looked_same, next-more, since-looked, told-more}
-use Rattle.tale_world.proofs.Looking.{same_requested, same_up}
-use Rattle.router_promises.specs.GivenUp.{is_in_work}
-use Rattle.router_promises.specs.Terms.{plan_in}
-use Rattle.shared_router.specs.Causes.{cause_of, given_by, known_before}
+use Rattle.tale_world.specs.Tests.{may_tell}
+use Rattle.tale_world.specs.World.{are_taken, decided_last, decided_next, decided_told, go_on, goes_on, is_asked, is_called}
+use Rattle.tale_world.specs.World.{is_counted, is_ended, is_tagged, is_told, next_of, tagged, taken_once, with_step, with_taken}
+use Rattle.tale_world.proofs.Agreeing.{filled-kept}
+use Rattle.tale_world.proofs.Following.{told-more}
+use Rattle.shared_router.specs.Causes.{known_before}
 use Rattle.shared_router.specs.Fixed.{Fixed, setup_of}
-use Rattle.shared_router.specs.Judged.{ArePrompt, IsFresh, IsPrompt, IsPromptAt, PromptSo, heard, looked_last}
-use Rattle.shared_router.specs.Known.{Known}
+use Rattle.shared_router.specs.Judged.{ArePrompt, IsPrompt, IsPromptAt, PromptSo, heard, looked_last}
 use Rattle.shared_router.specs.More.{More}
 use Rattle.shared_router.specs.Ours.{IsOurs, OursBy}
 use Rattle.shared_router.specs.Shared.{shared, world_at}
-use Rattle.shared_router.proofs.Decidedly.{AreDecided, GoesTo, are_more, became_due, first_decided, keeps_more}
+use Rattle.shared_router.proofs.Decidedly.{are_more, first_decided}
 use Rattle.shared_router.proofs.Keeping.{begins_at}
-use Rattle.shared_router.proofs.Lone.{route_lone}
-use Rattle.shared_router.proofs.Numbered.{AreNumbered, IsIn, IsOld, IsReady, latest_in, lower_old, next_new, number_within, numbered_comes, numbered_moves, numbered_taken, old_comes, old_moves, old_taken}
-use Rattle.shared_router.proofs.Numbered.{ready_apart, ready_next, replaced, taken_old, there_in}
+use Rattle.shared_router.proofs.Numbered.{AreNumbered, IsIn, IsOld, IsReady, latest_in, numbered_comes, old_comes, old_moves}
+use Rattle.shared_router.proofs.Numbered.{there_in}
 use Rattle.shared_router.proofs.Parting.{first, next, world_more}
-use Rattle.shared_router.proofs.Walks.{Comes, Keeping, MayTell, Says, Stays, ending_keeps, entry_keeps, if_either, writes_keeps}
-use Rattle.shared_router.proofs.Asking.{route_asks}
-use Rattle.shared_router.proofs.Judging.{same_later}
-
--- the name of a job's message
-abbrev pub IsJob : MessageName → Type 0
-IsJob m = 18446744073709551616 ≤ m.client.0
-
--- what is decided is of old messages, and is known of where one goes
-pub record IsTabled (d : Decided) (clients : List Client) : Type 0 where
-  pub routes : (m : MessageName) (x : Option Route) → d.routes m ≡ Some x → IsOld clients m
-  pub own : (m : MessageName) (x : Option OwnAnswer) → d.own m ≡ Some x → IsOld clients m ⊎ IsJob m
-  pub lone : (m : MessageName) (r : Route) → d.routes m ≡ Some (Some r) → r.mirror ≡ None
-  pub counted : (m : MessageName) (r : Route) → d.routes m ≡ Some (Some r) → 1 ≤ m.ordinal
-
-pub record IsHeld (setup : Setup) (n : ℕ) (d : Decided) (clients : List Client) (story : Story) : Type 0 where
-  pub tabled : IsTabled d clients
-  pub decided : AreDecided d (view_after setup story)
-  pub numbered : AreNumbered 1 clients
-  pub few : length clients ≤ n
-  pub unbroken : has_broken story ≡ false
-
--- the same but for breaches
-record IsLoose (setup : Setup) (n : ℕ) (d : Decided) (clients : List Client) (story : Story) : Type 0 where
-  pub tabled : IsTabled d clients
-  pub decided : AreDecided d (view_after setup story)
-  pub numbered : AreNumbered 1 clients
-  pub few : length clients ≤ n
-
-isnt : {A : Type 0} → false ≡ true → A
-isnt is = absurd (cc)
-
-no_some : {A B : Type 0} (a : A) → None ≡ Some a → B
-no_some a is = absurd (cc)
-
-some_of : {A : Type 0} (a b : A) → Some a ≡ Some b → a ≡ b
-some_of a b is = cc
-
--- What is put into a table was there, or is new.
-filled_by : {K A : Type 0} (which : K → Bool) (value : K → A) (f : K → Option A) (k : K) (x : A) → filled which value f k ≡ Some x
-    → (f k ≡ Some x) ⊎ ((which k ≡ true) × (value k ≡ x))
-filled_by {A = A} which value f k x is = by_test (which k) refl is where
-  by_there : (o : Option A) → f k ≡ o → which k ≡ true → Some (unwrap_or o (value k)) ≡ Some x → (f k ≡ Some x) ⊎ ((which k ≡ true) × (value k ≡ x))
-  by_there None at here is = inr (here, some_of (value k) x is)
-  by_there (Some y) at here is = inl (at ∙ is)
-
-  by_test : (b : Bool) → which k ≡ b → (if b then Some (unwrap_or (f k) (value k)) else f k) ≡ Some x → (f k ≡ Some x) ⊎ ((which k ≡ true) × (value k ≡ x))
-  by_test true here is = by_there (f k) refl here is
-  by_test false here is = inl is
-
--- More is decided of what was decided.
-pub tabled_moves : (d : Decided) (old new : List Client) → ((m : MessageName) → IsOld old m → IsOld new m) → IsTabled d old → IsTabled d new
-tabled_moves d old new keeps tabled = record {
-  routes = λ m x is. keeps m (tabled.routes m x is);
-  own = λ m x is. elim (tabled.own m x is) [
-    | inl was ↦ inl (keeps m was)
-    | inr job ↦ inr job
-  ];
-  lone = tabled.lone;
-  counted = tabled.counted;
-}
-
-unbroken_more : (view : View) (e : Happening) (past : Story) → MayTell view e → has_broken past ≡ false → has_broken (e ∷ past) ≡ false
-unbroken_more view Broke past may none = absurd may
-unbroken_more view _ past may none = none
-
--- what passes the test is no breach
-unbroken_told : (setup : Setup) (es : List Happening) (past : Story) → may_tell setup es past ≡ true → has_broken past ≡ false → has_broken (es ++ past) ≡ false
-unbroken_told setup [] past told none = none
-unbroken_told setup (e ∷ es) past told none =
-    let parts = and_parts (may_tell setup es past) _ told in one e parts.1 (unbroken_told setup es past parts.0 none)
-  where
-    one : (x : Happening) → may_happen setup (view_after setup (es ++ past)) x ≡ true → has_broken (es ++ past) ≡ false → has_broken (x ∷ (es ++ past)) ≡ false
-    one Broke is none = isnt is
-    one _ is none = none
-
-module _ (setup : Setup) (n : ℕ) (d : Decided) where
-  more_loose : (clients : List Client) (past : Story) (e : Happening) → MayTell (view_after setup past) e → IsLoose setup n d clients past → IsLoose setup n d clients (e ∷ past)
-  more_loose clients past e may held = record { tabled = held.tabled; decided = keeps_more d setup past e may held.decided; numbered = held.numbered; few = held.few }
-
-  moves_loose : (clients : List Client) (past : Story) (f : Client → Client) → Stays f → IsLoose setup n d clients past → IsLoose setup n d (map f clients) past
-  moves_loose clients past f stays held = record {
-    tabled = tabled_moves d clients (map f clients) (λ m was. old_moves f stays m clients was) held.tabled;
-    decided = held.decided;
-    numbered = numbered_moves f stays 1 clients held.numbered;
-    few = let same : length (map f clients) ≡ length clients = length-map clients f in omega (arith, same, held.few);
-  }
-
-  abbrev loosely : Keeping setup
-  loosely = record { holds = IsLoose setup n d; more = more_loose; moves = moves_loose }
-
-  breaks_loose : (clients : List Client) (past : Story) → IsLoose setup n d clients past → IsLoose setup n d clients (Broke ∷ past)
-  breaks_loose clients past held = record { tabled = held.tabled; decided = held.decided; numbered = held.numbered; few = held.few }
-
-  loose : (clients : List Client) (story : Story) → IsHeld setup n d clients story → IsLoose setup n d clients story
-  loose clients story held = record { tabled = held.tabled; decided = held.decided; numbered = held.numbered; few = held.few }
-
-  whole : (clients : List Client) (story : Story) → IsLoose setup n d clients story → has_broken story ≡ false → IsHeld setup n d clients story
-  whole clients story held none = record { tabled = held.tabled; decided = held.decided; numbered = held.numbered; few = held.few; unbroken = none }
-
-  more_held : (clients : List Client) (past : Story) (e : Happening) → MayTell (view_after setup past) e → IsHeld setup n d clients past → IsHeld setup n d clients (e ∷ past)
-  more_held clients past e may held =
-      whole clients (e ∷ past) (more_loose clients past e may (loose clients past held)) (unbroken_more (view_after setup past) e past may held.unbroken)
-
-  moves_held : (clients : List Client) (past : Story) (f : Client → Client) → Stays f → IsHeld setup n d clients past → IsHeld setup n d (map f clients) past
-  moves_held clients past f stays held = whole (map f clients) past (moves_loose clients past f stays (loose clients past held)) held.unbroken
-
-  abbrev holding : Keeping setup
-  holding = record { holds = IsHeld setup n d; more = more_held; moves = moves_held }
+use Rattle.shared_router.proofs.Walks.{Comes, Keeping, Says, entry_keeps, writes_keeps}
+use Rattle.shared_router.proofs.Holding.{IsHeld, IsJob, IsTabled, are_freed_held, breaks_loose, counted_held, ending_held, filled_by, holding, isnt, loose, loosely, no_some, some_of, tabled_moves, unbroken_told, whole, work_old}
+use Rattle.shared_router.proofs.TakingUp.{apart_then, fresh_then, none_held, ready_then, taken_held}
 
 module _ (fixed : Fixed) where
   abbrev setup : Setup
@@ -169,424 +50,16 @@ module _ (fixed : Fixed) where
   abbrev by : Deciding More
   by = shared fixed
 
-  abbrev pub Held : ℕ → World More → Type 0
+  abbrev Held : ℕ → World More → Type 0
   Held n w = IsHeld setup n w.decided w.tale.clients w.tale.story
-
-  -- Links are given back.
-
-  record IsLooked (dues : SessionName → Option Due) (m : MessageName) : Type 0 where
-    pub name : SessionName
-    pub due : Due
-    pub at : dues name ≡ Some due
-    pub same : m ≡ message_of name due
-
-  looked_is : (dues : SessionName → Option Due) (carried : Carried) (m : MessageName) → looked_for dues carried m ≡ true → IsLooked dues m
-  looked_is dues Nobody m is = isnt is
-  looked_is dues (Joined n) m is = isnt is
-  looked_is dues (Lent n) m is = by_due (dues n) refl is where
-    by_due : (o : Option Due) → dues n ≡ o → option_map_or (λ due. is_message m (message_of n due)) o false ≡ true → IsLooked dues m
-    by_due None at is = isnt is
-    by_due (Some due) at is = record { name = n; due = due; at = at; same = message_is m (message_of n due) is }
-
-  -- it was looked at before whether what is due is answered
-  due_looked : (d : Decided) (clients : List Client) (story : Story) (m : MessageName) → IsTabled d clients → AreDecided d (view_after setup story)
-      → IsLooked (view_after setup story).dues m → IsOld clients m ⊎ IsJob m
-  due_looked d clients story m tabled decided looked =
-      let goes = decided.due looked.name looked.due looked.at in
-      tabled.own m goes.own (ap d.own looked.same ∙ goes.looked)
-
-  freed_held : (n : ℕ) (w : World More) (link : LinkId) → Held n w → Held n (freed_there setup by w link)
-  freed_held n w link held =
-      let d : Decided = decided_freed setup by w link in
-      let more : IsMore w.decided d = (freed_follows setup by w.tale.moment w link refl).more in
-      let carries = (link_in setup w.tale link).carries in
-      let start : IsHeld setup n d w.tale.clients w.tale.story = record {
-        tabled = record {
-          routes = held.tabled.routes;
-          own = λ m x is. elim (filled_by (looked_for (view_of setup w.tale).dues carries) (by.given w) w.decided.own m x is) [
-            | inl was ↦ held.tabled.own m x was
-            | inr looked ↦ due_looked w.decided w.tale.clients w.tale.story m held.tabled held.decided (looked_is (view_of setup w.tale).dues carries m looked.0)
-          ];
-          lone = held.tabled.lone;
-          counted = held.tabled.counted;
-        };
-        decided = are_more w.decided d (view_of setup w.tale) more held.decided;
-        numbered = held.numbered;
-        few = held.few;
-        unbroken = held.unbroken;
-      } in
-      if_either (λ (t : Tale). IsHeld setup n d t.clients t.story) (is_done (plan_of d) w.tale.moment (view_of setup w.tale) (w.tale.wires link) (link_in setup w.tale link))
-      (tell (Freed link) w.tale) w.tale (more_held setup n d w.tale.clients w.tale.story (Freed link) tt start) start
-
-  freeing_held : (n : ℕ) (xs : List LinkId) (w : World More) → Held n w → Held n (fold (freed_there setup by) w xs)
-  freeing_held n [] w held = held
-  freeing_held n (x ∷ xs) w held = freeing_held n xs (freed_there setup by w x) (freed_held n w x held)
-
-  pub are_freed_held : (n : ℕ) (w : World More) → Held n w → Held n (are_freed setup by w)
-  are_freed_held n w held = freeing_held n w.tale.links w held
-
-  -- Messages are given up: those that are in work.
-
-  given_is : (moment : ℕ) (payloads : Option (List (List ℕ))) (own : Option (Option OwnAnswer)) (x : Option OwnAnswer) → given_up moment payloads own ≡ Some x
-      → (is_some payloads ≡ true) ⊎ (own ≡ Some x)
-  given_is moment None own x is = inr is
-  given_is moment (Some payloads) own x is = inl refl
-
-  given_some : (moment : ℕ) (payloads : Option (List (List ℕ))) (own : Option OwnAnswer) → (x : Option OwnAnswer) × (given_up moment payloads (Some own) ≡ Some x)
-  given_some moment None own = (own, refl)
-  given_some moment (Some payloads) None = (_, refl)
-  given_some moment (Some payloads) (Some answer) = (Some answer, refl)
-
-  counted_held : (n : ℕ) (w : World More) (e : Entry) → ((m : MessageName) → is_some (by.gives_up w e m) ≡ true → IsOld w.tale.clients m) → Held n w → Held n (is_counted by w e)
-  counted_held n w e in_work held = record {
-    tabled = record {
-      routes = held.tabled.routes;
-      own = λ m x is. elim (given_is (suc w.tale.moment) (by.gives_up w e m) (w.decided.own m) x is) [
-        | inl given ↦ inl (in_work m given)
-        | inr was ↦ held.tabled.own m x was
-      ];
-      lone = held.tabled.lone;
-      counted = held.tabled.counted;
-    };
-    decided = record {
-      due = λ k due is.
-          let goes = held.decided.due k due is in
-          let given = given_some (suc w.tale.moment) (by.gives_up w e (message_of k due)) goes.own in
-          record {
-            route = goes.route;
-            routed = goes.routed;
-            there = goes.there;
-            lone = goes.lone;
-            own = given.0;
-            looked = ap (given_up (suc w.tale.moment) (by.gives_up w e (message_of k due))) goes.looked ∙ given.1;
-          };
-      stands = held.decided.stands;
-      answered = held.decided.answered;
-    };
-    numbered = held.numbered;
-    few = held.few;
-    unbroken = held.unbroken;
-  }
-
-  -- what is given up is in work
-  work_old : (k : Known) (servers : List Server) (e : Entry) (m : MessageName) → is_some (given_by k servers e m) ≡ true → IsOld k.now.tale.clients m
-  work_old k servers e m given = by_test (is_in_work k.terms k.now m) refl given where
-    found : (clients : List Client) → list_any (λ (client : Client). is_client client.number m.client && nat_eq client.taken m.ordinal) clients ≡ true → IsOld clients m
-    found [] is = isnt is
-    found (client ∷ clients) is = by_first (is_client client.number m.client && nat_eq client.taken m.ordinal) refl is (found clients) where
-      by_first : (b : Bool) → (is_client client.number m.client && nat_eq client.taken m.ordinal) ≡ b
-          → (b || list_any (λ (c : Client). is_client c.number m.client && nat_eq c.taken m.ordinal) clients) ≡ true
-          → (list_any (λ (c : Client). is_client c.number m.client && nat_eq c.taken m.ordinal) clients ≡ true → IsOld clients m) → IsOld (client ∷ clients) m
-      by_first true here is later =
-          let parts = and_parts (is_client client.number m.client) (nat_eq client.taken m.ordinal) here in
-          or_left _ _ (and_from _ _ parts.0 (le-leb m.ordinal client.taken (let same : client.taken ≡ m.ordinal = number_of client.taken m.ordinal parts.1 in omega arith)))
-      by_first false here is later = or_right _ _ (later is)
-
-    by_test : (b : Bool) → is_in_work k.terms k.now m ≡ b
-        → is_some (if b then option_and_then (λ route. option_and_then (λ payload. Some (payload ∷ []))
-        (cause_of (record { known = k; servers = servers; e = e; m = m; route = route }))) ((plan_in k.terms).routes m) else None) ≡ true
-        → IsOld k.now.tale.clients m
-    by_test true works given = found k.now.tale.clients (and_parts _ _ works).0
-    by_test false works given = isnt given
-
-  goes_as : (old new : Decided) (m : MessageName) (hostgroup : Hostgroup) → new.routes ≡ old.routes → new.own ≡ old.own → GoesTo old m hostgroup → GoesTo new m hostgroup
-  goes_as old new m hostgroup routes own goes = record {
-    route = goes.route;
-    routed = ap (λ f. f m) routes ∙ goes.routed;
-    there = goes.there;
-    lone = goes.lone;
-    own = goes.own;
-    looked = ap (λ f. f m) own ∙ goes.looked;
-  }
-
-  -- Clients are ended.
-
-  ending_held : (n : ℕ) (w : World More) (e : Entry) → Held n w → Held n (is_ended by w e)
-  ending_held n w e held =
-      ending_keeps setup (plan_of (decided_ends by w e)) (holding setup n (decided_ends by w e)) w.tale (record {
-        tabled = record { routes = held.tabled.routes; own = held.tabled.own; lone = held.tabled.lone; counted = held.tabled.counted };
-        decided = record { due = λ k due is. goes_as w.decided (decided_ends by w e) (message_of k due) k.hostgroup refl refl (held.decided.due k due is); stands = held.decided.stands; answered = held.decided.answered };
-        numbered = held.numbered;
-        few = held.few;
-        unbroken = held.unbroken;
-      })
-
-  -- A message is taken up.
-
-  up_same : (w : World More) (client : Client)
-      → clients.is_up setup (plan_of (decided_looked setup by w client)) client w.tale ≡ clients.is_up setup (plan_of (decided_next setup by w client)) client w.tale
-  up_same w client =
-      let m = w.tale.moment in
-      let first : Decided = decided_looked setup by w client in
-      let last : Decided = decided_next setup by w client in
-      same_up client (view_of setup w.tale) m (plan_of first) (plan_of last)
-      (looked_same setup by w client first (plan_of last) (more-refl first) (agrees-less first last m (plan_of last) (since-looked setup by w client) (agrees-itself last m)))
-      setup w.tale refl refl
-
-  module _ (n : ℕ) (w : World More) (client : Client) (held : Held n w) (ready : IsReady client w.tale.clients) where
-    abbrev looked : Decided
-    looked = decided_looked setup by w client
-
-    abbrev d : Decided
-    d = decided_next setup by w client
-
-    abbrev name : MessageName
-    name = name_of client (suc client.taken)
-
-    abbrev up : Bool
-    up = is_up setup looked w.tale client
-
-    abbrev found : Option Framed
-    found = next_message looked client
-
-    abbrev next_clients : List Client
-    next_clients = map (replaced (next_of client)) w.tale.clients
-
-    was_taken : (m : MessageName) → is_taken_of client m ≡ true → IsOld w.tale.clients m
-    was_taken m is = let parts = and_parts (is_client m.client client.number) _ is in lower_old client m w.tale.clients parts.0 parts.1 ready.there
-
-    decided_old : (m : MessageName) (o : Option (Option Route)) → w.decided.routes m ≡ o → is_some o ≡ true → IsOld w.tale.clients m
-    decided_old m None at is = isnt is
-    decided_old m (Some x) at is = held.tabled.routes m x at
-
-    looked_up_old : (m : MessageName) (reply taken : Bool) → has_reply (view_of setup w.tale) m ≡ reply → is_taken_of client m ≡ taken → (reply || taken) ≡ true → IsOld w.tale.clients m
-    looked_up_old m true taken replied was is = decided_old m (w.decided.routes m) refl (held.decided.answered m replied)
-    looked_up_old m false true replied was is = was_taken m was
-    looked_up_old m false false replied was is = isnt is
-
-    looked_routes : (m : MessageName) (x : Option Route) → looked.routes m ≡ Some x → IsOld w.tale.clients m
-    looked_routes m x is = elim (filled_by (is_looked_up (view_of setup w.tale) client) (by.routed w) w.decided.routes m x is) [
-      | inl was ↦ held.tabled.routes m x was
-      | inr now ↦ looked_up_old m (has_reply (view_of setup w.tale) m) (is_taken_of client m) refl refl now.0
-    ]
-
-    looked_own : (m : MessageName) (x : Option OwnAnswer) → looked.own m ≡ Some x → IsOld w.tale.clients m ⊎ IsJob m
-    looked_own m x is = elim (filled_by (is_taken_of client) (by.given w) w.decided.own m x is) [
-      | inl was ↦ held.tabled.own m x was
-      | inr now ↦ inl (was_taken m now.0)
-    ]
-
-    looked_gone : (m : MessageName) (r : Route) → looked.routes m ≡ Some (Some r) → w.decided.routes m ≡ Some (Some r)
-    looked_gone m r is = elim (filled_by (is_looked_up (view_of setup w.tale) client) (by.routed w) w.decided.routes m (Some r) is) [
-      | inl was ↦ was
-      | inr now ↦ no_some r now.1
-    ]
-
-    -- it is fresh
-
-    none_of : {A : Type 0} (o : Option A) → ((x : A) → o ≡ Some x → ⊥) → o ≡ None
-    none_of None never = refl
-    none_of (Some x) never = absurd (never x refl)
-
-    pub fresh : (message : Framed) → n < 18446744073709551616 → up ≡ true → found ≡ Some message → IsFresh fixed w client message
-    fresh message small is_up next = record {
-      up = is_up;
-      next = next;
-      route = none_of (looked.routes name) (λ x is. next_new client w.tale.clients ready.latest (looked_routes name x is));
-      own = none_of (looked.own name) (λ x is. elim (looked_own name x is) [
-        | inl old ↦ next_new client w.tale.clients ready.latest old
-        | inr job ↦ absurd (let within : client.number.0 < 1 + length w.tale.clients = number_within 1 client w.tale.clients held.numbered ready.there in omega (arith, job, within, held.few, small))
-      ]);
-    }
-
-    -- what is decided then
-
-    behind_routes : (b : Bool) (o : Option Framed) (m : MessageName) (x : Option Route) → (if b then with_route by w client looked o else looked).routes m ≡ Some x
-        → (looked.routes m ≡ Some x) ⊎ ((message : Framed) × (b ≡ true) × (o ≡ Some message) × (is_message m name ≡ true) × (by.route w client (suc client.taken) message ≡ x))
-    behind_routes false o m x is = inl is
-    behind_routes true None m x is = inl is
-    behind_routes true (Some message) m x is = elim (filled_by (λ k. is_message k name) (λ k. by.route w client (suc client.taken) message) looked.routes m x is) [
-      | inl was ↦ inl was
-      | inr now ↦ inr (message, refl, refl, now.0, now.1)
-    ]
-
-    behind_own : (b : Bool) (o : Option Framed) (m : MessageName) (x : Option OwnAnswer) → (if b then with_route by w client looked o else looked).own m ≡ Some x
-        → (looked.own m ≡ Some x) ⊎ ((message : Framed) × (b ≡ true) × (o ≡ Some message) × (is_message m name ≡ true))
-    behind_own false o m x is = inl is
-    behind_own true None m x is = inl is
-    behind_own true (Some message) m x is = elim (filled_by (λ k. is_message k name) (λ k. by.answer w client (suc client.taken) message) looked.own m x is) [
-      | inl was ↦ inl was
-      | inr now ↦ inr (message, refl, refl, now.0)
-    ]
-
-    -- where the next message is taken up, or none is
-    tabled_then : (clients : List Client) → ((m : MessageName) → IsOld w.tale.clients m → IsOld clients m)
-        → ((message : Framed) → up ≡ true → found ≡ Some message → IsOld clients name) → IsTabled d clients
-    tabled_then clients keeps comes = record {
-      routes = λ m x is. elim (behind_routes up found m x is) [
-        | inl was ↦ keeps m (looked_routes m x was)
-        | inr now ↦ subst (IsOld clients) (sym (message_is m name now.3)) (comes now.0 now.1 now.2)
-      ];
-      own = λ m x is. elim (behind_own up found m x is) [
-        | inl was ↦ elim (looked_own m x was) [
-          | inl old ↦ inl (keeps m old)
-          | inr job ↦ inr job
-        ]
-        | inr now ↦ inl (subst (IsOld clients) (sym (message_is m name now.3)) (comes now.0 now.1 now.2))
-      ];
-      lone = λ m r is. elim (behind_routes up found m (Some r) is) [
-        | inl was ↦ held.tabled.lone m r (looked_gone m r was)
-        | inr now ↦ route_lone fixed w client now.0 r now.4
-      ];
-      counted = λ m r is. elim (behind_routes up found m (Some r) is) [
-        | inl was ↦ held.tabled.counted m r (looked_gone m r was)
-        | inr now ↦ subst (λ (k : MessageName). 1 ≤ k.ordinal) (sym (message_is m name now.3)) (omega arith)
-      ];
-    }
-
-    abbrev taken_then : Framed → Option Route → Tale
-    taken_then message route = taken_by setup (plan_of d) client (suc client.taken) message route w.tale
-
-    record IsUp (o : Option Framed) (tale : Tale) : Type 0 where
-      pub message : Framed
-      pub there : o ≡ Some message
-      pub up : clients.is_up setup (plan_of d) client w.tale ≡ true
-      pub same : taken_then message ((plan_of d).routes name) ≡ tale
-
-    up_of : (o : Option Framed) (tale : Tale) → next_taken setup (plan_of d) client o w.tale ≡ Some tale → IsUp o tale
-    up_of None tale is = no_some tale is
-    up_of (Some message) tale is = by_test (clients.is_up setup (plan_of d) client w.tale) refl is where
-      by_test : (b : Bool) → clients.is_up setup (plan_of d) client w.tale ≡ b → (if b then Some (taken_then message ((plan_of d).routes name)) else None) ≡ Some tale → IsUp (Some message) tale
-      by_test true at is = record { message = message; there = refl; up = at; same = some_of _ tale is }
-      by_test false at is = no_some tale is
-
-    abbrev found_by : Service → Option Framed
-    found_by service = slice_get (messages (record (plan_of d) { service = service }) client) client.taken
-
-    is_up_then : (tale : Tale) → taken_once setup by w client ≡ Some tale → IsUp (found_by d.service) tale
-    is_up_then tale is = up_of (found_by d.service) tale is
-
-    found_then : (tale : Tale) (is : taken_once setup by w client ≡ Some tale) → found ≡ Some (is_up_then tale is).message
-    found_then tale is = ap found_by (sym (since-looked setup by w client).service) ∙ (is_up_then tale is).there
-
-    up_then : (tale : Tale) → taken_once setup by w client ≡ Some tale → up ≡ true
-    up_then tale is = up_same w client ∙ (is_up_then tale is).up
-
-    -- where it is up, it is taken up
-    taken_some : (message : Framed) → up ≡ true → found ≡ Some message → taken_once setup by w client ≡ Some (taken_then message ((plan_of d).routes name))
-    taken_some message is_up next =
-        ap (λ o. next_taken setup (plan_of d) client o w.tale) (ap found_by (since-looked setup by w client).service ∙ next)
-        ∙ ap (λ b. if b then Some (taken_then message ((plan_of d).routes name)) else None) (sym (up_same w client) ∙ is_up)
-
-    taken_clients : (message : Framed) (route : Option Route) → (taken_then message route).clients ≡ w.tale.clients
-    taken_clients message None =
-        if_either (λ (t : Tale). t.clients ≡ w.tale.clients) (nat_eq (slice_index_or message.payload 0 0) com_reset) (tell (Left client.number) w.tale) w.tale refl refl
-    taken_clients message (Some route) = due_clients (requested setup (view_of setup w.tale) (plan_of d) client (suc client.taken) route message.payload) where
-      due_clients : (request : Option Request) → (due_by client (suc client.taken) route request w.tale).clients ≡ w.tale.clients
-      due_clients None = refl
-      due_clients (Some request) = copied_clients route.mirror where
-        copied_clients : (mirror : Option Hostgroup)
-            → (copied name request.command mirror (tell (BecameDue client.number route.hostgroup (suc client.taken) request.key request.command route.multiplex) w.tale)).clients ≡ w.tale.clients
-        copied_clients None = refl
-        copied_clients (Some hostgroup) = refl
-
-    clients_then : (tale : Tale) → taken_once setup by w client ≡ Some tale → tale.clients ≡ w.tale.clients
-    clients_then tale is =
-        let at = is_up_then tale is in ap (λ (t : Tale). t.clients) (sym at.same) ∙ taken_clients at.message ((plan_of d).routes name)
-
-    start_then : IsHeld setup n d next_clients w.tale.story
-    start_then = record {
-      tabled = tabled_then next_clients (λ m was. old_taken m client w.tale.clients ready.latest was) (λ message is_up next. taken_old client w.tale.clients ready.there);
-      decided = are_more w.decided d (view_of setup w.tale) (next-more setup by w client) held.decided;
-      numbered = numbered_taken (next_of client) 1 w.tale.clients held.numbered;
-      few = let same : length next_clients ≡ length w.tale.clients = length-map w.tale.clients (replaced (next_of client)) in omega (arith, same, held.few);
-      unbroken = held.unbroken;
-    }
-
-    route_is : (o : Option (Option Route)) (r : Route) → unwrap_or o None ≡ Some r → o ≡ Some (Some r)
-    route_is None r is = no_some r is
-    route_is (Some x) r is = ap (λ (y : Option Route). Some y) is
-
-    -- it is known where it goes
-    goes_then : (message : Framed) (r : Route) → up ≡ true → found ≡ Some message → (plan_of d).routes name ≡ Some r → GoesTo d name r.hostgroup
-    goes_then message r is_up next routed = record {
-      route = r;
-      routed = route_is (d.routes name) r routed;
-      there = refl;
-      lone = (tabled_then next_clients (λ m was. old_taken m client w.tale.clients ready.latest was) (λ message is_up next. taken_old client w.tale.clients ready.there)).lone name r
-          (route_is (d.routes name) r routed);
-      own = _;
-      looked = ap (λ b. (if b then with_route by w client looked found else looked).own name) is_up
-          ∙ ap (λ o. (with_route by w client looked o).own name) next
-          ∙ filled-there (λ k. is_message k name) (λ k. by.answer w client (suc client.taken) message) looked.own name (same_message name);
-    }
-
-    -- and it asks for something
-    asked_then : (message : Framed) (r : Route) → up ≡ true → found ≡ Some message → (plan_of d).routes name ≡ Some r
-        → is_some (requested setup (view_of setup w.tale) (plan_of d) client (suc client.taken) r message.payload) ≡ true
-    asked_then message r is_up next routed = elim (behind_routes up found name (Some r) (route_is (d.routes name) r routed)) [
-      | inl was ↦ next_new client w.tale.clients ready.latest (looked_routes name (Some r) was)
-      | inr now ↦
-          let same : now.0 ≡ message = some_of now.0 message (sym now.2 ∙ next) in
-          ap (λ o. is_some o)
-          (sym (same_requested client (view_of setup w.tale) w.tale.moment (plan_of w.decided) (plan_of d)
-          (same_later fixed w client message w.more.bare w.more.tried (plan_of d) (agrees-itself d w.tale.moment)) setup r message.payload))
-          ∙ subst (λ (x : Framed). is_some (requested setup (view_of setup w.tale) (plan_of w.decided) client (suc client.taken) r x.payload) ≡ true) same
-          (route_asks fixed w client now.0 r now.4)
-    ]
-
-    taken_is : (message : Framed) (route : Option Route) → up ≡ true → found ≡ Some message → (plan_of d).routes name ≡ route
-        → IsHeld setup n d next_clients (taken_then message route).story
-    taken_is message None is_up next routed =
-        if_either (λ (t : Tale). IsHeld setup n d next_clients t.story) (nat_eq (slice_index_or message.payload 0 0) com_reset) (tell (Left client.number) w.tale) w.tale
-        (more_held setup n d next_clients w.tale.story (Left client.number) tt start_then) start_then
-    taken_is message (Some r) is_up next routed =
-        due_is (requested setup (view_of setup w.tale) (plan_of d) client (suc client.taken) r message.payload) (asked_then message r is_up next routed)
-      where
-        goes : GoesTo d name r.hostgroup
-        goes = goes_then message r is_up next routed
-
-        tabled_lone : r.mirror ≡ None
-        tabled_lone = start_then.tabled.lone name r (route_is (d.routes name) r routed)
-
-        due_is : (request : Option Request) → is_some request ≡ true → IsHeld setup n d next_clients (due_by client (suc client.taken) r request w.tale).story
-        due_is None asked = isnt asked
-        due_is (Some request) asked =
-            subst (λ mirror. IsHeld setup n d next_clients
-            (copied name request.command mirror (tell (BecameDue client.number r.hostgroup (suc client.taken) request.key request.command r.multiplex) w.tale)).story)
-            (sym tabled_lone)
-            (record {
-              tabled = start_then.tabled;
-              decided = became_due d setup w.tale.story client.number r.hostgroup (suc client.taken) request.key request.command r.multiplex goes start_then.decided;
-              numbered = start_then.numbered;
-              few = start_then.few;
-              unbroken = start_then.unbroken;
-            })
-
-    pub taken_held : (tale : Tale) → taken_once setup by w client ≡ Some tale → Held n (with_taken setup by w client tale)
-    taken_held tale is =
-        let at = is_up_then tale is in
-        subst (λ cs. IsHeld setup n d (map (replaced (next_of client)) cs) tale.story) (sym (clients_then tale is))
-        (subst (λ (t : Tale). IsHeld setup n d next_clients t.story) at.same
-        (taken_is at.message ((plan_of d).routes name) (up_then tale is) (found_then tale is) refl))
-
-    pub none_held : taken_once setup by w client ≡ None → Held n (record w { decided = d })
-    none_held none = record {
-      tabled = tabled_then w.tale.clients (λ m was. was) (λ message is_up next. no_some _ (sym none ∙ taken_some message is_up next));
-      decided = are_more w.decided d (view_of setup w.tale) (next-more setup by w client) held.decided;
-      numbered = held.numbered;
-      few = held.few;
-      unbroken = held.unbroken;
-    }
-
-    pub fresh_then : n < 18446744073709551616 → (tale : Tale) → taken_once setup by w client ≡ Some tale → (message : Framed) → found ≡ Some message → IsFresh fixed w client message
-    fresh_then small tale is message next = fresh message small (up_then tale is) next
-
-    pub ready_then : (tale : Tale) → taken_once setup by w client ≡ Some tale → IsReady (next_of client) (with_taken setup by w client tale).tale.clients
-    ready_then tale is = subst (λ cs. IsReady (next_of client) (map (replaced (next_of client)) cs)) (sym (clients_then tale is)) (ready_next client w.tale.clients ready)
-
-    pub apart_then : (tale : Tale) → taken_once setup by w client ≡ Some tale → (other : Client) → is_client client.number other.number ≡ false
-        → IsReady other w.tale.clients → IsReady other (with_taken setup by w client tale).tale.clients
-    apart_then tale is other apart was =
-        subst (λ cs. IsReady other (map (replaced (next_of client)) cs)) (sym (clients_then tale is)) (ready_apart other (next_of client) apart w.tale.clients was)
 
   -- As many as can be.
 
   prompt_held : (most n : ℕ) (client : Client) (w : World More) → n < 18446744073709551616 → Held n w → IsReady client w.tale.clients → IsPrompt fixed most client w
   prompt_held zero n client w small held ready = tt
   prompt_held (suc most) n client w small held ready = λ tale is message next. (
-    fresh_then n w client held ready small tale is message next,
-    prompt_held most n (next_of client) (with_taken setup by w client tale) small (taken_held n w client held ready tale is) (ready_then n w client held ready tale is),
+    fresh_then fixed n w client held ready small tale is message next,
+    prompt_held most n (next_of client) (with_taken setup by w client tale) small (taken_held fixed n w client held ready tale is) (ready_then fixed n w client held ready tale is),
   )
 
   record AreTaken (n : ℕ) (client : Client) (old new : World More) : Type 0 where
@@ -599,10 +72,10 @@ module _ (fixed : Fixed) where
     by_found : (o : Option Tale) → taken_once setup by w client ≡ o
         → ((v : World More) → Held n v → IsReady (next_of client) v.tale.clients → AreTaken n (next_of client) v (are_taken most setup by (next_of client) v))
         → AreTaken n client w (option_map_or (λ tale. are_taken most setup by (next_of client) (with_taken setup by w client tale)) o (record w { decided = decided_next setup by w client }))
-    by_found None is later = record { held = none_held n w client held ready is; others = λ other apart was. was }
+    by_found None is later = record { held = none_held fixed n w client held ready is; others = λ other apart was. was }
     by_found (Some tale) is later =
-        let rest = later (with_taken setup by w client tale) (taken_held n w client held ready tale is) (ready_then n w client held ready tale is) in
-        record { held = rest.held; others = λ other apart was. rest.others other apart (apart_then n w client held ready tale is other apart was) }
+        let rest = later (with_taken setup by w client tale) (taken_held fixed n w client held ready tale is) (ready_then fixed n w client held ready tale is) in
+        record { held = rest.held; others = λ other apart was. rest.others other apart (apart_then fixed n w client held ready tale is other apart was) }
 
   -- A client, and all of them.
 
@@ -886,8 +359,8 @@ module _ (fixed : Fixed) where
   pub heard_held : (n : ℕ) (w : World More) (e : Entry) → Held n w → OursBy fixed w e → Held (suc n) (heard fixed w e)
   heard_held n w e held ours =
       let told_then : World More = is_told setup by w e in
-      are_freed_held (suc n) (is_counted by told_then e)
-      (counted_held (suc n) told_then e (λ m given. old_told w e m (work_old (known_before fixed told_then) told_then.more.servers e m given)) (told_held n w e held ours))
+      are_freed_held fixed (suc n) (is_counted by told_then e)
+      (counted_held fixed (suc n) told_then e (λ m given. old_told w e m (work_old fixed (known_before fixed told_then) told_then.more.servers e m given)) (told_held n w e held ours))
 
   record IsStepHeld (n : ℕ) (w : World More) (e : Entry) : Type 0 where
     pub held : Held (suc n) (next fixed w e)
@@ -899,7 +372,7 @@ module _ (fixed : Fixed) where
       let on_c = heard_held n w e held ours in
       let all = all_go (suc n) (view_of setup w.tale) e 1 c.tale.clients c small on_c on_c.numbered (all_ready c.tale.clients c.tale.clients on_c.numbered (λ x there. there)) in
       let d : World More = go_on setup by (view_of setup w.tale) e c in
-      record { held = are_freed_held (suc n) (is_ended by d e) (ending_held (suc n) d e all.held); prompt = all.prompt }
+      record { held = are_freed_held fixed (suc n) (is_ended by d e) (ending_held fixed (suc n) d e all.held); prompt = all.prompt }
 
   -- and each log
 

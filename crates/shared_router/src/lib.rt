@@ -4,7 +4,7 @@
 mod links;
 mod who;
 
-ghost use Rattle.std.specs.Prelude.{◌≡◌, ◌++◌, ℕ, Bool, Some};
+ghost use Rattle.std.specs.Prelude.{◌≡◌, ◌++◌, ℕ, Bool, Some, true};
 ghost use Rattle.mx_base.specs.declared.names.LinkId.{LinkId};
 ghost use Rattle.mx_wire.specs.Log.{Log};
 ghost use Rattle.mx_wire.specs.Moments.{AllLawful, AtEachMoment};
@@ -21,7 +21,7 @@ ghost use Rattle.router_promises.specs.Terms.{IsRouters, Tried, tale_at};
 ghost use Rattle.shared_router.specs.Fixed.{Fixed, IsNumbered, setup_of};
 ghost use Rattle.shared_router.specs.Judged.{IsFresh, IsMet, JudgedSo, PromptSo, with_rest};
 ghost use Rattle.shared_router.specs.Known.{Known};
-ghost use Rattle.shared_router.specs.Lends.{readied_now};
+ghost use Rattle.shared_router.specs.Lends.{is_near, readied_now};
 ghost use Rattle.shared_router.specs.More.{More, terms_of};
 ghost use Rattle.shared_router.specs.Ours.{IsOurLog};
 ghost use Rattle.shared_router.specs.Waits.{Waits};
@@ -73,4 +73,9 @@ pub fn is_tagged()
 /// A link is readied for a statement that waits: in its client's present session, as it is due there.
 pub fn readied_waits()
     ensures { (k : Known) (link : LinkId) (r : Readied) → readied_now k link ≡ Some r → Waits k r }
+{}
+
+/// And the link is of that statement's hostgroup and account.
+pub fn readied_near()
+    ensures { (k : Known) (link : LinkId) (r : Readied) → readied_now k link ≡ Some r → is_near k link r ≡ true }
 {}
