@@ -30,5 +30,5 @@ pub mod Apart
 pub mod Closing
 pub mod Seated
 pub mod Users
-pub mod Growing
-pub mod Fitting
+pub mod Coming
+pub mod Guessing

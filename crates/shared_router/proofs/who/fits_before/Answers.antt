@@ -1,4 +1,4 @@
-use Rattle.shared_router.proofs.Fitting.{fits_then}
+use Rattle.shared_router.proofs.Guessing.{fits_then}
 use Rattle.shared_router.proofs.who.fits_before.Goals as goal
 
 pub returns : goal.returns

@@ -1,4 +1,4 @@
-use Rattle.shared_router.proofs.Fitting.{fitted_so}
+use Rattle.shared_router.proofs.Guessing.{fitted_so}
 use Rattle.shared_router.proofs.who.reads_who_they_are.Goals as goal
 
 pub returns : goal.returns

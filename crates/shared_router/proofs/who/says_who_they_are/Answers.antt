@@ -1,4 +1,4 @@
-use Rattle.shared_router.proofs.Growing.{who_each}
+use Rattle.shared_router.proofs.Coming.{who_each}
 use Rattle.shared_router.proofs.who.says_who_they_are.Goals as goal
 use Rattle.shared_router.specs.Shared.{final_terms}
 

@@ -28,7 +28,7 @@ use Rattle.router_promises.specs.Terms.{AreWhoTheySay, IsWhoItSays, Terms, login
 use Rattle.shared_router.specs.Fits.{Fits, account_said, client_named, fitted, place_by, place_said, talk_in}
 use Rattle.shared_router.specs.Fixed.{Fixed}
 use Rattle.shared_router.specs.Shared.{final_terms, world_at}
-use Rattle.shared_router.proofs.Growing.{IsWho, all_from, all_who_as, numbered_on, who_before}
+use Rattle.shared_router.proofs.Coming.{IsWho, all_from, all_who_as, numbered_on, who_before}
 use Rattle.shared_router.proofs.Numbered.{AreNumbered}
 use Rattle.shared_router.proofs.Parting.{service_kept, tale_then}
 use Rattle.shared_router.proofs.Seated.{AllOf, AreLike, IsLike, clients_by, like_itself, like_numbered, numbered_step, step_like, told_clients}
