@@ -44,7 +44,7 @@ pub all_of : (Q : Client → Type 0) (xs : List Client) → All Q xs → AllOf Q
 all_of Q [] all = tt
 all_of Q (x ∷ xs) all = (all 0 x (omega arith), all_of Q xs (λ k d within. all (suc k) d (omega (arith, within))))
 
-all_more : (P Q : Client → Type 0) → ((c : Client) → P c → Q c) → (xs : List Client) → AllOf P xs → AllOf Q xs
+pub all_more : (P Q : Client → Type 0) → ((c : Client) → P c → Q c) → (xs : List Client) → AllOf P xs → AllOf Q xs
 all_more P Q more [] all = tt
 all_more P Q more (x ∷ xs) all = (more x all.0, all_more P Q more xs all.1)
 

@@ -1,5 +1,5 @@
 -- What goes to a link to a server next, with its tag, and what is opened: by the policy, for whom links are readied.
-use Rattle.std.specs.Prelude.{ℕ, false, ◌&&◌, List, [], find, reverse, unwrap_or, Option}
+use Rattle.std.specs.Prelude.{ℕ, false, ◌&&◌, List, [], find, if◌then◌else◌, reverse, unwrap_or, Option, None}
 use Rattle.std.specs.List.{filter_map}
 use Rattle.std.specs.Option.{option_map, option_map_or, option_or}
 use Rattle.hostgroups.specs.Servers.{server_at}
@@ -16,10 +16,12 @@ use Rattle.session_vars.specs.declared.slot.Slot.TheVariants.{Autocommit}
 use Rattle.private_model.specs.Commands.{Account}
 use Rattle.private_model.specs.Names.{Hostgroup, LinkId, ServerId}
 use Rattle.private_model.specs.Story.{Capture, Due, End, Own, Prep, Question, Statement, Sync, command_of}
+use Rattle.private_model.specs.View.{View}
 use Rattle.server_side.specs.Account.{Account as Login}
 use Rattle.log_story.specs.Plan.{Asks, StepText, step_payload}
 use Rattle.tale_world.specs.Policy.{Texts, Wanted, next_open}
 use Rattle.tale_world.specs.Wishes.{Says, Sends, Standing, Wish, next_wish}
+use Rattle.router_promises.specs.Dues.{is_due}
 use Rattle.router_promises.specs.Keys.{has_room, is_in, numbered_from}
 use Rattle.router_promises.specs.Router.{user_named}
 use Rattle.router_promises.specs.Steps.{live_keys}
@@ -46,8 +48,12 @@ abbrev pub standing_on : Known → LinkId → Standing
 standing_on k link =
     record { live = filter_map (link_by k link).live (reverse (live_keys (setup_by k) k.now link)); long = (k.now.uses link).long }
 
+-- a statement that was given up is due no more: in a session with a Pin nothing is sent for it
+abbrev pub kept_due : Known → View
+kept_due k = record (view_by k) { dues = λ n. if is_due k.terms k.now.tale n then (view_by k).dues n else None }
+
 abbrev pub wish_on : Known → LinkId → Option Wish
-wish_on k link = next_wish texts k.fixed.ids (setup_by k) (view_by k) (link_by k link) (standing_on k link) (readied_now k link)
+wish_on k link = next_wish texts k.fixed.ids (setup_by k) (kept_due k) (link_by k link) (standing_on k link) (readied_now k link)
 
 abbrev pub ordinal_due : Option Due → ℕ
 ordinal_due due = option_map_or (λ (d : Due). d.ordinal) due 0
