@@ -22,9 +22,9 @@ pub mod Lasting
 pub mod Counting
 pub mod Accounts
 pub mod Opening
-pub mod Apart
-pub mod Closing
 pub mod Seated
 pub mod Users
 pub mod Growing
 pub mod Fitting
+pub mod Apart
+pub mod Closing
