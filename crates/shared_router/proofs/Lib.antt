@@ -26,10 +26,10 @@ pub mod Lasting
 pub mod Counting
 pub mod Accounts
 pub mod Opening
-pub mod Apart
-pub mod Closing
 pub mod Seated
 pub mod Users
 pub mod Growing
 pub mod Fitting
 pub mod Spelling
+pub mod Apart
+pub mod Closing
