@@ -1,5 +1,5 @@
 -- What goes to a link to a server next, with its tag, and what is opened: by the policy, for whom links are readied.
-use Rattle.std.specs.Prelude.{ℕ, false, ◌&&◌, List, [], find, reverse, unwrap_or, Option}
+use Rattle.std.specs.Prelude.{ℕ, false, ◌&&◌, List, [], find, if◌then◌else◌, reverse, unwrap_or, Option, None}
 use Rattle.std.specs.List.{filter_map}
 use Rattle.std.specs.Option.{option_map, option_map_or, option_or}
 use Rattle.hostgroups.specs.Servers.{server_at}
@@ -21,6 +21,7 @@ use Rattle.log_story.specs.Plan.{Asks, StepText, step_payload}
 use Rattle.tale_world.specs.Policy.{Texts, Wanted, next_open}
 use Rattle.tale_world.specs.Wishes.{Says, Sends, Standing, Wish, next_wish}
 use Rattle.router_promises.specs.Keys.{has_room, is_in, numbered_from}
+use Rattle.router_promises.specs.Now.{wire_now}
 use Rattle.router_promises.specs.Router.{user_named}
 use Rattle.router_promises.specs.Steps.{live_keys}
 use Rattle.router_promises.specs.Terms.{Tried}
@@ -46,8 +47,11 @@ abbrev pub standing_on : Known → LinkId → Standing
 standing_on k link =
     record { live = filter_map (link_by k link).live (reverse (live_keys (setup_by k) k.now link)); long = (k.now.uses link).long }
 
+-- nothing goes behind a QUIT
 abbrev pub wish_on : Known → LinkId → Option Wish
-wish_on k link = next_wish texts k.fixed.ids (setup_by k) (view_by k) (link_by k link) (standing_on k link) (readied_now k link)
+wish_on k link =
+    if (wire_now k.now link).quits then None
+    else next_wish texts k.fixed.ids (setup_by k) (view_by k) (link_by k link) (standing_on k link) (readied_now k link)
 
 abbrev pub ordinal_due : Option Due → ℕ
 ordinal_due due = option_map_or (λ (d : Due). d.ordinal) due 0
