@@ -29,3 +29,4 @@ pub mod Closing
 pub mod Seated
 pub mod Users
 pub mod Spelling
+pub mod Standing
