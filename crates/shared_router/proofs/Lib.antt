@@ -33,3 +33,4 @@ pub mod Fitting
 pub mod Spelling
 pub mod Apart
 pub mod Closing
+pub mod Standing

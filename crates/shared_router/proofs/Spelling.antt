@@ -76,7 +76,7 @@ quiet_so : (stage : Stage) → stage ≡ Quiet → is_quiet stage ≡ true
 quiet_so stage is = ap is_quiet is
 
 -- nothing was written of it yet
-none_written : (text : List ℕ) → IsFront [] text
+pub none_written : (text : List ℕ) → IsFront [] text
 none_written text = record { rest = text; is = refl }
 
 -- Tables.
@@ -105,7 +105,7 @@ IsCalm (Unprepared link number) = ⊥
 IsCalm _ = Unit {0}
 
 module _ (setup : Setup) where
-  abbrev links_in : Story → LinkId → Link
+  abbrev pub links_in : Story → LinkId → Link
   links_in story = (view_after setup story).links
 
   calm_of : {A : Type 0} (of : Link → A) → ((l m : Link) → l.stage ≡ m.stage → l.live ≡ m.live → of l ≡ of m) → (past : Story) (e : Happening) → IsCalm e → (l : LinkId)
@@ -175,7 +175,7 @@ module _ (setup : Setup) where
 
     -- Folds of what is calm.
 
-    ifs : {A : Type 0} (P : A → Type 0) (b : Bool) (x y : A) → P x → P y → P (if b then x else y)
+    pub ifs : {A : Type 0} (P : A → Type 0) (b : Bool) (x y : A) → P x → P y → P (if b then x else y)
     ifs P true x y first second = first
     ifs P false x y first second = second
 
