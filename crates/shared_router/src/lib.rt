@@ -1,11 +1,24 @@
 //! The router with shared links, as a world that decides: what it does at each entry of a log, and what such a log keeps.
 #![tactic(auto)]
 
-ghost use Rattle.std.specs.Prelude.{◌≡◌, ◌++◌};
+ghost use Rattle.std.specs.Prelude.{◌≡◌, ◌++◌, ℕ, Bool};
+ghost use Rattle.mx_base.specs.declared.names.LinkId.{LinkId};
 ghost use Rattle.mx_wire.specs.Log.{Log};
-ghost use Rattle.router_promises.specs.Terms.{IsRouters, tale_at};
-ghost use Rattle.shared_router.specs.Fixed.{Fixed};
-ghost use Rattle.shared_router.specs.Shared.{final_terms, world_at};
+ghost use Rattle.mx_wire.specs.Moments.{AllLawful};
+ghost use Rattle.packet_frame.specs.Packets.{Framed};
+ghost use Rattle.log_story.specs.Plan.{Plan};
+ghost use Rattle.log_story.specs.Tale.{Client};
+ghost use Rattle.tale_world.specs.Decided.{Agrees};
+ghost use Rattle.tale_world.specs.Deciding.{World};
+ghost use Rattle.tale_world.specs.World.{decided_next};
+ghost use Rattle.router_promises.specs.Tags.{TagsSo};
+ghost use Rattle.router_promises.specs.Verdicts.{verdict};
+ghost use Rattle.router_promises.specs.Terms.{IsRouters, Tried, tale_at};
+ghost use Rattle.shared_router.specs.Fixed.{Fixed, IsNumbered, setup_of};
+ghost use Rattle.shared_router.specs.Judged.{IsFresh, IsMet, JudgedSo, PromptSo, with_rest};
+ghost use Rattle.shared_router.specs.More.{More, terms_of};
+ghost use Rattle.shared_router.specs.Ours.{IsOurLog};
+ghost use Rattle.shared_router.specs.Shared.{final_terms, shared, taking_in, world_at};
 
 /// By what was decided in the end, each beginning of the log tells the tale of the world then.
 pub fn one_tale()
@@ -15,4 +28,24 @@ pub fn one_tale()
 /// The plan is one of this router.
 pub fn is_routers()
     ensures { (fixed : Fixed) (log : Log) → IsRouters (final_terms fixed log) }
+{}
+
+/// As a message comes up of which nothing was decided: by each plan that agrees with what is decided then, it goes where the verdict
+/// by that plan says, or is answered as it says, or that there is no memory.
+pub fn is_judged()
+    ensures { (fixed : Fixed) (w : World More) (client : Client) (message : Framed) (bare : LinkId → Bool) (tried : ℕ → Tried) (plan : Plan)
+        → IsNumbered fixed → IsFresh fixed w client message → Agrees (decided_next (setup_of fixed) (shared fixed) w client) w.tale.moment plan
+        → IsMet (with_rest (terms_of fixed w) plan bare tried) (taking_in w client message)
+        (verdict (with_rest (terms_of fixed w) plan bare tried) w.more.servers (w.more.flags client.number) (taking_in w client message)) }
+{}
+
+/// Where nothing was decided of messages before they come up: at each entry of the log, each message that is taken up goes where the
+/// verdict by the last plan says, or is answered as it says, or that there is no memory.
+pub fn is_routed()
+    ensures { (fixed : Fixed) (log : Log) → IsNumbered fixed → AllLawful (PromptSo fixed) log → AllLawful (JudgedSo (final_terms fixed log)) log }
+{}
+
+/// What it writes has its tags, and stands where it should.
+pub fn is_tagged()
+    ensures { (fixed : Fixed) (log : Log) → IsNumbered fixed → IsOurLog fixed log → AllLawful (TagsSo (final_terms fixed log)) log }
 {}

@@ -1,0 +1,5 @@
+use Rattle.shared_router.proofs.Routing.{routes_kept}
+use Rattle.shared_router.proofs.is_routed.Goals as goal
+
+pub returns : goal.returns
+returns c = λ fixed log numbered prompt. routes_kept fixed numbered log prompt
