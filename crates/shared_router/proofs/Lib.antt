@@ -6,3 +6,4 @@ pub mod Walking
 pub mod Routing
 pub mod Keeping
 pub mod Tagging
+pub mod Since
