@@ -7,3 +7,4 @@ pub mod Routing
 pub mod Keeping
 pub mod Tagging
 pub mod Since
+pub mod Looked

@@ -313,6 +313,17 @@ module _ (fixed : Fixed) where
   pub going-on-since : (w : World More) (e : Entry) → Since (suc w.tale.moment) (suc w.tale.moment) (heard fixed w e).decided (going-on w e).decided
   going-on-since w e = all-since (suc w.tale.moment) (view_of setup w.tale) e (heard fixed w e).tale.clients (heard fixed w e)
 
+  pub heard-closed : (w : World More) (e : Entry) → w.decided.until ≡ w.tale.moment → (heard fixed w e).tale.moment ≤ suc (heard fixed w e).decided.until
+  heard-closed w e even =
+      let a : World More = is_told setup by w e in
+      let b : World More = is_counted by a e in
+      let kept : a.tale.moment ≡ w.tale.moment = told_moment setup (plan_of a.decided) w.tale e in
+      let to_c = are_freed_follows setup by (suc a.tale.moment) b refl in
+      let until_a : a.decided.until ≡ w.decided.until = (told-more setup by w e).until in
+      let until_c : (heard fixed w e).decided.until ≡ b.decided.until = to_c.more.until in
+      let now_c : (heard fixed w e).tale.moment ≡ suc a.tale.moment = to_c.now in
+      omega arith
+
   pub going-moment : (w : World More) (e : Entry) → w.decided.until ≡ w.tale.moment → (going-on w e).tale.moment ≡ suc w.tale.moment
   going-moment w e even =
       let a : World More = is_told setup by w e in
