@@ -8,3 +8,4 @@ pub mod Keeping
 pub mod Tagging
 pub mod Since
 pub mod Looked
+pub mod Ending
