@@ -9,3 +9,4 @@ pub mod Tagging
 pub mod Since
 pub mod Looked
 pub mod Ending
+pub mod Musts

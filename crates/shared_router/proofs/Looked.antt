@@ -147,7 +147,7 @@ given-has moment (Some payloads) None has = absurd (cc (has.1))
 given-has moment (Some payloads) (Some None) has = (_, refl)
 given-has moment (Some payloads) (Some (Some answer)) has = (_, refl)
 
-ending-clients : (p : Plan) (xs : List Client) (tale : Tale) → (fold (ended_if_now p) tale xs).clients ≡ tale.clients
+pub ending-clients : (p : Plan) (xs : List Client) (tale : Tale) → (fold (ended_if_now p) tale xs).clients ≡ tale.clients
 ending-clients p [] tale = refl
 ending-clients p (x ∷ xs) tale =
     ending-clients p xs (ended_if_now p tale x) ∙ either-clients (is_now tale.moment (p.ends x.number)) (tell (Left x.number) tale) tale tale.clients refl refl
@@ -289,7 +289,7 @@ module _ (fixed : Fixed) where
       let until : v.decided.until ≡ w.decided.until = one.more.until in
       going-looked moment view e xs v one.now (omega (arith, until, closed)) (are-more w.decided v.decided one.more xs each.1) (goes-looked view e w x each.0 all)
 
-  freeing-clients : (xs : List LinkId) (w : World More) → (fold (freed_there setup by) w xs).tale.clients ≡ w.tale.clients
+  pub freeing-clients : (xs : List LinkId) (w : World More) → (fold (freed_there setup by) w xs).tale.clients ≡ w.tale.clients
   freeing-clients [] w = refl
   freeing-clients (x ∷ xs) w =
       freeing-clients xs (freed_there setup by w x)
