@@ -10,3 +10,5 @@ pub mod Since
 pub mod Looked
 pub mod Ending
 pub mod Musts
+pub mod Numbered
+pub mod Worded

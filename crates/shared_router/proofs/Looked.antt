@@ -40,28 +40,24 @@ use Rattle.shared_router.proofs.Since.{heard-closed}
 
 -- P of each, by recursion
 
-pub Each : {A : Type 0} → (A → Type 0) → List A → Type 0
+abbrev pub Each : {A : Type 0} → (A → Type 0) → List A → Type 0
 Each P [] = Unit {0}
 Each P (x ∷ xs) = P x × Each P xs
 
 pub each-all : {A : Type 0} (P : A → Type 0) (xs : List A) → Each P xs → All P xs
-unfolding Each
 each-all P [] each k d within = absurd (omega (arith, within))
 each-all P (x ∷ xs) each zero d within = each.0
 each-all P (x ∷ xs) each (suc k) d within = each-all P xs each.1 k d (omega (arith, within))
 
 pub each-so : {A : Type 0} (P Q : A → Type 0) (xs : List A) → ((x : A) → P x → Q x) → Each P xs → Each Q xs
-unfolding Each
 each-so P Q [] so each = tt
 each-so P Q (x ∷ xs) so each = (so x each.0, each-so P Q xs so each.1)
 
 pub each-map : {A : Type 0} (P Q : A → Type 0) (f : A → A) (xs : List A) → ((x : A) → P x → Q (f x)) → Each P xs → Each Q (map f xs)
-unfolding Each
 each-map P Q f [] so each = tt
 each-map P Q f (x ∷ xs) so each = (so x each.0, each-map P Q f xs so each.1)
 
 pub each-last : {A : Type 0} (P : A → Type 0) (xs : List A) (y : A) → Each P xs → P y → Each P (xs ++ y ∷ [])
-unfolding Each
 each-last P [] y each last = (last, tt)
 each-last P (x ∷ xs) y each last = (each.0, each-last P xs y each.1 last)
 
@@ -110,6 +106,35 @@ lost-clients : (link : LinkId) (tale : Tale) (b : Bool) → (if b then tell (Gon
 lost-clients link tale true = refl
 lost-clients link tale false = leaves-clients link tale.clients tale
 
+-- a fact of the clients of a tale that new ones, bytes of them and bytes to them keep
+pub record Seats (P : List Client → Type 0) : Type 0 where
+  pub comes : (cs : List Client) (link : LinkId) (salt : List ℕ) → P cs → P (cs ++ new_client (length cs + 1) link salt ∷ [])
+  pub hears : (cs : List Client) (link : LinkId) (bytes : List ℕ) → P cs → P (map (client_hears link bytes) cs)
+  pub gets : (cs : List Client) (link : LinkId) (count : ℕ) → P cs → P (map (client_gets link count) cs)
+
+module _ (P : List Client → Type 0) (seats : Seats P) (setup : Setup) (p : Plan) where
+  got-told : (tale : Tale) (link : LinkId) (bytes : List ℕ) (b : Bool) → P tale.clients
+      → P (if b then server_says setup p link bytes tale else record tale { clients = map (client_hears link bytes) tale.clients }).clients
+  got-told tale link bytes true holds = subst P (sym (says-moved setup p link bytes tale).clients) holds
+  got-told tale link bytes false holds = seats.hears tale.clients link bytes holds
+
+  wrote-told : (tale : Tale) (link : LinkId) (for : Tag) (bytes : List ℕ) (b : Bool) → P tale.clients
+      → P (if b then writes setup p link for bytes (tale.wires link) tale else record tale { clients = map (client_gets link (length bytes)) tale.clients }).clients
+  wrote-told tale link for bytes true holds = subst P (sym (writes-moved setup p link for bytes tale).clients) holds
+  wrote-told tale link for bytes false holds = seats.gets tale.clients link (length bytes) holds
+
+  pub told-seats : (tale : Tale) (e : Entry) → P tale.clients → P (told setup p tale e).clients
+  told-seats tale (entry.Accepted port link salt) holds = seats.comes tale.clients link salt holds
+  told-seats tale (entry.Got link bytes) holds = got-told tale link bytes (is_to_server tale link) holds
+  told-seats tale (entry.Wrote link for bytes) holds = wrote-told tale link for bytes (is_to_server tale link) holds
+  told-seats tale (entry.Exec link) holds =
+      subst P (sym (either-clients (tale.wires link).entered (tell (if (tale.wires link).quits then Dropped link else Ran link) tale) tale tale.clients refl refl)) holds
+  told-seats tale (entry.Ended link) holds = subst P (sym (lost-clients link tale (is_to_server tale link))) holds
+  told-seats tale (entry.ReadFailed link) holds = subst P (sym (lost-clients link tale (is_to_server tale link))) holds
+  told-seats tale (entry.WriteFailed link) holds = subst P (sym (lost-clients link tale (is_to_server tale link))) holds
+  told-seats tale (entry.Closed link) holds = subst P (sym (lost-clients link tale (is_to_server tale link))) holds
+  told-seats tale _ holds = holds
+
 heard-looked : (d : Decided) (link : LinkId) (bytes : List ℕ) (client : Client) → IsLooked d client → IsLooked d (client_hears link bytes client)
 heard-looked d link bytes client looked =
     either-looked d (is_link_id client.link link) (record client { read = client.read ++ bytes }) client (record { own = looked.own; routes = looked.routes }) looked
@@ -118,28 +143,12 @@ got-looked : (d : Decided) (link : LinkId) (count : ℕ) (client : Client) → I
 got-looked d link count client looked =
     either-looked d (is_link_id client.link link) (record client { written = client.written + count }) client (record { own = looked.own; routes = looked.routes }) looked
 
-got-told : (setup : Setup) (p : Plan) (d : Decided) (tale : Tale) (link : LinkId) (bytes : List ℕ) (b : Bool) → AreLooked d tale.clients
-    → AreLooked d (if b then server_says setup p link bytes tale else record tale { clients = map (client_hears link bytes) tale.clients }).clients
-got-told setup p d tale link bytes true looked = subst (AreLooked d) (sym (says-moved setup p link bytes tale).clients) looked
-got-told setup p d tale link bytes false looked = each-map (IsLooked d) (IsLooked d) (client_hears link bytes) tale.clients (heard-looked d link bytes) looked
-
-wrote-told : (setup : Setup) (p : Plan) (d : Decided) (tale : Tale) (link : LinkId) (for : Tag) (bytes : List ℕ) (b : Bool) → AreLooked d tale.clients
-    → AreLooked d (if b then writes setup p link for bytes (tale.wires link) tale else record tale { clients = map (client_gets link (length bytes)) tale.clients }).clients
-wrote-told setup p d tale link for bytes true looked = subst (AreLooked d) (sym (writes-moved setup p link for bytes tale).clients) looked
-wrote-told setup p d tale link for bytes false looked = each-map (IsLooked d) (IsLooked d) (client_gets link (length bytes)) tale.clients (got-looked d link (length bytes)) looked
-
-told-looked : (setup : Setup) (p : Plan) (d : Decided) (tale : Tale) (e : Entry) → AreLooked d tale.clients → AreLooked d (told setup p tale e).clients
-told-looked setup p d tale (entry.Accepted port link salt) looked =
-    each-last (IsLooked d) tale.clients (new_client (length tale.clients + 1) link salt) looked (new-looked d (length tale.clients + 1) link salt)
-told-looked setup p d tale (entry.Got link bytes) looked = got-told setup p d tale link bytes (is_to_server tale link) looked
-told-looked setup p d tale (entry.Wrote link for bytes) looked = wrote-told setup p d tale link for bytes (is_to_server tale link) looked
-told-looked setup p d tale (entry.Exec link) looked =
-    subst (AreLooked d) (sym (either-clients (tale.wires link).entered (tell (if (tale.wires link).quits then Dropped link else Ran link) tale) tale tale.clients refl refl)) looked
-told-looked setup p d tale (entry.Ended link) looked = subst (AreLooked d) (sym (lost-clients link tale (is_to_server tale link))) looked
-told-looked setup p d tale (entry.ReadFailed link) looked = subst (AreLooked d) (sym (lost-clients link tale (is_to_server tale link))) looked
-told-looked setup p d tale (entry.WriteFailed link) looked = subst (AreLooked d) (sym (lost-clients link tale (is_to_server tale link))) looked
-told-looked setup p d tale (entry.Closed link) looked = subst (AreLooked d) (sym (lost-clients link tale (is_to_server tale link))) looked
-told-looked setup p d tale _ looked = looked
+looked-seats : (d : Decided) → Seats (AreLooked d)
+looked-seats d = record {
+  comes = λ cs link salt all. each-last (IsLooked d) cs (new_client (length cs + 1) link salt) all (new-looked d (length cs + 1) link salt);
+  hears = λ cs link bytes all. each-map (IsLooked d) (IsLooked d) (client_hears link bytes) cs (heard-looked d link bytes) all;
+  gets = λ cs link count all. each-map (IsLooked d) (IsLooked d) (client_gets link count) cs (got-looked d link count) all;
+}
 
 given-has : (moment : ℕ) (payloads : Option (List (List ℕ))) (own : Option (Option OwnAnswer)) → Has own → Has (given_up moment payloads own)
 given-has moment None own has = has
@@ -157,7 +166,7 @@ ending-clients p (x ∷ xs) tale =
 some-same : {A : Type 0} (a b : A) → Some a ≡ Some b → a ≡ b
 some-same a b is = cc
 
-taken-clients : (setup : Setup) (p : Plan) (client : Client) (found : Option Framed) (tale other : Tale) → next_taken setup p client found tale ≡ Some other
+pub taken-clients : (setup : Setup) (p : Plan) (client : Client) (found : Option Framed) (tale other : Tale) → next_taken setup p client found tale ≡ Some other
     → (other.clients ≡ tale.clients) × ((is_some found && clients.is_up setup p client tale) ≡ true)
 taken-clients setup p client None tale other is = absurd (cc)
 taken-clients setup p client (Some message) tale other is = by_test (clients.is_up setup p client tale) is where
@@ -281,7 +290,6 @@ module _ (fixed : Fixed) where
   going-looked : (moment : ℕ) (view : View) (e : Entry) (xs : List Client) (w : World More) → w.tale.moment ≡ moment → moment ≤ suc w.decided.until
       → AreLooked w.decided xs → AreLooked w.decided w.tale.clients
       → AreLooked (fold (goes_on setup by view e) w xs).decided (fold (goes_on setup by view e) w xs).tale.clients
-  unfolding Each
   going-looked moment view e [] w now closed each all = all
   going-looked moment view e (x ∷ xs) w now closed each all =
       let v : World More = goes_on setup by view e w x in
@@ -313,7 +321,7 @@ module _ (fixed : Fixed) where
       let a : World More = is_told setup by w e in
       let b : World More = is_counted by a e in
       freed-looked b (each-so (IsLooked a.decided) (IsLooked b.decided) a.tale.clients (given-looked a e)
-      (told-looked setup (plan_of a.decided) a.decided w.tale e (are-more w.decided a.decided (told-more setup by w e) w.tale.clients all)))
+      (told-seats (AreLooked a.decided) (looked-seats a.decided) setup (plan_of a.decided) w.tale e (are-more w.decided a.decided (told-more setup by w e) w.tale.clients all)))
 
   pub going-looks : (w : World More) (e : Entry) → w.decided.until ≡ w.tale.moment → AreLooked w.decided w.tale.clients
       → AreLooked (go_on setup by (view_of setup w.tale) e (heard fixed w e)).decided (go_on setup by (view_of setup w.tale) e (heard fixed w e)).tale.clients
@@ -334,5 +342,4 @@ module _ (fixed : Fixed) where
   log-looks (e ∷ log) w even all = log-looks log (next fixed w e) (step_even setup by w e) (step-looks w e even all)
 
   pub looks_at : (log : Log) → AreLooked (world_at fixed log).decided (world_at fixed log).tale.clients
-  unfolding Each
   looks_at log = log-looks log (parting.first fixed) refl tt
