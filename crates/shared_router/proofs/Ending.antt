@@ -47,19 +47,24 @@ module _ (fixed : Fixed) (numbered : IsNumbered fixed) where
   abbrev by : Deciding More
   by = shared fixed
 
-  -- a plan that agrees behind the entry agrees before clients are ended
+  -- a plan that agrees behind the entry agrees as clients are ended, and before
+
+  pub agrees-ended : (w : World More) (e : Entry) (plan : Plan) → Agrees (world_step setup by w e).decided (world_step setup by w e).tale.moment plan
+      → Agrees (is_ended by (going-on fixed w e) e).decided (going-on fixed w e).tale.moment plan
+  agrees-ended w e plan agrees =
+      let d : World More = going-on fixed w e in
+      let f : World More = is_ended by d e in
+      let now_f : f.tale.moment ≡ d.tale.moment = ends_moment (plan_of f.decided) d.tale.clients d.tale in
+      let to_g = are_freed_follows setup by f.tale.moment f refl in
+      subst (λ k. Agrees f.decided k plan) now_f (agrees-less f.decided (world_step setup by w e).decided f.tale.moment plan to_g.more
+      (subst (λ k. Agrees (world_step setup by w e).decided k plan) to_g.now agrees))
+
   pub agrees-ending : (w : World More) (e : Entry) (plan : Plan) → w.decided.until ≡ w.tale.moment
       → Agrees (world_step setup by w e).decided (world_step setup by w e).tale.moment plan
       → Agrees (going-on fixed w e).decided (going-on fixed w e).tale.moment plan
   agrees-ending w e plan even agrees =
-      let d : World More = going-on fixed w e in
-      let f : World More = is_ended by d e in
-      let gone : suc d.decided.until ≡ d.tale.moment = going_even setup by w e even in
-      let now_f : f.tale.moment ≡ d.tale.moment = ends_moment (plan_of f.decided) d.tale.clients d.tale in
-      let to_g = are_freed_follows setup by f.tale.moment f refl in
-      let on_f : Agrees f.decided f.tale.moment plan = agrees-less f.decided (world_step setup by w e).decided f.tale.moment plan to_g.more
-      (subst (λ k. Agrees (world_step setup by w e).decided k plan) to_g.now agrees) in
-      ended_agrees setup by d e plan (omega (arith, gone)) (subst (λ k. Agrees f.decided k plan) now_f on_f)
+      let gone : suc (going-on fixed w e).decided.until ≡ (going-on fixed w e).tale.moment = going_even setup by w e even in
+      ended_agrees setup by (going-on fixed w e) e plan (omega (arith, gone)) (agrees-ended w e plan agrees)
 
   -- what was told until then
   pub record IsGoing (w : World More) (e : Entry) (plan : Plan) : Type 0 where

@@ -12,3 +12,4 @@ pub mod Ending
 pub mod Musts
 pub mod Numbered
 pub mod Worded
+pub mod Ended

@@ -124,7 +124,7 @@ module _ (fixed : Fixed) (numbered : IsNumbered fixed) where
     abbrev serving : Service → Plan
     serving service = record plan { service = service }
 
-    served-same : served t (before ++ e ∷ []) client ≡ served (terms_of fixed d) d.more.log client
+    pub served-same : served t (before ++ e ∷ []) client ≡ served (terms_of fixed d) d.more.log client
     served-same =
         ap (λ service. option_map_or (is_served service) (arrival_of client.number.0 (before ++ e ∷ [])) false) so.agrees.service
         ∙ ap (λ l. option_map_or (is_served d.decided.service) (arrival_of client.number.0 l) false) (sym so.entries)

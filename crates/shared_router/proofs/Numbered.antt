@@ -67,7 +67,7 @@ numbers-above from [] all = tt
 numbers-above from (x ∷ xs) all =
     (omega (arith, all.0), each-so (λ (c : Client). suc from ≤ c.number.0) (λ (c : Client). from ≤ c.number.0) xs (λ c above. omega (arith, above)) (numbers-above (suc from) xs all.1))
 
-both-each : {A : Type 0} (P Q : A → Type 0) (xs : List A) → Each P xs → Each Q xs → Each (λ x. P x × Q x) xs
+pub both-each : {A : Type 0} (P Q : A → Type 0) (xs : List A) → Each P xs → Each Q xs → Each (λ x. P x × Q x) xs
 both-each P Q [] one other = tt
 both-each P Q (x ∷ xs) one other = ((one.0, other.0), both-each P Q xs one.1 other.1)
 

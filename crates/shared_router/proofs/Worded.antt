@@ -38,10 +38,10 @@ use Rattle.shared_router.proofs.Since.{going-on, heard-closed}
 none-said : {A : Type 0} (word : LastWord) → None ≡ Some word → A
 none-said word is = absurd (cc)
 
-turned-goes : (x : Ending) (client : Client) → is_turned_away x client ≡ true → must_go x client ≡ true
+pub turned-goes : (x : Ending) (client : Client) → is_turned_away x client ≡ true → must_go x client ≡ true
 turned-goes x client is = or_right _ _ (or_left _ _ is)
 
-starved-goes : (x : Ending) (client : Client) → (is_refused_now x client && may_say_starved x client) ≡ true → is_starved x client ≡ true
+pub starved-goes : (x : Ending) (client : Client) → (is_refused_now x client && may_say_starved x client) ≡ true → is_starved x client ≡ true
 starved-goes x client is =
     let parts = and_parts (is_refused_now x client) (may_say_starved x client) is in
     by_refused (is_refused_now x client) parts.0
@@ -50,7 +50,7 @@ starved-goes x client is =
     by_refused true so = or_right _ _ (or_right _ _ (and_parts (is_refused_now x client) (may_say_starved x client) is).1)
     by_refused false so = absurd (cc)
 
-word-goes : (x : Ending) (client : Client) (word : LastWord) → word_to x client ≡ Some word → goes x client ≡ true
+pub word-goes : (x : Ending) (client : Client) (word : LastWord) → word_to x client ≡ Some word → goes x client ≡ true
 word-goes x client word is = by_tests (is_turned_away x client) (must_go x client) (has_too_much x client) (is_refused_now x client && may_say_starved x client) refl refl refl refl is where
   by_tests : (away must much starved : Bool) → is_turned_away x client ≡ away → must_go x client ≡ must → has_too_much x client ≡ much
       → (is_refused_now x client && may_say_starved x client) ≡ starved
@@ -171,7 +171,7 @@ module _ (fixed : Fixed) where
   ended-has moment false (Some n) why = (n, refl)
   ended-has moment false None why = elim why [ | inl is ↦ absurd (cc (is)) | inr has ↦ absurd (cc (has.1)) ]
 
-  said-by : (old new : Option LastWord) (word : LastWord) → option_or old new ≡ Some word → (old ≡ Some word) ⊎ (new ≡ Some word)
+  pub said-by : (old new : Option LastWord) (word : LastWord) → option_or old new ≡ Some word → (old ≡ Some word) ⊎ (new ≡ Some word)
   said-by None new word is = inr is
   said-by (Some other) new word is = inl is
 

@@ -1,6 +1,8 @@
 //! The router with shared links, as a world that decides: what it does at each entry of a log, and what such a log keeps.
 #![tactic(auto)]
 
+pub mod departing;
+
 ghost use Rattle.std.specs.Prelude.{◌≡◌, ◌++◌, ℕ, Bool};
 ghost use Rattle.mx_base.specs.declared.names.LinkId.{LinkId};
 ghost use Rattle.mx_wire.specs.Log.{Log};
