@@ -88,24 +88,24 @@ module _ (fixed : Fixed) (numbered : IsNumbered fixed) (before later : Log) (e :
   abbrev behind : Now
   behind = now.next t there e
 
-  so : IsEnding fixed numbered before e log
+  pub so : IsEnding fixed numbered before e log
   so = ending-so fixed numbered before later e log refl
 
-  moment-so : d.tale.moment ≡ suc w.tale.moment
+  pub moment-so : d.tale.moment ≡ suc w.tale.moment
   moment-so = going-moment fixed w e (even_at fixed before)
 
-  entry-so : entry_now there ≡ d.tale.moment
+  pub entry-so : entry_now there ≡ d.tale.moment
   entry-so = (let one : w.tale.moment + 1 ≡ suc w.tale.moment = omega arith in ap (λ (tale : Tale). tale.moment + 1) so.was ∙ one ∙ sym moment-so)
 
-  x-entry : entry_now x.now ≡ d.tale.moment
+  pub x-entry : entry_now x.now ≡ d.tale.moment
   x-entry = (let one : w.tale.moment + 1 ≡ suc w.tale.moment = omega arith in ap (λ (n : Now). entry_now n) so.known ∙ one ∙ sym moment-so)
 
-  on_f : Agrees f.decided d.tale.moment plan
+  pub on_f : Agrees f.decided d.tale.moment plan
   on_f = agrees-ended fixed numbered w e plan (agrees_behind fixed numbered before later e log refl)
 
   -- what was decided before is of earlier entries
 
-  ends-early : (c : ClientNo) (n : ℕ) → d.decided.ends c ≡ Some n → n < d.tale.moment
+  pub ends-early : (c : ClientNo) (n : ℕ) → d.decided.ends c ≡ Some n → n < d.tale.moment
   ends-early c n is =
       let now_d = moment-so in
       elim ((log-since fixed before (parting.first fixed) refl).ends c n (ap (λ g. g c) (sym (going-same-ends fixed w e).ends) ∙ is)) [
@@ -113,7 +113,7 @@ module _ (fixed : Fixed) (numbered : IsNumbered fixed) (before later : Log) (e :
         | inr within ↦ omega (arith, within.1, now_d)
       ]
 
-  words-early : (c : ClientNo) (word : LastWord) → d.decided.words c ≡ Some word → word.from < d.tale.moment
+  pub words-early : (c : ClientNo) (word : LastWord) → d.decided.words c ≡ Some word → word.from < d.tale.moment
   words-early c word is =
       let now_d = moment-so in
       elim ((log-since fixed before (parting.first fixed) refl).words c word (ap (λ g. g c) (sym (going-same-ends fixed w e).words) ∙ is)) [
@@ -122,7 +122,7 @@ module _ (fixed : Fixed) (numbered : IsNumbered fixed) (before later : Log) (e :
       ]
 
   -- who wasn't ended has no last word
-  no-word-yet : (c : ClientNo) → d.decided.ends c ≡ None → d.decided.words c ≡ None
+  pub no-word-yet : (c : ClientNo) → d.decided.ends c ≡ None → d.decided.words c ≡ None
   no-word-yet c none = by_word (d.decided.words c) refl where
     by_word : (o : Option LastWord) → d.decided.words c ≡ o → o ≡ None
     by_word None is = refl
@@ -132,7 +132,7 @@ module _ (fixed : Fixed) (numbered : IsNumbered fixed) (before later : Log) (e :
         none-at has.0 (sym none ∙ ap (λ g. g c) kept.ends ∙ has.1)
 
   -- a word that is decided at this entry is the last plan's
-  word-kept : (c : ClientNo) (word : LastWord) → f.decided.words c ≡ Some word → plan.words c ≡ Some word
+  pub word-kept : (c : ClientNo) (word : LastWord) → f.decided.words c ≡ Some word → plan.words c ≡ Some word
   word-kept c word is =
       let g : World More = next fixed w e in
       let last = log-since fixed later g (step_even setup by w e) in
@@ -143,11 +143,11 @@ module _ (fixed : Fixed) (numbered : IsNumbered fixed) (before later : Log) (e :
     abbrev c : ClientNo
     c = client.number
 
-    ends-same : by.ends d e c ≡ goes x client
+    pub ends-same : by.ends d e c ≡ goes x client
     ends-same = alone.any (goes x)
 
     -- one that goes is ended by now
-    goes-ends : goes x client ≡ true → (n : ℕ) × ((plan.ends c ≡ Some n) × (n ≤ d.tale.moment))
+    pub goes-ends : goes x client ≡ true → (n : ℕ) × ((plan.ends c ≡ Some n) × (n ≤ d.tale.moment))
     goes-ends going =
         let ended = ends-at d.tale.moment (d.decided.ends c) (λ n is. (let early = ends-early c n is in omega (arith, early))) in
         (ended.0, (on_f.ended c ended.0 (ap (λ b. ended_now d.tale.moment b (d.decided.ends c)) (ends-same ∙ going) ∙ ended.1.0), ended.1.1))
@@ -165,7 +165,7 @@ module _ (fixed : Fixed) (numbered : IsNumbered fixed) (before later : Log) (e :
           ]
 
     -- the last word to it at this entry
-    word-so : (word : LastWord) → d.decided.ends c ≡ None → word_to x client ≡ Some word → plan.words c ≡ Some word
+    pub word-so : (word : LastWord) → d.decided.ends c ≡ None → word_to x client ≡ Some word → plan.words c ≡ Some word
     word-so word none said =
         word-kept c word (ap (λ o. option_or o (words_by x c)) (no-word-yet c none)
         ∙ ap (λ o. if is_before d.tale.moment o then None else option_and_then (word_to x) (client_at x c)) none
@@ -239,7 +239,7 @@ module _ (fixed : Fixed) (numbered : IsNumbered fixed) (before later : Log) (e :
     unfolding may_by
     by-told is = middle-of (is_accepted e client) (was_starved t (entry_now there) client) (was_starved_at_once t client) word_there is
 
-    must-not-away : must_go x client ≡ false → is_turned_away x client ≡ false
+    pub must-not-away : must_go x client ≡ false → is_turned_away x client ≡ false
     must-not-away none = by_test (is_turned_away x client) refl where
       by_test : (b : Bool) → is_turned_away x client ≡ b → b ≡ false
       by_test false is = refl
@@ -333,7 +333,7 @@ module _ (fixed : Fixed) (numbered : IsNumbered fixed) (before later : Log) (e :
   behind-clients =
       ap (λ (tale : Tale). tale.clients) behind-tale ∙ freeing-clients fixed f.tale.links f ∙ ending-clients (plan_of f.decided) d.tale.clients d.tale
 
-  behind-moment : behind.tale.moment ≡ d.tale.moment
+  pub behind-moment : behind.tale.moment ≡ d.tale.moment
   behind-moment = ap (λ (tale : Tale). tale.moment) behind-tale ∙ step-moment fixed w e (even_at fixed before) ∙ sym moment-so
 
   pub ends-there : All (EndsRight t (before ++ e ∷ []) there behind e) behind.tale.clients

@@ -33,7 +33,7 @@ use Rattle.shared_router.proofs.Since.{going-moment, going-on, heard-closed}
 use Rattle.shared_router.proofs.Verdicts.{kind_same}
 use Rattle.shared_router.proofs.Walking.{none_then, taken_found, takings_once}
 
-any-on : {A : Type 0} (f : A → Bool) (a b : List A) → list_any f (a ++ b) ≡ (list_any f a || list_any f b)
+pub any-on : {A : Type 0} (f : A → Bool) (a b : List A) → list_any f (a ++ b) ≡ (list_any f a || list_any f b)
 any-on f [] b = refl
 any-on f (x ∷ a) b = by_test (f x) (any-on f a b) where
   by_test : (t : Bool) → list_any f (a ++ b) ≡ (list_any f a || list_any f b) → (t || list_any f (a ++ b)) ≡ ((t || list_any f a) || list_any f b)

@@ -13,3 +13,5 @@ pub mod Musts
 pub mod Numbered
 pub mod Worded
 pub mod Ended
+pub mod Coming
+pub mod Said

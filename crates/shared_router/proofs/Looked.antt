@@ -107,12 +107,24 @@ lost-clients link tale true = refl
 lost-clients link tale false = leaves-clients link tale.clients tale
 
 -- a fact of the clients of a tale that new ones, bytes of them and bytes to them keep
-pub record Seats (P : List Client → Type 0) : Type 0 where
-  pub comes : (cs : List Client) (link : LinkId) (salt : List ℕ) → P cs → P (cs ++ new_client (length cs + 1) link salt ∷ [])
+pub record Seats (Comes : LinkId → Type 0) (P : List Client → Type 0) : Type 0 where
+  pub comes : (cs : List Client) (link : LinkId) (salt : List ℕ) → Comes link → P cs → P (cs ++ new_client (length cs + 1) link salt ∷ [])
   pub hears : (cs : List Client) (link : LinkId) (bytes : List ℕ) → P cs → P (map (client_hears link bytes) cs)
   pub gets : (cs : List Client) (link : LinkId) (count : ℕ) → P cs → P (map (client_gets link count) cs)
 
-module _ (P : List Client → Type 0) (seats : Seats P) (setup : Setup) (p : Plan) where
+-- any may come
+abbrev pub anybody : LinkId → Type 0
+anybody link = Unit {0}
+
+abbrev pub IfComes : (LinkId → Type 0) → Entry → Type 0
+IfComes Comes (entry.Accepted port link salt) = Comes link
+IfComes Comes _ = Unit {0}
+
+pub if-anybody : (e : Entry) → IfComes anybody e
+if-anybody (entry.Accepted port link salt) = tt
+if-anybody _ = tt
+
+module _ (Comes : LinkId → Type 0) (P : List Client → Type 0) (seats : Seats Comes P) (setup : Setup) (p : Plan) where
   got-told : (tale : Tale) (link : LinkId) (bytes : List ℕ) (b : Bool) → P tale.clients
       → P (if b then server_says setup p link bytes tale else record tale { clients = map (client_hears link bytes) tale.clients }).clients
   got-told tale link bytes true holds = subst P (sym (says-moved setup p link bytes tale).clients) holds
@@ -123,17 +135,17 @@ module _ (P : List Client → Type 0) (seats : Seats P) (setup : Setup) (p : Pla
   wrote-told tale link for bytes true holds = subst P (sym (writes-moved setup p link for bytes tale).clients) holds
   wrote-told tale link for bytes false holds = seats.gets tale.clients link (length bytes) holds
 
-  pub told-seats : (tale : Tale) (e : Entry) → P tale.clients → P (told setup p tale e).clients
-  told-seats tale (entry.Accepted port link salt) holds = seats.comes tale.clients link salt holds
-  told-seats tale (entry.Got link bytes) holds = got-told tale link bytes (is_to_server tale link) holds
-  told-seats tale (entry.Wrote link for bytes) holds = wrote-told tale link for bytes (is_to_server tale link) holds
-  told-seats tale (entry.Exec link) holds =
+  pub told-seats : (tale : Tale) (e : Entry) → IfComes Comes e → P tale.clients → P (told setup p tale e).clients
+  told-seats tale (entry.Accepted port link salt) comes holds = seats.comes tale.clients link salt comes holds
+  told-seats tale (entry.Got link bytes) comes holds = got-told tale link bytes (is_to_server tale link) holds
+  told-seats tale (entry.Wrote link for bytes) comes holds = wrote-told tale link for bytes (is_to_server tale link) holds
+  told-seats tale (entry.Exec link) comes holds =
       subst P (sym (either-clients (tale.wires link).entered (tell (if (tale.wires link).quits then Dropped link else Ran link) tale) tale tale.clients refl refl)) holds
-  told-seats tale (entry.Ended link) holds = subst P (sym (lost-clients link tale (is_to_server tale link))) holds
-  told-seats tale (entry.ReadFailed link) holds = subst P (sym (lost-clients link tale (is_to_server tale link))) holds
-  told-seats tale (entry.WriteFailed link) holds = subst P (sym (lost-clients link tale (is_to_server tale link))) holds
-  told-seats tale (entry.Closed link) holds = subst P (sym (lost-clients link tale (is_to_server tale link))) holds
-  told-seats tale _ holds = holds
+  told-seats tale (entry.Ended link) comes holds = subst P (sym (lost-clients link tale (is_to_server tale link))) holds
+  told-seats tale (entry.ReadFailed link) comes holds = subst P (sym (lost-clients link tale (is_to_server tale link))) holds
+  told-seats tale (entry.WriteFailed link) comes holds = subst P (sym (lost-clients link tale (is_to_server tale link))) holds
+  told-seats tale (entry.Closed link) comes holds = subst P (sym (lost-clients link tale (is_to_server tale link))) holds
+  told-seats tale _ comes holds = holds
 
 heard-looked : (d : Decided) (link : LinkId) (bytes : List ℕ) (client : Client) → IsLooked d client → IsLooked d (client_hears link bytes client)
 heard-looked d link bytes client looked =
@@ -143,9 +155,9 @@ got-looked : (d : Decided) (link : LinkId) (count : ℕ) (client : Client) → I
 got-looked d link count client looked =
     either-looked d (is_link_id client.link link) (record client { written = client.written + count }) client (record { own = looked.own; routes = looked.routes }) looked
 
-looked-seats : (d : Decided) → Seats (AreLooked d)
+looked-seats : (d : Decided) → Seats anybody (AreLooked d)
 looked-seats d = record {
-  comes = λ cs link salt all. each-last (IsLooked d) cs (new_client (length cs + 1) link salt) all (new-looked d (length cs + 1) link salt);
+  comes = λ cs link salt comes all. each-last (IsLooked d) cs (new_client (length cs + 1) link salt) all (new-looked d (length cs + 1) link salt);
   hears = λ cs link bytes all. each-map (IsLooked d) (IsLooked d) (client_hears link bytes) cs (heard-looked d link bytes) all;
   gets = λ cs link count all. each-map (IsLooked d) (IsLooked d) (client_gets link count) cs (got-looked d link count) all;
 }
@@ -321,7 +333,7 @@ module _ (fixed : Fixed) where
       let a : World More = is_told setup by w e in
       let b : World More = is_counted by a e in
       freed-looked b (each-so (IsLooked a.decided) (IsLooked b.decided) a.tale.clients (given-looked a e)
-      (told-seats (AreLooked a.decided) (looked-seats a.decided) setup (plan_of a.decided) w.tale e (are-more w.decided a.decided (told-more setup by w e) w.tale.clients all)))
+      (told-seats anybody (AreLooked a.decided) (looked-seats a.decided) setup (plan_of a.decided) w.tale e (if-anybody e) (are-more w.decided a.decided (told-more setup by w e) w.tale.clients all)))
 
   pub going-looks : (w : World More) (e : Entry) → w.decided.until ≡ w.tale.moment → AreLooked w.decided w.tale.clients
       → AreLooked (go_on setup by (view_of setup w.tale) e (heard fixed w e)).decided (go_on setup by (view_of setup w.tale) e (heard fixed w e)).tale.clients

@@ -19,7 +19,7 @@ use Rattle.shared_router.specs.Fixed.{Fixed, setup_of}
 use Rattle.shared_router.specs.Judged.{heard}
 use Rattle.shared_router.specs.More.{More}
 use Rattle.shared_router.specs.Shared.{shared, world_at}
-use Rattle.shared_router.proofs.Looked.{Each, Seats, each-so, ending-clients, freeing-clients, taken-clients, told-seats}
+use Rattle.shared_router.proofs.Looked.{Each, Seats, anybody, each-so, ending-clients, freeing-clients, if-anybody, taken-clients, told-seats}
 use Rattle.shared_router.proofs.Parting as parting
 use Rattle.shared_router.proofs.Parting.{next}
 use Rattle.shared_router.proofs.Since.{going-on}
@@ -40,9 +40,9 @@ either-number : (b : Bool) (x y : Client) (n : ℕ) → (b ≡ true → x.number
 either-number true x y n one other = one refl
 either-number false x y n one other = other
 
-numbered-seats : Seats (Numbered 1)
+numbered-seats : Seats anybody (Numbered 1)
 numbered-seats = record {
-  comes = λ cs link salt all. numbered-last (new_client (length cs + 1) link salt) 1 cs all (omega arith);
+  comes = λ cs link salt comes all. numbered-last (new_client (length cs + 1) link salt) 1 cs all (omega arith);
   hears = λ cs link bytes all. numbered-map (client_hears link bytes)
       (λ c. either-number (is_link_id c.link link) (record c { read = c.read ++ bytes }) c c.number.0 (λ is. refl) refl) 1 cs all;
   gets = λ cs link count all. numbered-map (client_gets link count)
@@ -142,7 +142,7 @@ module _ (fixed : Fixed) where
       let a : World More = is_told setup by w e in
       let b : World More = is_counted by a e in
       going-numbered (view_of setup w.tale) e (heard fixed w e).tale.clients (heard fixed w e)
-      (subst (Numbered 1) (sym (freeing-clients fixed b.tale.links b)) (told-seats (Numbered 1) numbered-seats setup (plan_of a.decided) w.tale e all))
+      (subst (Numbered 1) (sym (freeing-clients fixed b.tale.links b)) (told-seats anybody (Numbered 1) numbered-seats setup (plan_of a.decided) w.tale e (if-anybody e) all))
 
   step-counts : (w : World More) (e : Entry) → Numbered 1 w.tale.clients → Numbered 1 (world_step setup by w e).tale.clients
   step-counts w e all =
