@@ -71,10 +71,15 @@ names-it log (entry.Accepted port link salt) =
     ∙ or_right (list_any (λ e. is_link link (link_of e)) log) _ (or_left _ false (same_link link))
 names-it log _ = tt
 
--- It was just accepted: nothing was read of it, nor taken up.
+-- It was just accepted, as the last of so many: nothing was read of it, nor taken up.
 
-abbrev pub IsIdle : LinkId → Client → Type 0
-IsIdle link client = is_link_id link client.link ≡ true → (client.taken ≡ 0) × (client.read ≡ [])
+pub record IsFirst (count : ℕ) (client : Client) : Type 0 where
+  pub taken : client.taken ≡ 0
+  pub read : client.read ≡ []
+  pub number : client.number.0 ≡ count
+
+abbrev pub IsIdle : (count : ℕ) → LinkId → Client → Type 0
+IsIdle count link client = is_link_id link client.link ≡ true → IsFirst count client
 
 says_none : (plan : Plan) (client : Client) → client.read ≡ [] → messages plan client ≡ []
 unfolding packets.split login.opening packets.first_message
@@ -152,62 +157,64 @@ module _ (fixed : Fixed) where
 
   -- Of who is just accepted nothing is taken up.
 
-  idle-apart : (link : LinkId) (client : Client) → is_link_id link client.link ≡ false → IsIdle link client
-  idle-apart link client apart here = never (sym here ∙ apart)
+  idle-apart : (count : ℕ) (link : LinkId) (client : Client) → is_link_id link client.link ≡ false → IsIdle count link client
+  idle-apart count link client apart here = never (sym here ∙ apart)
 
-  taking-apart : (link : LinkId) (most : ℕ) (client : Client) (w : World More) → is_link_id link client.link ≡ false → Each (IsIdle link) w.tale.clients
-      → Each (IsIdle link) (are_taken most setup by client w).tale.clients
-  taking-apart link zero client w apart all = all
-  taking-apart link (suc most) client w apart all = by_found (taken_once setup by w client) refl (taking-apart link most (next_of client)) where
+  taking-apart : (count : ℕ) (link : LinkId) (most : ℕ) (client : Client) (w : World More) → is_link_id link client.link ≡ false → Each (IsIdle count link) w.tale.clients
+      → Each (IsIdle count link) (are_taken most setup by client w).tale.clients
+  taking-apart count link zero client w apart all = all
+  taking-apart count link (suc most) client w apart all = by_found (taken_once setup by w client) refl (taking-apart count link most (next_of client)) where
     after : Option Tale → World More
     after found = option_map_or (λ tale. are_taken most setup by (next_of client) (with_taken setup by w client tale)) found (record w { decided = decided_next setup by w client })
 
     by_found : (found : Option Tale) → taken_once setup by w client ≡ found
-        → ((v : World More) → is_link_id link client.link ≡ false → Each (IsIdle link) v.tale.clients → Each (IsIdle link) (are_taken most setup by (next_of client) v).tale.clients)
-        → Each (IsIdle link) (after found).tale.clients
+        → ((v : World More) → is_link_id link client.link ≡ false → Each (IsIdle count link) v.tale.clients → Each (IsIdle count link) (are_taken most setup by (next_of client) v).tale.clients)
+        → Each (IsIdle count link) (after found).tale.clients
     by_found None is others = all
     by_found (Some tale) is others =
         let d = decided_next setup by w client in
         let came = taken-clients setup (plan_of d) client (slice_get (messages (plan_of d) client) client.taken) w.tale tale is in
         others (with_taken setup by w client tale) apart
-        (each-map (IsIdle link) (IsIdle link) (λ (other : Client). if is_client other.number client.number then next_of client else other) tale.clients
-        (λ other there. either-client (IsIdle link) (is_client other.number client.number) (next_of client) other (idle-apart link (next_of client) apart) there)
-        (subst (Each (IsIdle link)) (sym came.0) all))
+        (each-map (IsIdle count link) (IsIdle count link) (λ (other : Client). if is_client other.number client.number then next_of client else other) tale.clients
+        (λ other there. either-client (IsIdle count link) (is_client other.number client.number) (next_of client) other (idle-apart count link (next_of client) apart) there)
+        (subst (Each (IsIdle count link)) (sym came.0) all))
 
-  going-idle : (link : LinkId) (view : View) (e : Entry) (xs : List Client) (w : World More) → Each (IsIdle link) xs → Each (IsIdle link) w.tale.clients
-      → Each (IsIdle link) (fold (goes_on setup by view e) w xs).tale.clients
-  going-idle link view e [] w each all = all
-  going-idle link view e (x ∷ xs) w each all = going-idle link view e xs (goes_on setup by view e w x) each.1 (by_test (is_called v.decided w.tale.moment view e x) (is_link_id link x.link) refl) where
+  going-idle : (count : ℕ) (link : LinkId) (view : View) (e : Entry) (xs : List Client) (w : World More) → Each (IsIdle count link) xs → Each (IsIdle count link) w.tale.clients
+      → Each (IsIdle count link) (fold (goes_on setup by view e) w xs).tale.clients
+  going-idle count link view e [] w each all = all
+  going-idle count link view e (x ∷ xs) w each all = going-idle count link view e xs (goes_on setup by view e w x) each.1 (by_test (is_called v.decided w.tale.moment view e x) (is_link_id link x.link) refl) where
     v : World More
     v = record w { decided = decided_last by w x }
 
     after : (called : Bool) → (most : ℕ) → World More
     after called most = if called then are_taken most setup by x v else v
 
-    both-kept : Each (IsIdle link) w.tale.clients → is_link_id link x.link ≡ false → (most : ℕ) → Each (IsIdle link) (are_taken most setup by x v).tale.clients
-    both-kept all apart most = taking-apart link most x v apart all
+    both-kept : Each (IsIdle count link) w.tale.clients → is_link_id link x.link ≡ false → (most : ℕ) → Each (IsIdle count link) (are_taken most setup by x v).tale.clients
+    both-kept all apart most = taking-apart count link most x v apart all
 
-    by_test : (called here : Bool) → is_link_id link x.link ≡ here → Each (IsIdle link) (after called (length (messages (plan_of v.decided) x))).tale.clients
+    by_test : (called here : Bool) → is_link_id link x.link ≡ here → Each (IsIdle count link) (after called (length (messages (plan_of v.decided) x))).tale.clients
     by_test false here is = all
     by_test true true is =
-        subst (λ (ms : ℕ). Each (IsIdle link) (after true ms).tale.clients)
-        (sym (ap (λ xs. length xs) (says_none (plan_of v.decided) x (each.0 is).1))) all
+        subst (λ (ms : ℕ). Each (IsIdle count link) (after true ms).tale.clients)
+        (sym (ap (λ xs. length xs) (says_none (plan_of v.decided) x (each.0 is).read))) all
     by_test true false is = both-kept all is (length (messages (plan_of v.decided) x))
 
   -- who came before has other links
-  before-idle : (log : Log) (link : LinkId) (client : Client) → of_link link log ≡ [] → IsNamed log client → IsIdle link client
-  before-idle log link client new named here =
+  before-idle : (log : Log) (count : ℕ) (link : LinkId) (client : Client) → of_link link log ≡ [] → IsNamed log client → IsIdle count link client
+  before-idle log count link client new named here =
       let same : link ≡ client.link = maps.link_of link client.link here in
       never (sym named ∙ ap (λ l. list_any (λ e. is_link l (link_of e)) log) (sym same) ∙ not_named link log new)
 
   pub accepted-idle : (log : Log) (port : Port) (link : LinkId) (salt : List ℕ) → of_link link log ≡ []
-      → Each (IsIdle link) (going-on fixed (world_at fixed log) (entry.Accepted port link salt)).tale.clients
+      → Each (IsIdle (length (world_at fixed log).tale.clients + 1) link) (going-on fixed (world_at fixed log) (entry.Accepted port link salt)).tale.clients
   accepted-idle log port link salt new =
       let e : Entry = entry.Accepted port link salt in
       let w : World More = world_at fixed log in
       let b : World More = is_counted by (is_told setup by w e) e in
-      let told_so : Each (IsIdle link) b.tale.clients =
-      each-last (IsIdle link) w.tale.clients (new_client (length w.tale.clients + 1) link salt)
-      (each-so (IsNamed log) (IsIdle link) w.tale.clients (λ client named. before-idle log link client new named) (named_at log)) (λ here. (refl, refl)) in
-      let heard_so = subst (Each (IsIdle link)) (sym (freeing-clients fixed b.tale.links b)) told_so in
-      going-idle link (view_of setup w.tale) e (heard fixed w e).tale.clients (heard fixed w e) heard_so heard_so
+      let count = length w.tale.clients + 1 in
+      let told_so : Each (IsIdle count link) b.tale.clients =
+      each-last (IsIdle count link) w.tale.clients (new_client count link salt)
+      (each-so (IsNamed log) (IsIdle count link) w.tale.clients (λ client named. before-idle log count link client new named) (named_at log))
+      (λ here. record { taken = refl; read = refl; number = refl }) in
+      let heard_so = subst (Each (IsIdle count link)) (sym (freeing-clients fixed b.tale.links b)) told_so in
+      going-idle count link (view_of setup w.tale) e (heard fixed w e).tale.clients (heard fixed w e) heard_so heard_so

@@ -15,3 +15,4 @@ pub mod Worded
 pub mod Ended
 pub mod Coming
 pub mod Said
+pub mod Counting

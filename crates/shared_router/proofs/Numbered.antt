@@ -144,7 +144,7 @@ module _ (fixed : Fixed) where
       going-numbered (view_of setup w.tale) e (heard fixed w e).tale.clients (heard fixed w e)
       (subst (Numbered 1) (sym (freeing-clients fixed b.tale.links b)) (told-seats anybody (Numbered 1) numbered-seats setup (plan_of a.decided) w.tale e (if-anybody e) all))
 
-  step-counts : (w : World More) (e : Entry) → Numbered 1 w.tale.clients → Numbered 1 (world_step setup by w e).tale.clients
+  pub step-counts : (w : World More) (e : Entry) → Numbered 1 w.tale.clients → Numbered 1 (world_step setup by w e).tale.clients
   step-counts w e all =
       let d : World More = going-on fixed w e in
       let f : World More = is_ended by d e in
