@@ -16,3 +16,4 @@ pub mod Ended
 pub mod Coming
 pub mod Said
 pub mod Counting
+pub mod Words

@@ -12,7 +12,7 @@ use Rattle.log_story.specs.Tale.{Client, Tale, view_of}
 use Rattle.tale_world.specs.Decided.{plan_of}
 use Rattle.tale_world.specs.Deciding.{World}
 use Rattle.tale_world.specs.World.{are_freed, decided_last, decided_looked, goes_on, is_called, is_counted, is_told, is_up, next_message, next_of, taken_once, with_taken}
-use Rattle.router_promises.specs.Ends.{EndsRight}
+use Rattle.router_promises.specs.Ends.{EndsRight, WordRight}
 use Rattle.router_promises.specs.Errors.{out_of_memory}
 use Rattle.router_promises.specs.Now.{flag_taken, next, now_at, takings_now}
 use Rattle.router_promises.specs.Routed.{IsRoute, IsTold}
@@ -101,3 +101,9 @@ abbrev pub EndsFor : Terms → Log → Entry → Type 0
 EndsFor terms log e =
     let later = next terms (now_at terms log) e in
     All (EndsRight terms (log ++ e ∷ []) (now_at terms log) later e) later.tale.clients
+
+-- and on last words
+abbrev pub WordsFor : Terms → Log → Entry → Type 0
+WordsFor terms log e =
+    let later = next terms (now_at terms log) e in
+    All (WordRight terms (log ++ e ∷ []) (now_at terms log) later e) later.tale.clients
