@@ -20,7 +20,7 @@ use Rattle.shared_router.specs.Judged.{heard}
 use Rattle.shared_router.specs.More.{More}
 use Rattle.shared_router.specs.Shared.{shared, world_at}
 use Rattle.shared_router.proofs.Looked.{Seats, anybody, ending-clients, freeing-clients, if-anybody, taken-clients, told-seats}
-use Rattle.shared_router.proofs.Numbered.{Numbered, counts_at, going-counts, step-counts}
+use Rattle.shared_router.proofs.Single.{Numbered, counts_at, going-counts, step-counts}
 use Rattle.shared_router.proofs.Parting as parting
 use Rattle.shared_router.proofs.Parting.{next}
 use Rattle.shared_router.proofs.Since.{going-on}

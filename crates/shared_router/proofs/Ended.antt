@@ -31,7 +31,7 @@ use Rattle.shared_router.specs.Shared.{final_terms, shared, world_at}
 use Rattle.shared_router.proofs.Ending.{agrees-ended}
 use Rattle.shared_router.proofs.Looked.{Each, Has, IsLooked, each-all, each-so, ending-clients, freeing-clients, going-looks, looks_at}
 use Rattle.shared_router.proofs.Musts.{IsEnding, ending-so, ending_world, last_plan, must-same, served-same}
-use Rattle.shared_router.proofs.Numbered.{IsAlone, both-each, counts_at, each-alone, going-counts}
+use Rattle.shared_router.proofs.Single.{IsAlone, both-each, counts_at, each-alone, going-counts}
 use Rattle.shared_router.proofs.Parting as parting
 use Rattle.shared_router.proofs.Parting.{even_at, fold_more, next, tale_then, world_more}
 use Rattle.shared_router.proofs.Routing.{agrees_behind}

@@ -1,5 +1,5 @@
 -- What is decided as a message comes up is the verdict on it.
-use Rattle.std.specs.Prelude.{ℕ, ◌≡◌, suc, Bool, true, false, nat_le, if◌then◌else◌, unwrap_or, List, [], ◌∷◌, Option, Some, None}
+use Rattle.std.specs.Prelude.{ℕ, ◌≡◌, suc, Bool, true, false, nat_le, if◌then◌else◌, unwrap_or, [], ◌∷◌, Option, Some, None}
 use Rattle.std.specs.Option.{option_map_or, option_and_then}
 use Rattle.std.proofs.Common.{refl, sym, ap, ◌∙◌, subst, inl, inr}
 use Rattle.packet_frame.specs.Packets.{Framed}

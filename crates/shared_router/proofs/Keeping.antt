@@ -1,5 +1,5 @@
 -- A log of which each entry is ours passes the tests.
-use Rattle.std.specs.Prelude.{◌≡◌, ℕ, zero, suc, Bool, true, take, List, [], ◌∷◌, ◌++◌}
+use Rattle.std.specs.Prelude.{◌≡◌, ℕ, zero, suc, true, take, [], ◌∷◌, ◌++◌}
 use Rattle.std.proofs.Common.{refl, sym, ap, ◌∙◌, subst}
 use Rattle.mx_base.specs.declared.names.LinkId.{LinkId}
 use Rattle.mx_wire.specs.Log.{Log}

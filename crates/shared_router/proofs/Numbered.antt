@@ -1,158 +1,252 @@
--- Clients are numbered by their place, so each has its number for itself.
-use Rattle.std.specs.Prelude.{◌≡◌, ◌+◌, ◌<◌, ◌≤◌, ℕ, zero, suc, Bool, true, false, ◌&&◌, ◌||◌, find, fold, length, map, nat_eq, slice_get, if◌then◌else◌, List, [], ◌∷◌, ◌++◌, Option, Some, None}
-use Rattle.std.specs.List.{list_any}
-use Rattle.std.specs.Option.{option_map_or}
-use Rattle.std.proofs.Common.{refl, sym, ap, ◌∙◌, subst, arith}
-use Rattle.std.proofs.lemmas.Bool.{ne_eqb}
-use Rattle.mx_base.specs.declared.names.LinkId.{LinkId}
-use Rattle.mx_wire.specs.Log.{Log}
-use Rattle.mx_wire.specs.declared.entry.Entry.{Entry}
-use Rattle.private_model.proofs.Maps.{number_of, same_number}
-use Rattle.private_model.specs.Story.{is_client, is_link_id}
-use Rattle.private_model.specs.View.{Setup, View}
-use Rattle.log_story.specs.Owed.{messages}
-use Rattle.log_story.specs.Tale.{Client, Tale, client_gets, client_hears, new_client, view_of}
-use Rattle.tale_world.specs.Decided.{plan_of}
-use Rattle.tale_world.specs.Deciding.{Deciding, World}
-use Rattle.tale_world.specs.World.{are_taken, decided_last, decided_next, goes_on, is_called, is_counted, is_ended, is_told, next_of, taken_once, with_taken, world_step}
-use Rattle.shared_router.specs.Fixed.{Fixed, setup_of}
-use Rattle.shared_router.specs.Judged.{heard}
-use Rattle.shared_router.specs.More.{More}
-use Rattle.shared_router.specs.Shared.{shared, world_at}
-use Rattle.shared_router.proofs.Looked.{Each, Seats, anybody, each-so, ending-clients, freeing-clients, if-anybody, taken-clients, told-seats}
-use Rattle.shared_router.proofs.Parting as parting
-use Rattle.shared_router.proofs.Parting.{next}
-use Rattle.shared_router.proofs.Since.{going-on}
+-- Clients by their numbers, and which messages are old: those that were taken up.
+use Rattle.std.specs.Prelude.{◌≡◌, ◌⊎◌, ◌+◌, ◌≤◌, ◌<◌, ℕ, suc, Bool, true, false, not, ◌&&◌, ◌||◌, nat_le, if◌then◌else◌, length, map, List, [], ◌∷◌, ◌++◌}
+use Rattle.std.specs.List.{list_all, list_any}
+use Rattle.std.proofs.Common.{refl, sym, ap, ◌∙◌, arith, inl, inr}
+use Rattle.std.proofs.lemmas.Bool.{and_from, and_parts, leb-true, ne_eqb, or_left, or_right, le-leb}
+use Rattle.private_model.proofs.Maps.{client_of, same_number}
+use Rattle.private_model.specs.Names.{ClientNo, MessageName}
+use Rattle.private_model.specs.Story.{is_client}
+use Rattle.log_story.specs.Owed.{name_of}
+use Rattle.log_story.specs.Tale.{Client}
+use Rattle.tale_world.specs.World.{next_of}
+use Rattle.shared_router.proofs.Walks.{Stays}
 
-abbrev pub Numbered : (from : ℕ) → List Client → Type 0
-Numbered from [] = Unit {0}
-Numbered from (x ∷ xs) = (x.number.0 ≡ from) × Numbered (suc from) xs
+abbrev pub has_taken : MessageName → Client → Bool
+has_taken m client = is_client client.number m.client && nat_le m.ordinal client.taken
 
-numbered-map : (f : Client → Client) → ((c : Client) → (f c).number.0 ≡ c.number.0) → (from : ℕ) (xs : List Client) → Numbered from xs → Numbered from (map f xs)
-numbered-map f same from [] all = tt
-numbered-map f same from (x ∷ xs) all = (same x ∙ all.0, numbered-map f same (suc from) xs all.1)
+abbrev pub IsOld : List Client → MessageName → Type 0
+IsOld clients m = list_any (has_taken m) clients ≡ true
 
-numbered-last : (y : Client) (from : ℕ) (xs : List Client) → Numbered from xs → y.number.0 ≡ from + length xs → Numbered from (xs ++ y ∷ [])
-numbered-last y from [] all last = (omega (arith, last), tt)
-numbered-last y from (x ∷ xs) all last = (all.0, numbered-last y (suc from) xs all.1 (omega (arith, last)))
+-- clients have these numbers, from this one on
+abbrev pub AreNumbered : (from : ℕ) → List Client → Type 0
+AreNumbered from [] = Unit {0}
+AreNumbered from (client ∷ clients) = (client.number.0 ≡ from) × AreNumbered (suc from) clients
 
-either-number : (b : Bool) (x y : Client) (n : ℕ) → (b ≡ true → x.number.0 ≡ n) → y.number.0 ≡ n → (if b then x else y).number.0 ≡ n
-either-number true x y n one other = one refl
-either-number false x y n one other = other
+-- no client of this number took up more than this
+abbrev pub is_behind : Client → Client → Bool
+is_behind client other = not (is_client other.number client.number) || nat_le other.taken client.taken
 
-numbered-seats : Seats anybody (Numbered 1)
-numbered-seats = record {
-  comes = λ cs link salt comes all. numbered-last (new_client (length cs + 1) link salt) 1 cs all (omega arith);
-  hears = λ cs link bytes all. numbered-map (client_hears link bytes)
-      (λ c. either-number (is_link_id c.link link) (record c { read = c.read ++ bytes }) c c.number.0 (λ is. refl) refl) 1 cs all;
-  gets = λ cs link count all. numbered-map (client_gets link count)
-      (λ c. either-number (is_link_id c.link link) (record c { written = c.written + count }) c c.number.0 (λ is. refl) refl) 1 cs all;
-}
+abbrev pub IsLatest : Client → List Client → Type 0
+IsLatest client clients = list_all (is_behind client) clients ≡ true
 
--- It is alone with its number.
+isnt : {A : Type 0} → false ≡ true → A
+isnt is = absurd (cc)
 
-pub record IsAlone (xs : List Client) (client : Client) : Type 0 where
-  pub any : (g : Client → Bool) → list_any (λ (x : Client). is_client x.number client.number && g x) xs ≡ g client
-  pub found : find (λ (x : Client). is_client x.number client.number) xs ≡ Some client
+-- What stays.
 
-absent : (client : Client) (g : Client → Bool) (from : ℕ) (xs : List Client) → Numbered from xs → client.number.0 < from
-    → list_any (λ (x : Client). is_client x.number client.number && g x) xs ≡ false
-absent client g from [] all before = refl
-absent client g from (x ∷ xs) all before =
-    let apart : is_client x.number client.number ≡ false = ne_eqb x.number.0 client.number.0 (λ is. omega (arith, is, all.0, before)) in
-    ap (λ b. (b && g x) || list_any (λ (x : Client). is_client x.number client.number && g x) xs) apart ∙ absent client g (suc from) xs all.1 (omega (arith, before))
+old_map : (f : Client → Client) → Stays f → (m : MessageName) (clients : List Client) → list_any (has_taken m) (map f clients) ≡ list_any (has_taken m) clients
+old_map f stays m [] = refl
+old_map f stays m (client ∷ clients) =
+    ap (λ n. (is_client n m.client && nat_le m.ordinal (f client).taken) || list_any (has_taken m) (map f clients)) (stays.number client)
+    ∙ ap (λ n. (is_client client.number m.client && nat_le m.ordinal n) || list_any (has_taken m) (map f clients)) (stays.taken client)
+    ∙ ap (λ b. has_taken m client || b) (old_map f stays m clients)
 
-numbers-above : (from : ℕ) (xs : List Client) → Numbered from xs → Each (λ (c : Client). from ≤ c.number.0) xs
-numbers-above from [] all = tt
-numbers-above from (x ∷ xs) all =
-    (omega (arith, all.0), each-so (λ (c : Client). suc from ≤ c.number.0) (λ (c : Client). from ≤ c.number.0) xs (λ c above. omega (arith, above)) (numbers-above (suc from) xs all.1))
+pub old_moves : (f : Client → Client) → Stays f → (m : MessageName) (clients : List Client) → IsOld clients m → IsOld (map f clients) m
+old_moves f stays m clients old = old_map f stays m clients ∙ old
 
-pub both-each : {A : Type 0} (P Q : A → Type 0) (xs : List A) → Each P xs → Each Q xs → Each (λ x. P x × Q x) xs
-both-each P Q [] one other = tt
-both-each P Q (x ∷ xs) one other = ((one.0, other.0), both-each P Q xs one.1 other.1)
+pub old_comes : (m : MessageName) (clients more : List Client) → IsOld clients m → IsOld (clients ++ more) m
+old_comes m [] more old = isnt old
+old_comes m (client ∷ clients) more old = by_test (has_taken m client) old (old_comes m clients more) where
+  by_test : (b : Bool) → (b || list_any (has_taken m) clients) ≡ true → (list_any (has_taken m) clients ≡ true → list_any (has_taken m) (clients ++ more) ≡ true)
+      → (b || list_any (has_taken m) (clients ++ more)) ≡ true
+  by_test true old later = refl
+  by_test false old later = later old
 
-or-false : (a : Bool) → (a || false) ≡ a
-or-false true = refl
-or-false false = refl
+pub numbered_moves : (f : Client → Client) → Stays f → (from : ℕ) (clients : List Client) → AreNumbered from clients → AreNumbered from (map f clients)
+numbered_moves f stays from [] are = tt
+numbered_moves f stays from (client ∷ clients) are = (ap (λ (n : ClientNo). n.0) (stays.number client) ∙ are.0, numbered_moves f stays (suc from) clients are.1)
 
-alone-first : (from : ℕ) (x : Client) (xs : List Client) → x.number.0 ≡ from → Numbered (suc from) xs → IsAlone (x ∷ xs) x
-alone-first from x xs is all =
-    let here : is_client x.number x.number ≡ true = same_number x.number.0 in
-    record {
-      any = λ g. ap (λ b. (b && g x) || list_any (λ (y : Client). is_client y.number x.number && g y) xs) here
-          ∙ ap (λ b. g x || b) (absent x g (suc from) xs all (omega (arith, is))) ∙ or-false (g x);
-      found = ap (λ b. if b then Some x else find (λ (y : Client). is_client y.number x.number) xs) here;
-    }
+pub numbered_comes : (from : ℕ) (clients : List Client) (one : Client) → AreNumbered from clients → one.number.0 ≡ from + length clients → AreNumbered from (clients ++ one ∷ [])
+numbered_comes from [] one are is = (is ∙ omega arith, tt)
+numbered_comes from (client ∷ clients) one are is = (are.0, numbered_comes (suc from) clients one are.1 (is ∙ omega arith))
 
-alone-behind : (from : ℕ) (x : Client) (xs : List Client) (client : Client) → x.number.0 ≡ from → suc from ≤ client.number.0 → IsAlone xs client → IsAlone (x ∷ xs) client
-alone-behind from x xs client is above alone =
-    let apart : is_client x.number client.number ≡ false = ne_eqb x.number.0 client.number.0 (λ same. omega (arith, same, is, above)) in
-    record {
-      any = λ g. ap (λ b. (b && g x) || list_any (λ (y : Client). is_client y.number client.number && g y) xs) apart ∙ alone.any g;
-      found = ap (λ b. if b then Some x else find (λ (y : Client). is_client y.number client.number) xs) apart ∙ alone.found;
-    }
+-- A client takes up one more.
 
-pub each-alone : (from : ℕ) (xs : List Client) → Numbered from xs → Each (IsAlone xs) xs
-each-alone from [] all = tt
-each-alone from (x ∷ xs) all = (
-  alone-first from x xs all.0 all.1,
-  each-so (λ (c : Client). (suc from ≤ c.number.0) × IsAlone xs c) (IsAlone (x ∷ xs)) xs (λ c both. alone-behind from x xs c all.0 both.0 both.1)
-      (both-each (λ (c : Client). suc from ≤ c.number.0) (IsAlone xs) xs (numbers-above (suc from) xs all.1) (each-alone (suc from) xs all.1)),
-)
+abbrev pub replaced : Client → Client → Client
+replaced client other = if is_client other.number client.number then client else other
 
-module _ (fixed : Fixed) where
-  abbrev setup : Setup
-  setup = setup_of fixed
+or_more : (a b c d : Bool) → (a ≡ true → c ≡ true) → (b ≡ true → d ≡ true) → (a || b) ≡ true → (c || d) ≡ true
+or_more true b c d first second is = or_left c d (first refl)
+or_more false b c d first second is = or_right c d (second is)
 
-  abbrev by : Deciding More
-  by = shared fixed
+-- it is the same client, which took up no less
+grown : (m : MessageName) (client other : Client) → is_behind client other ≡ true → has_taken m other ≡ true → has_taken m (replaced (next_of client) other) ≡ true
+grown m client other behind took = by_test (is_client other.number client.number) refl behind where
+  most : (a b c : ℕ) → nat_le a b ≡ true → nat_le b c ≡ true → nat_le a (suc c) ≡ true
+  most a b c first second = le-leb a (suc c) (omega (arith, leb-true a b first, leb-true b c second))
 
-  taking-numbered : (most : ℕ) (client : Client) (w : World More) → Numbered 1 w.tale.clients → Numbered 1 (are_taken most setup by client w).tale.clients
-  taking-numbered zero client w all = all
-  taking-numbered (suc most) client w all = by_found (taken_once setup by w client) refl (taking-numbered most (next_of client)) where
-    goes : Option Tale → World More
-    goes found = option_map_or (λ tale. are_taken most setup by (next_of client) (with_taken setup by w client tale)) found (record w { decided = decided_next setup by w client })
+  by_test : (b : Bool) → is_client other.number client.number ≡ b → (not b || nat_le other.taken client.taken) ≡ true → has_taken m (if b then next_of client else other) ≡ true
+  by_test true same behind =
+      let parts = and_parts (is_client other.number m.client) (nat_le m.ordinal other.taken) took in
+      and_from _ _ (ap (λ n. is_client n m.client) (sym (client_of other.number client.number same)) ∙ parts.0) (most m.ordinal other.taken client.taken parts.1 behind)
+  by_test false same behind = took
 
-    by_found : (found : Option Tale) → taken_once setup by w client ≡ found
-        → ((v : World More) → Numbered 1 v.tale.clients → Numbered 1 (are_taken most setup by (next_of client) v).tale.clients) → Numbered 1 (goes found).tale.clients
-    by_found None is others = all
-    by_found (Some tale) is others =
-        let d = decided_next setup by w client in
-        let came = taken-clients setup (plan_of d) client (slice_get (messages (plan_of d) client) client.taken) w.tale tale is in
-        others (with_taken setup by w client tale)
-        (numbered-map (λ (other : Client). if is_client other.number client.number then next_of client else other)
-        (λ other. either-number (is_client other.number client.number) (next_of client) other other.number.0 (λ same. sym (number_of other.number.0 client.number.0 same)) refl)
-        1 tale.clients (subst (Numbered 1) (sym came.0) all))
+pub old_taken : (m : MessageName) (client : Client) (clients : List Client) → IsLatest client clients → IsOld clients m → IsOld (map (replaced (next_of client)) clients) m
+old_taken m client [] latest old = isnt old
+old_taken m client (other ∷ clients) latest old =
+    let parts = and_parts (is_behind client other) (list_all (is_behind client) clients) latest in
+    or_more (has_taken m other) (list_any (has_taken m) clients) _ _ (grown m client other parts.0) (old_taken m client clients parts.1) old
 
-  goes-numbered : (view : View) (e : Entry) (w : World More) (client : Client) → Numbered 1 w.tale.clients → Numbered 1 (goes_on setup by view e w client).tale.clients
-  goes-numbered view e w client all = by_test (is_called v.decided w.tale.moment view e client) where
-    v : World More
-    v = record w { decided = decided_last by w client }
+pub numbered_taken : (client : Client) (from : ℕ) (clients : List Client) → AreNumbered from clients → AreNumbered from (map (replaced client) clients)
+numbered_taken client from [] are = tt
+numbered_taken client from (other ∷ clients) are = (by_test (is_client other.number client.number) refl, numbered_taken client (suc from) clients are.1) where
+  by_test : (b : Bool) → is_client other.number client.number ≡ b → (if b then client else other).number.0 ≡ from
+  by_test true same = ap (λ (n : ClientNo). n.0) (sym (client_of other.number client.number same)) ∙ are.0
+  by_test false same = are.0
 
-    by_test : (b : Bool) → Numbered 1 (if b then are_taken (length (messages (plan_of v.decided) client)) setup by client v else v).tale.clients
-    by_test true = taking-numbered (length (messages (plan_of v.decided) client)) client v all
-    by_test false = all
+-- it is there, and took up as much
+abbrev pub IsThere : Client → List Client → Type 0
+IsThere client clients = IsOld clients (name_of client client.taken)
 
-  going-numbered : (view : View) (e : Entry) (xs : List Client) (w : World More) → Numbered 1 w.tale.clients → Numbered 1 (fold (goes_on setup by view e) w xs).tale.clients
-  going-numbered view e [] w all = all
-  going-numbered view e (x ∷ xs) w all = going-numbered view e xs (goes_on setup by view e w x) (goes-numbered view e w x all)
+same_order : (n : ℕ) → nat_le n n ≡ true
+same_order n = le-leb n n (omega arith)
 
-  pub going-counts : (w : World More) (e : Entry) → Numbered 1 w.tale.clients → Numbered 1 (going-on fixed w e).tale.clients
-  going-counts w e all =
-      let a : World More = is_told setup by w e in
-      let b : World More = is_counted by a e in
-      going-numbered (view_of setup w.tale) e (heard fixed w e).tale.clients (heard fixed w e)
-      (subst (Numbered 1) (sym (freeing-clients fixed b.tale.links b)) (told-seats anybody (Numbered 1) numbered-seats setup (plan_of a.decided) w.tale e (if-anybody e) all))
+-- what it takes up is old then
+pub taken_old : (client : Client) (clients : List Client) → IsThere client clients → IsOld (map (replaced (next_of client)) clients) (name_of client (suc client.taken))
+taken_old client [] there = isnt there
+taken_old client (other ∷ clients) there = by_test (is_client other.number client.number) there (taken_old client clients) where
+  m : MessageName
+  m = name_of client (suc client.taken)
 
-  pub step-counts : (w : World More) (e : Entry) → Numbered 1 w.tale.clients → Numbered 1 (world_step setup by w e).tale.clients
-  step-counts w e all =
-      let d : World More = going-on fixed w e in
-      let f : World More = is_ended by d e in
-      subst (Numbered 1) (sym (freeing-clients fixed f.tale.links f ∙ ending-clients (plan_of f.decided) d.tale.clients d.tale)) (going-counts w e all)
+  by_test : (b : Bool) → ((b && nat_le client.taken other.taken) || list_any (has_taken (name_of client client.taken)) clients) ≡ true
+      → (IsThere client clients → IsOld (map (replaced (next_of client)) clients) m)
+      → (has_taken m (if b then next_of client else other) || list_any (has_taken m) (map (replaced (next_of client)) clients)) ≡ true
+  by_test true there later = or_left _ _ (and_from _ _ (same_number client.number.0) (same_order (suc client.taken)))
+  by_test false there later = or_right _ _ (later there)
 
-  log-counts : (log : Log) (w : World More) → Numbered 1 w.tale.clients → Numbered 1 (fold (next fixed) w log).tale.clients
-  log-counts [] w all = all
-  log-counts (e ∷ log) w all = log-counts log (next fixed w e) (step-counts w e all)
+-- and what it took up before
+pub lower_old : (client : Client) (m : MessageName) (clients : List Client) → is_client m.client client.number ≡ true → nat_le m.ordinal client.taken ≡ true
+    → IsThere client clients → IsOld clients m
+lower_old client m [] same below there = isnt there
+lower_old client m (other ∷ clients) same below there =
+    or_more (has_taken (name_of client client.taken) other) _ (has_taken m other) _
+    (λ took. let parts = and_parts (is_client other.number client.number) (nat_le client.taken other.taken) took in
+    and_from _ _ (ap (is_client other.number) (client_of m.client client.number same) ∙ parts.0) (most m.ordinal client.taken other.taken below parts.1))
+    (lower_old client m clients same below) there
+  where
+    most : (a b c : ℕ) → nat_le a b ≡ true → nat_le b c ≡ true → nat_le a c ≡ true
+    most a b c first second = le-leb a c (omega (arith, leb-true a b first, leb-true b c second))
 
-  pub counts_at : (log : Log) → Numbered 1 (world_at fixed log).tale.clients
-  counts_at log = log-counts log (parting.first fixed) tt
+-- a client that is there has one of the numbers
+pub number_within : (from : ℕ) (client : Client) (clients : List Client) → AreNumbered from clients → IsThere client clients → client.number.0 < from + length clients
+number_within from client [] are there = isnt there
+number_within from client (other ∷ clients) are there =
+    by_test (is_client other.number client.number) refl there (number_within (suc from) client clients are.1) where
+      by_test : (b : Bool) → is_client other.number client.number ≡ b → ((b && nat_le client.taken other.taken) || list_any (has_taken (name_of client client.taken)) clients) ≡ true
+          → (IsThere client clients → client.number.0 < suc from + length clients) → client.number.0 < from + suc (length clients)
+      by_test true same there later =
+          let is : other.number.0 ≡ client.number.0 = ap (λ (n : ClientNo). n.0) (client_of other.number client.number same) in
+          let at : other.number.0 ≡ from = are.0 in omega (arith, is, at)
+      by_test false same there later = let more : client.number.0 < suc from + length clients = later there in omega (arith, more)
+
+-- what comes next isn't old
+pub next_new : {A : Type 0} (client : Client) (clients : List Client) → IsLatest client clients → IsOld clients (name_of client (suc client.taken)) → A
+next_new client [] latest old = isnt old
+next_new client (other ∷ clients) latest old =
+    let parts = and_parts (is_behind client other) (list_all (is_behind client) clients) latest in
+    by_test (is_client other.number client.number) parts.0 old (next_new client clients parts.1) where
+      by_test : {A : Type 0} (b : Bool) → (not b || nat_le other.taken client.taken) ≡ true
+          → ((b && nat_le (suc client.taken) other.taken) || list_any (has_taken (name_of client (suc client.taken))) clients) ≡ true
+          → (IsOld clients (name_of client (suc client.taken)) → A) → A
+      by_test true behind old later = by_order (nat_le (suc client.taken) other.taken) refl old later where
+        by_order : {A : Type 0} (c : Bool) → nat_le (suc client.taken) other.taken ≡ c → (c || list_any (has_taken (name_of client (suc client.taken))) clients) ≡ true
+            → (IsOld clients (name_of client (suc client.taken)) → A) → A
+        by_order true more old later = absurd (omega (arith, leb-true (suc client.taken) other.taken more, leb-true other.taken client.taken behind))
+        by_order false more old later = later old
+      by_test false behind old later = later old
+
+-- Each client of a numbered list is the latest of its number.
+
+abbrev pub IsIn : Client → List Client → Type 0
+IsIn client [] = ⊥
+IsIn client (other ∷ clients) = (client ≡ other) ⊎ IsIn client clients
+
+differs : (client other : Client) → client.number.0 < other.number.0 ⊎ other.number.0 < client.number.0 → is_client other.number client.number ≡ false
+differs client other (inl less) = ne_eqb other.number.0 client.number.0 (λ same. omega (arith, same, less))
+differs client other (inr more) = ne_eqb other.number.0 client.number.0 (λ same. omega (arith, same, more))
+
+behind_by : (client other : Client) → is_client other.number client.number ≡ false → is_behind client other ≡ true
+behind_by client other apart = ap (λ b. not b || nat_le other.taken client.taken) apart
+
+latest_before : (client : Client) (from : ℕ) (clients : List Client) → AreNumbered from clients → client.number.0 < from → IsLatest client clients
+latest_before client from [] are less = refl
+latest_before client from (other ∷ clients) are less =
+    and_from _ _ (behind_by client other (differs client other (inl (let is : other.number.0 ≡ from = are.0 in omega arith))))
+    (latest_before client (suc from) clients are.1 (omega arith))
+
+in_from : (client : Client) (from : ℕ) (clients : List Client) → AreNumbered from clients → IsIn client clients → from ≤ client.number.0
+in_from client from [] are there = absurd there
+in_from client from (other ∷ clients) are (inl same) =
+    let is : client.number.0 ≡ from = ap (λ (c : Client). c.number.0) same ∙ are.0 in omega arith
+in_from client from (other ∷ clients) are (inr there) = let later : suc from ≤ client.number.0 = in_from client (suc from) clients are.1 there in omega arith
+
+pub latest_in : (client : Client) (from : ℕ) (clients : List Client) → AreNumbered from clients → IsIn client clients → IsLatest client clients
+latest_in client from [] are there = absurd there
+latest_in client from (other ∷ clients) are (inl same) =
+    let is : client.number.0 ≡ from = ap (λ (c : Client). c.number.0) same ∙ are.0 in
+    and_from _ _ (or_right (not (is_client other.number client.number)) _ (le-leb other.taken client.taken (let taken : client.taken ≡ other.taken = ap (λ (c : Client). c.taken) same in omega arith)))
+    (latest_before client (suc from) clients are.1 (omega arith))
+latest_in client from (other ∷ clients) are (inr there) =
+    let later : suc from ≤ client.number.0 = in_from client (suc from) clients are.1 there in
+    and_from _ _ (behind_by client other (differs client other (inr (let is : other.number.0 ≡ from = are.0 in omega arith))))
+    (latest_in client (suc from) clients are.1 there)
+
+pub there_in : (client : Client) (clients : List Client) → IsIn client clients → IsThere client clients
+there_in client [] there = absurd there
+there_in client (other ∷ clients) (inl same) =
+    or_left _ _ (and_from _ _ (ap (λ (c : Client). is_client c.number client.number) (sym same) ∙ same_number client.number.0)
+    (ap (λ (c : Client). nat_le client.taken c.taken) (sym same) ∙ same_order client.taken))
+there_in client (other ∷ clients) (inr there) = or_right _ _ (there_in client clients there)
+
+-- as another takes up messages it stays so
+
+pub record IsReady (client : Client) (clients : List Client) : Type 0 where
+  pub latest : IsLatest client clients
+  pub there : IsThere client clients
+
+and_more : (a b c d : Bool) → (a ≡ true → c ≡ true) → (b ≡ true → d ≡ true) → (a && b) ≡ true → (c && d) ≡ true
+and_more a b c d first second is = let parts = and_parts a b is in and_from c d (first parts.0) (second parts.1)
+
+latest_apart : (client one : Client) → is_client one.number client.number ≡ false → (clients : List Client) → IsLatest client clients
+    → IsLatest client (map (replaced one) clients)
+latest_apart client one apart [] latest = refl
+latest_apart client one apart (other ∷ clients) latest =
+    and_more (is_behind client other) _ (is_behind client (replaced one other)) _ (λ is. by_test (is_client other.number one.number) is)
+    (latest_apart client one apart clients) latest
+  where
+    by_test : (b : Bool) → is_behind client other ≡ true → is_behind client (if b then one else other) ≡ true
+    by_test true is = behind_by client one apart
+    by_test false is = is
+
+there_apart : (client one : Client) → is_client one.number client.number ≡ false → (clients : List Client) → IsThere client clients
+    → IsThere client (map (replaced one) clients)
+there_apart client one apart [] there = isnt there
+there_apart client one apart (other ∷ clients) there =
+    or_more (has_taken m other) _ (has_taken m (replaced one other)) _ (λ is. by_test (is_client other.number one.number) refl is)
+    (there_apart client one apart clients) there
+  where
+    m : MessageName
+    m = name_of client client.taken
+
+    by_test : (b : Bool) → is_client other.number one.number ≡ b → has_taken m other ≡ true → has_taken m (if b then one else other) ≡ true
+    by_test true same is =
+        isnt (sym apart ∙ ap (λ n. is_client n client.number) (sym (client_of other.number one.number same)) ∙ (and_parts (is_client other.number client.number) _ is).0)
+    by_test false same is = is
+
+pub ready_apart : (client one : Client) → is_client one.number client.number ≡ false → (clients : List Client) → IsReady client clients
+    → IsReady client (map (replaced one) clients)
+ready_apart client one apart clients ready = record { latest = latest_apart client one apart clients ready.latest; there = there_apart client one apart clients ready.there }
+
+-- and behind its own
+latest_next : (client : Client) (clients : List Client) → IsLatest client clients → IsLatest (next_of client) (map (replaced (next_of client)) clients)
+latest_next client [] latest = refl
+latest_next client (other ∷ clients) latest =
+    and_more (is_behind client other) _ (is_behind (next_of client) (replaced (next_of client) other)) _ (λ is. by_test (is_client other.number client.number) refl is)
+    (latest_next client clients) latest
+  where
+    by_test : (b : Bool) → is_client other.number client.number ≡ b → is_behind client other ≡ true → is_behind (next_of client) (if b then next_of client else other) ≡ true
+    by_test true same is = or_right (not (is_client client.number client.number)) _ (le-leb (suc client.taken) (suc client.taken) (omega arith))
+    by_test false same is = behind_by (next_of client) other same
+
+pub ready_next : (client : Client) (clients : List Client) → IsReady client clients → IsReady (next_of client) (map (replaced (next_of client)) clients)
+ready_next client clients ready = record { latest = latest_next client clients ready.latest; there = taken_old client clients ready.there }

@@ -35,7 +35,7 @@ use Rattle.shared_router.specs.Shared.{final_terms, shared, world_at}
 use Rattle.shared_router.proofs.Ended as ended
 use Rattle.shared_router.proofs.Looked.{IsLooked}
 use Rattle.shared_router.proofs.Musts.{IsEnding, answered-same, ending_world, last_plan, served-same}
-use Rattle.shared_router.proofs.Numbered.{IsAlone}
+use Rattle.shared_router.proofs.Single.{IsAlone}
 use Rattle.shared_router.proofs.Parting.{even_at, next, world_more}
 use Rattle.shared_router.proofs.Since.{log-since, step-moment}
 use Rattle.shared_router.proofs.Worded.{ended-same-ends, said-by, word-goes}

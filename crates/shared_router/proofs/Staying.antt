@@ -2,7 +2,6 @@
 use Rattle.std.specs.Prelude.{◌≡◌, ℕ, zero, suc, Bool, true, false, fold, length, if◌then◌else◌, List, [], ◌∷◌, ◌++◌, Option, Some, None}
 use Rattle.std.specs.Option.{option_map_or}
 use Rattle.std.proofs.Common.{refl, sym, ap, ◌∙◌, subst, append_assoc, append-nil}
-use Rattle.hostgroups.specs.declared.server.Server.{Server}
 use Rattle.mx_base.specs.declared.names.LinkId.{LinkId}
 use Rattle.mx_wire.specs.Log.{Log}
 use Rattle.mx_wire.specs.declared.entry.Entry.{Entry}
@@ -12,13 +11,9 @@ use Rattle.log_story.specs.Owed.{messages}
 use Rattle.log_story.specs.Tale.{Client, Tale, view_of}
 use Rattle.tale_world.specs.Decided.{plan_of}
 use Rattle.tale_world.specs.Deciding.{Deciding, World}
-use Rattle.tale_world.specs.Policy.{Readied}
 use Rattle.tale_world.specs.World.{are_freed, are_taken, decided_last, decided_next, freed_there, go_on, goes_on, is_called, is_counted, is_ended, is_told, next_message, next_of, taken_once, with_more, with_taken}
-use Rattle.tale_world.specs.World.{world_step}
-use Rattle.router_promises.specs.Now.{Now}
-use Rattle.router_promises.specs.Terms.{Tried}
 use Rattle.shared_router.specs.Fixed.{Fixed, setup_of}
-use Rattle.shared_router.specs.More.{More, first_more, now_of}
+use Rattle.shared_router.specs.More.{More}
 use Rattle.shared_router.specs.Shared.{hears_by, shared, world_at}
 use Rattle.shared_router.proofs.Parting.{first, next, world_more}
 

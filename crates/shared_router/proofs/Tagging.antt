@@ -2,7 +2,7 @@
 use Rattle.std.specs.Prelude.{◌≡◌, ◌<◌, ℕ, Bool, true, false, not, ◌&&◌, ◌||◌, bytes_eq, find, length, nat_eq, if◌then◌else◌, List, [], ◌∷◌, ◌++◌, unwrap_or, is_some}
 use Rattle.std.specs.Prelude.{cond, drop, Option, Some, None}
 use Rattle.std.specs.List.{list_any}
-use Rattle.std.specs.Option.{option_map, option_map_or, option_or}
+use Rattle.std.specs.Option.{option_map_or, option_or}
 use Rattle.std.proofs.Common.{refl, sym, ap, ◌∙◌, subst, append_assoc, arith}
 use Rattle.std.proofs.lemmas.Bool.{and_from, or_parts}
 use Rattle.std.proofs.lemmas.Slice.Eq.{bytes_eq-Decides}
@@ -19,14 +19,13 @@ use Rattle.mx_wire.specs.declared.entry.Entry.TheVariants as entry
 use Rattle.packet_frame.specs.Packets.{spelling}
 use Rattle.private_model.proofs.Maps.{link_of, same_link, same_number}
 use Rattle.private_model.specs.Commands.{Quit}
-use Rattle.private_model.specs.Story.{Capture, End, Own, Prep, Question, Statement, Sync, command_of, is_link_id}
+use Rattle.private_model.specs.Story.{Capture, End, Own, Prep, Statement, Sync, is_link_id}
 use Rattle.server_rule.specs.Servers.{is_some_of}
 use Rattle.log_story.specs.Honest.{IsFront, IsStep}
 use Rattle.log_story.specs.Plan.{Asks, Closes, Plan, Resets, StepText, step_payload, text_payload}
 use Rattle.log_story.specs.Servers.{is_quiet, may_begin, quits_for, written_in}
 use Rattle.log_story.specs.Tale.{Client, Tale, is_reset_step, is_to_server, link_in}
 use Rattle.log_story.specs.Telling.{tale_step}
-use Rattle.tale_world.specs.Decided.{Agrees, plan_of}
 use Rattle.tale_world.specs.Deciding.{World}
 use Rattle.tale_world.specs.Wishes.{Says, Sends, Wish}
 use Rattle.tale_world.specs.World.{with_step}
@@ -40,19 +39,20 @@ use Rattle.router_promises.specs.Now.{Now, now_at, was_lost, wire_now}
 use Rattle.router_promises.specs.Running.{is_failed, is_off, opening_on, status_in}
 use Rattle.router_promises.specs.Tags as tagging
 use Rattle.router_promises.specs.Tags.{BeginsRight, IsForSession, TagsSo, WritesTo, last_tag}
-use Rattle.router_promises.specs.Terms.{Terms, plan_in, setup_in}
+use Rattle.router_promises.specs.Terms.{Terms, plan_in}
 use Rattle.shared_router.specs.Fixed.{Fixed, IsNumbered, setup_of}
-use Rattle.shared_router.specs.Known.{Known, known, link_by, setup_by}
+use Rattle.shared_router.specs.Known.{Known, known, link_by}
 use Rattle.shared_router.specs.More.{More, now_of, terms_of}
 use Rattle.shared_router.specs.Ours.{Begins, BeginsIf, IsOurs, Writes}
-use Rattle.shared_router.specs.Owed.{Owed, asks, begun_there, close_by, closes, farewell, is_to_close, is_whole_step, nothing_owed, owed_in_login, owed_next, owed_on}
-use Rattle.shared_router.specs.Owed.{is_let_go, is_refused, owed_on_client, owed_rest, owed_there, parts, step_by}
+use Rattle.shared_router.specs.Owed.{Owed, asks, begun_there, close_by, closes, farewell, is_to_close, is_whole_step, nothing_owed, owed_next}
+use Rattle.shared_router.specs.Owed.{owed_on_client, owed_there, step_by}
 use Rattle.shared_router.specs.Shared.{final_terms, shared, world_at}
-use Rattle.shared_router.specs.Wishes.{tag_of, wish_on, wish_spelt, wish_step, wish_tag}
+use Rattle.shared_router.specs.Wishes.{wish_on, wish_step, wish_tag}
 use Rattle.shared_router.proofs.Keeping.{begins_at}
 use Rattle.shared_router.proofs.Parting.{even_at, next, tale_then}
 use Rattle.shared_router.proofs.Routing.{IsSame, agrees_behind, same_at}
 use Rattle.shared_router.proofs.Staying.{log_at}
+use Rattle.shared_router.proofs.Stepping.{AreBegun, begun_then, first_begun, none_begun}
 
 isnt : {A : Type 0} → false ≡ true → A
 isnt is = absurd (cc)
@@ -147,7 +147,7 @@ module _ (fixed : Fixed) (numbered : IsNumbered fixed) where
   step_told w link tag bytes true false to_server begin fresh = isnt begin
   step_told w link tag bytes false begins to_server begin fresh = isnt to_server
 
-  module _ (before later : Log) (link : LinkId) (tag : Tag) (bytes : List ℕ) where
+  module _ (before later : Log) (link : LinkId) (tag : Tag) (bytes : List ℕ) (begun : AreBegun fixed (world_at fixed before)) where
     abbrev e : Entry
     e = entry.Wrote link tag bytes
 
@@ -217,7 +217,7 @@ module _ (fixed : Fixed) (numbered : IsNumbered fixed) where
         → plan.steps link (w.tale.wires link).begun ≡ step_by k link
     step_is is there begins =
         here.told.steps link (w.tale.wires link).begun (step_by k link)
-        (step_told w link tag bytes (is_to_server w.tale link) (may_begin (setup_of fixed) link (w.tale.wires link) w.tale) there begins is.fresh)
+        (step_told w link tag bytes (is_to_server w.tale link) (may_begin (setup_of fixed) link (w.tale.wires link) w.tale) there begins (none_begun fixed w link begun))
 
     abbrev begins_now : Bool
     begins_now = may_begin (setup_of fixed) link (w.tale.wires link) w.tale
@@ -335,17 +335,18 @@ module _ (fixed : Fixed) (numbered : IsNumbered fixed) where
         subst (λ t. SaysBy t (now.next terms (now_at terms before) e).tale) (sym same_now) (subst (λ t. SaysBy w.tale t) (sym same_later)
         (says_by (is_to_server w.tale link) (closes k link) (w.tale.wires link).entered begins_now refl refl refl refl (writes.front, writes.tagged) fits.some fits.opened writes.acted is))
 
-  tag_so : (before later : Log) (e : Entry) → IsOurs fixed before e → Fits before e → TagsSo (final_terms fixed (before ++ e ∷ later)) before e
-  tag_so before later (entry.Wrote link tag bytes) ours fits = wrote_so before later link tag bytes ours.0 ours.1 fits
-  tag_so before later _ ours fits = tt
+  tag_so : (before later : Log) (e : Entry) → AreBegun fixed (world_at fixed before) → IsOurs fixed before e → Fits before e
+      → TagsSo (final_terms fixed (before ++ e ∷ later)) before e
+  tag_so before later (entry.Wrote link tag bytes) begun ours fits = wrote_so before later link tag bytes begun ours.0 ours.1 fits
+  tag_so before later _ begun ours fits = tt
 
-  tags_from : (before later whole : Log) → before ++ later ≡ whole
+  tags_from : (before later whole : Log) → before ++ later ≡ whole → AreBegun fixed (world_at fixed before)
       → LawfulAfter (IsOurs fixed) before later → LawfulAfter Fits before later → LawfulAfter (TagsSo (final_terms fixed whole)) before later
-  tags_from before [] whole is ours fits = tt
-  tags_from before (e ∷ later) whole is ours fits = (
-    subst (λ l. TagsSo (final_terms fixed l) before e) is (tag_so before later e ours.0 fits.0),
-    tags_from (before ++ e ∷ []) later whole (append_assoc before (e ∷ []) later ∙ is) ours.1 fits.1,
+  tags_from before [] whole is begun ours fits = tt
+  tags_from before (e ∷ later) whole is begun ours fits = (
+    subst (λ l. TagsSo (final_terms fixed l) before e) is (tag_so before later e begun ours.0 fits.0),
+    tags_from (before ++ e ∷ []) later whole (append_assoc before (e ∷ []) later ∙ is) (begun_then fixed before e fits.0 begun) ours.1 fits.1,
   )
 
   pub tags_kept : (log : Log) → LawfulAfter (IsOurs fixed) [] log → LawfulAfter Fits [] log → LawfulAfter (TagsSo (final_terms fixed log)) [] log
-  tags_kept log ours fits = tags_from [] log log refl ours fits
+  tags_kept log ours fits = tags_from [] log log refl (first_begun fixed) ours fits

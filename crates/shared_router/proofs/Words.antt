@@ -31,7 +31,7 @@ use Rattle.shared_router.proofs.Counting.{some_at}
 use Rattle.shared_router.proofs.Ended as ended
 use Rattle.shared_router.proofs.Looked.{Each, IsLooked, each-all, each-so, going-looks, looks_at}
 use Rattle.shared_router.proofs.Musts.{IsEnding, ending_world, last_plan, served-same}
-use Rattle.shared_router.proofs.Numbered.{IsAlone, both-each, counts_at, each-alone, going-counts}
+use Rattle.shared_router.proofs.Single.{IsAlone, both-each, counts_at, each-alone, going-counts}
 use Rattle.shared_router.proofs.Parting.{even_at}
 use Rattle.shared_router.proofs.Said.{much-ends, word-right}
 use Rattle.shared_router.proofs.Worded.{going-same-ends}

@@ -19,10 +19,10 @@ use Rattle.router_promises.specs.GivenUp.{is_in_work, key_tried, session_of}
 use Rattle.router_promises.specs.Heard as heard
 use Rattle.router_promises.specs.Heard.{Answer, Bad, Part, Reading, is_amiss, is_step, reading_of}
 use Rattle.router_promises.specs.Keys.{is_waiting, oldest}
-use Rattle.router_promises.specs.Now.{Now, entry_now, is_loss, wire_now}
+use Rattle.router_promises.specs.Now.{entry_now, is_loss, wire_now}
 use Rattle.router_promises.specs.Running.{is_off, status_in}
 use Rattle.router_promises.specs.Steps.{wants_there}
-use Rattle.router_promises.specs.Terms.{Terms, plan_in}
+use Rattle.router_promises.specs.Terms.{plan_in}
 use Rattle.shared_router.specs.Fixed.{Fixed}
 use Rattle.shared_router.specs.Known.{Known, held_by, link_by, setup_by}
 use Rattle.shared_router.specs.Lends.{is_readied_for}

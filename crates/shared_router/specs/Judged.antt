@@ -1,5 +1,5 @@
 -- What a plan says of a message that is taken up, by the verdict on it.
-use Rattle.std.specs.Prelude.{◌≡◌, ◌⊎◌, ℕ, zero, suc, Bool, length, true, All, List, [], ◌∷◌, ◌++◌, Option, Some, None}
+use Rattle.std.specs.Prelude.{◌≡◌, ◌⊎◌, ℕ, zero, suc, Bool, length, true, All, List, [], ◌∷◌, ◌++◌, Some, None}
 use Rattle.hostgroups.specs.declared.server.Server.{Server}
 use Rattle.mx_wire.specs.Log.{Log}
 use Rattle.mx_wire.specs.declared.entry.Entry.{Entry}

@@ -1,9 +1,10 @@
 -- For whom links are readied: by the policy, over what the promise counts.
-use Rattle.std.specs.Prelude.{ℕ, zero, suc, Bool, false, ◌&&◌, nat_eq, List, [], ◌∷◌, ◌++◌, length, if◌then◌else◌, Option, Some, None}
+use Rattle.std.specs.Prelude.{ℕ, zero, suc, Bool, false, ◌&&◌, nat_eq, List, [], ◌∷◌, ◌++◌, find, length, if◌then◌else◌, Option, Some, None}
 use Rattle.std.specs.List.{filter_map, list_any}
 use Rattle.std.specs.Option.{option_and_then, option_map, option_map_or}
 use Rattle.private_model.specs.Names.{LinkId, SessionName}
-use Rattle.private_model.specs.Story.{BecameDue, Due, Story, is_link_id, is_name}
+use Rattle.private_model.specs.Story.{BecameDue, Due, Story, is_hostgroup, is_link_id, is_name}
+use Rattle.tale_world.specs.Tests.{is_account}
 use Rattle.tale_world.specs.Policy as policy
 use Rattle.tale_world.specs.Policy.{Idle, Lends, Opening, Readied, Rest, Waiter, next_lend}
 use Rattle.router_promises.specs.Keys.{LinkKey, is_free, is_opening, is_vacant, is_waiting, key_for, key_of}
@@ -58,12 +59,27 @@ rest_of k readied = record {
 -- Who still waits keeps the link that is readied for it while that carries nobody, also one whose server is shunned meanwhile; and then
 -- links are lent to the others.
 
-abbrev pub still_waits : Rest → Readied → Bool
-still_waits rest readied = list_any (λ (one : Waiter). is_name one.name readied.name && nat_eq one.due.ordinal readied.due.ordinal) rest.waiters
+abbrev pub is_waiter : Readied → Waiter → Bool
+is_waiter readied one = is_name one.name readied.name && nat_eq one.due.ordinal readied.due.ordinal
+
+abbrev pub as_readied : Waiter → Readied
+as_readied one = record { name = one.name; due = one.due }
+
+abbrev pub still_waits : Rest → Readied → Option Readied
+still_waits rest readied = option_map as_readied (find (is_waiter readied) rest.waiters)
+
+-- the link is of its hostgroup and account
+abbrev pub is_near : Known → LinkId → Readied → Bool
+is_near k link readied = option_map_or
+    (λ (key : LinkKey). is_hostgroup key.hostgroup readied.name.hostgroup && is_account key.account ((setup_by k).accounts readied.name.client))
+    (key_of k.terms k.now link) false
+
+abbrev pub if_near : Known → LinkId → Readied → Option Readied
+if_near k link readied = if is_near k link readied then Some readied else None
 
 abbrev pub kept : Known → Rest → LinkId → Option Readied
-kept k rest link =
-    option_and_then (λ r. if is_vacant k.terms k.log k.now link && still_waits rest r then Some r else None) (k.readied link)
+kept k rest link = option_and_then
+    (λ r. if is_vacant k.terms k.log k.now link then option_and_then (if_near k link) (still_waits rest r) else None) (k.readied link)
 
 -- a link is readied for it
 abbrev pub is_readied_for : List LinkId → (LinkId → Option Readied) → SessionName → Bool

@@ -3,6 +3,7 @@ pub mod More
 pub mod Known
 pub mod Spelt
 pub mod Lends
+pub mod Waits
 pub mod Wishes
 pub mod Causes
 pub mod Ends

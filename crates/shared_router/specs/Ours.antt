@@ -1,5 +1,5 @@
 -- The entries of a log that this router makes, by its world.
-use Rattle.std.specs.Prelude.{◌≡◌, ℕ, Bool, true, false, not, ◌||◌, List, Option, Some, None}
+use Rattle.std.specs.Prelude.{◌≡◌, ◌<◌, ℕ, Bool, true, false, not, ◌||◌, length, List, Some, None}
 use Rattle.std.specs.List.{list_any}
 use Rattle.mx_base.specs.Fields.{AreBytes}
 use Rattle.mx_base.specs.declared.names.Address.{Address}
@@ -25,7 +25,7 @@ use Rattle.router_promises.specs.Rest.{is_spared_for}
 use Rattle.router_promises.specs.Tags.{StandsRight}
 use Rattle.router_promises.specs.Wakes.{wakes_at}
 use Rattle.shared_router.specs.Fixed.{Fixed, setup_of}
-use Rattle.shared_router.specs.Known.{Known, known, link_by, setup_by}
+use Rattle.shared_router.specs.Known.{Known, known, link_by}
 use Rattle.shared_router.specs.More.{More}
 use Rattle.shared_router.specs.Owed.{asks, close_by, closes, owed_on}
 use Rattle.shared_router.specs.Shared.{shared, world_at}
@@ -41,9 +41,8 @@ pub record Writes (k : Known) (link : LinkId) (tag : Tag) (bytes : List ℕ) : T
 abbrev pub StandsBehind : Known → LinkId → Type 0
 StandsBehind k link = StandsRight k.terms k.now link (link_by k link).stage
 
--- What begins on a link to a server: no step was decided of it before; it stands in its session's hostgroup; and it passes the test.
+-- What begins on a link to a server stands in its session's hostgroup, and passes the test.
 pub record Begins (fixed : Fixed) (w : World More) (link : LinkId) (e : Entry) : Type 0 where
-  pub fresh : w.decided.steps link (w.tale.wires link).begun ≡ None
   pub group : StandsBehind (known fixed (world_step (setup_of fixed) (shared fixed) w e)) link
   pub passes : PassesBy (setup_of fixed) (shared fixed) w e
 
@@ -92,7 +91,8 @@ OursBy fixed w _ = Unit {0}
 abbrev pub IsOurs : Fixed → Log → Entry → Type 0
 IsOurs fixed log e = OursBy fixed (world_at fixed log) e
 
--- a log of which each entry is ours, and a wire can tell it
+-- a log of which each entry is ours, and a wire can tell it: told logs have fewer than 2^48 entries
 pub record IsOurLog (fixed : Fixed) (log : Log) : Type 0 where
   pub ours : AllLawful (IsOurs fixed) log
   pub fits : AllLawful Fits log
+  pub bounded : length log < 281474976710656

@@ -1,5 +1,5 @@
 -- What is closed next, and what is to be written on each link.
-use Rattle.std.specs.Prelude.{ℕ, ◌+◌, Bool, true, false, not, ◌&&◌, ◌||◌, bytes_eq, is_some, nat_le, List, [], ◌∷◌, ◌++◌, drop, find, length, if◌then◌else◌, Option, Some, None}
+use Rattle.std.specs.Prelude.{ℕ, ◌+◌, Bool, true, false, not, ◌&&◌, ◌||◌, bytes_eq, is_some, nat_le, List, [], drop, find, length, if◌then◌else◌, Option, Some, None}
 use Rattle.std.specs.List.{list_any}
 use Rattle.std.specs.Option.{option_map, option_map_or, option_or}
 use Rattle.mx_base.specs.declared.names.LinkId.{LinkId}
@@ -13,7 +13,7 @@ use Rattle.private_model.specs.View.{Answered, Asked, Link, Quiet, Stage}
 use Rattle.server_side.specs.Login.{said_of}
 use Rattle.log_story.specs.Plan.{Asks, Closes, Resets, StepText, is_by_now, step_payload, text_payload}
 use Rattle.log_story.specs.Servers.{may_begin}
-use Rattle.log_story.specs.Tale.{Client, Wire, is_to_server}
+use Rattle.log_story.specs.Tale.{Client, is_to_server}
 use Rattle.tale_world.specs.Wishes.{Wish}
 use Rattle.router_promises.specs.Closes.{is_full, is_in_the_way, is_joined, is_past_reset, is_spoilt, is_unlent, was_amiss, was_refused}
 use Rattle.router_promises.specs.Due.{due_to, served}

@@ -1,5 +1,5 @@
 -- What goes to a link to a server next, with its tag, and what is opened: by the policy, for whom links are readied.
-use Rattle.std.specs.Prelude.{ℕ, Bool, false, ◌&&◌, List, [], find, reverse, unwrap_or, Option, Some, None}
+use Rattle.std.specs.Prelude.{ℕ, false, ◌&&◌, List, [], find, reverse, unwrap_or, Option}
 use Rattle.std.specs.List.{filter_map}
 use Rattle.std.specs.Option.{option_map, option_map_or, option_or}
 use Rattle.hostgroups.specs.Servers.{server_at}

@@ -3,23 +3,28 @@
 
 pub mod departing;
 
-ghost use Rattle.std.specs.Prelude.{◌≡◌, ◌++◌, ℕ, Bool};
+ghost use Rattle.std.specs.Prelude.{◌≡◌, ◌++◌, ℕ, Bool, Some, true};
 ghost use Rattle.mx_base.specs.declared.names.LinkId.{LinkId};
 ghost use Rattle.mx_wire.specs.Log.{Log};
-ghost use Rattle.mx_wire.specs.Moments.{AllLawful};
+ghost use Rattle.mx_wire.specs.Moments.{AllLawful, AtEachMoment};
 ghost use Rattle.packet_frame.specs.Packets.{Framed};
 ghost use Rattle.log_story.specs.Plan.{Plan};
 ghost use Rattle.log_story.specs.Tale.{Client};
 ghost use Rattle.tale_world.specs.Decided.{Agrees};
 ghost use Rattle.tale_world.specs.Deciding.{World};
 ghost use Rattle.tale_world.specs.World.{decided_next};
+ghost use Rattle.router_promises.specs.Headline.{IsLawfulSo};
 ghost use Rattle.router_promises.specs.Tags.{TagsSo};
 ghost use Rattle.router_promises.specs.Verdicts.{verdict};
 ghost use Rattle.router_promises.specs.Terms.{IsRouters, Tried, tale_at};
 ghost use Rattle.shared_router.specs.Fixed.{Fixed, IsNumbered, setup_of};
 ghost use Rattle.shared_router.specs.Judged.{IsFresh, IsMet, JudgedSo, PromptSo, with_rest};
+ghost use Rattle.shared_router.specs.Known.{Known};
+ghost use Rattle.shared_router.specs.Lends.{is_near, readied_now};
 ghost use Rattle.shared_router.specs.More.{More, terms_of};
 ghost use Rattle.shared_router.specs.Ours.{IsOurLog};
+ghost use Rattle.shared_router.specs.Waits.{Waits};
+ghost use Rattle.tale_world.specs.Policy.{Readied};
 ghost use Rattle.shared_router.specs.Shared.{final_terms, shared, taking_in, world_at};
 
 /// By what was decided in the end, each beginning of the log tells the tale of the world then.
@@ -41,13 +46,35 @@ pub fn is_judged()
         (verdict (with_rest (terms_of fixed w) plan bare tried) w.more.servers (w.more.flags client.number) (taking_in w client message)) }
 {}
 
-/// Where nothing was decided of messages before they come up: at each entry of the log, each message that is taken up goes where the
-/// verdict by the last plan says, or is answered as it says, or that there is no memory.
+/// Nothing is decided of a message before it comes up.
+pub fn is_prompt()
+    ensures { (fixed : Fixed) (log : Log) → IsOurLog fixed log → AllLawful (PromptSo fixed) log }
+{}
+
+/// So at each entry of the log, each message that is taken up goes where the verdict by the last plan says, or is answered as it says, or
+/// that there is no memory.
 pub fn is_routed()
-    ensures { (fixed : Fixed) (log : Log) → IsNumbered fixed → AllLawful (PromptSo fixed) log → AllLawful (JudgedSo (final_terms fixed log)) log }
+    ensures { (fixed : Fixed) (log : Log) → IsNumbered fixed → IsOurLog fixed log → AllLawful (JudgedSo (final_terms fixed log)) log }
+{
+    is_prompt();
+}
+
+/// The story that the log tells is lawful at each moment.
+pub fn is_lawful()
+    ensures { (fixed : Fixed) (log : Log) → IsOurLog fixed log → AtEachMoment (IsLawfulSo (final_terms fixed log)) log }
 {}
 
 /// What it writes has its tags, and stands where it should.
 pub fn is_tagged()
     ensures { (fixed : Fixed) (log : Log) → IsNumbered fixed → IsOurLog fixed log → AllLawful (TagsSo (final_terms fixed log)) log }
+{}
+
+/// A link is readied for a statement that waits: in its client's present session, as it is due there.
+pub fn readied_waits()
+    ensures { (k : Known) (link : LinkId) (r : Readied) → readied_now k link ≡ Some r → Waits k r }
+{}
+
+/// And the link is of that statement's hostgroup and account.
+pub fn readied_near()
+    ensures { (k : Known) (link : LinkId) (r : Readied) → readied_now k link ≡ Some r → is_near k link r ≡ true }
 {}

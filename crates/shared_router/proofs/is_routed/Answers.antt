@@ -2,4 +2,4 @@ use Rattle.shared_router.proofs.Routing.{routes_kept}
 use Rattle.shared_router.proofs.is_routed.Goals as goal
 
 pub returns : goal.returns
-returns c = λ fixed log numbered prompt. routes_kept fixed numbered log prompt
+returns c = λ fixed log numbered our. routes_kept fixed numbered log (c.is_prompt.ensures fixed log our)

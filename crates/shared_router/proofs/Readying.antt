@@ -1,0 +1,286 @@
+-- Links are readied for statements that wait.
+use Rattle.std.specs.Prelude.{◌≡◌, ◌&&◌, ℕ, zero, suc, Bool, true, false, cond, find, length, nat_eq, nat_le, if◌then◌else◌, List, [], ◌∷◌, ◌++◌, Option, Some, None}
+use Rattle.std.specs.List.{cons_option, filter_map}
+use Rattle.std.specs.Option.{option_and_then, option_map, option_map_or}
+use Rattle.std.proofs.Common.{refl, sym, ap, ◌∙◌, subst}
+use Rattle.std.proofs.lemmas.Bool.{and_from, and_parts}
+use Rattle.mx_base.specs.declared.names.LinkId.{LinkId}
+use Rattle.private_model.proofs.Maps.{link_of, number_of}
+use Rattle.private_model.specs.Names.{SessionName}
+use Rattle.private_model.specs.Story.{BecameDue, Due, Story, is_hostgroup, is_link_id}
+use Rattle.session_state.specs.declared.place.Place.{Place}
+use Rattle.tale_world.specs.Policy as policy
+use Rattle.tale_world.specs.Tests.{is_account}
+use Rattle.tale_world.specs.Policy.{Idle, Lends, Readied, Rest, Waiter, best, better, is_open_to, next_lend, steps_left}
+use Rattle.router_promises.specs.Dues.{is_unsent}
+use Rattle.router_promises.specs.Keys.{LinkKey, is_free, is_vacant, is_waiting, key_of}
+use Rattle.shared_router.specs.Known.{Known, link_by, present_by, setup_by, view_by}
+use Rattle.shared_router.specs.Lends.{as_key, as_readied, idle_at, if_near, is_near, is_readied_for, is_waiter, kept, lending, lent, readied_now, rest_of, still_waits, waiter_of, waiters_by}
+use Rattle.shared_router.specs.Waits.{Waits}
+
+no_some : {A B : Type 0} (a : A) → None ≡ Some a → B
+no_some a is = absurd (cc)
+
+some_of : {A : Type 0} (a b : A) → Some a ≡ Some b → a ≡ b
+some_of a b is = cc
+
+isnt : {A : Type 0} → false ≡ true → A
+isnt is = absurd (cc)
+
+module _ (k : Known) where
+  abbrev AllWait : List Waiter → Type 0
+  AllWait [] = Unit {0}
+  AllWait (one ∷ more) = Waits k (as_readied one) × AllWait more
+
+  all_on : (a b : List Waiter) → AllWait a → AllWait b → AllWait (a ++ b)
+  all_on [] b first second = second
+  all_on (one ∷ a) b first second = (first.0, all_on a b first.1 second)
+
+  due_waits : (n : SessionName) (ordinal : ℕ) (o : Option Due) → (view_by k).dues n ≡ o → present_by k n.client n.hostgroup ≡ n
+      → is_waiting k.terms k.now n.client n.hostgroup ordinal ≡ true → AllWait (option_map_or (λ due. waiter_of k n due ∷ []) o [])
+  due_waits n ordinal None at here waits = tt
+  due_waits n ordinal (Some due) at here waits = (record { due = at; present = here; waits = same }, tt) where
+    is_of : (o : Option Due) → (view_by k).dues (present_by k n.client n.hostgroup) ≡ o → option_map_or (λ (d : Due). nat_eq d.ordinal ordinal) o false ≡ true → due.ordinal ≡ ordinal
+    is_of None there is = isnt is
+    is_of (Some d) there is =
+        let one : due ≡ d = some_of due d (sym at ∙ ap (λ m. (view_by k).dues m) (sym here) ∙ there) in
+        ap (λ (x : Due). x.ordinal) one ∙ number_of d.ordinal ordinal is
+
+    same : is_waiting k.terms k.now n.client n.hostgroup due.ordinal ≡ true
+    same = ap (λ i. is_waiting k.terms k.now n.client n.hostgroup i)
+        (is_of ((view_by k).dues (present_by k n.client n.hostgroup)) refl
+        (and_parts (is_unsent k.terms k.now.tale (present_by k n.client n.hostgroup))
+        (option_map_or (λ (d : Due). nat_eq d.ordinal ordinal) ((view_by k).dues (present_by k n.client n.hostgroup)) false) waits).1) ∙ waits
+
+  all_wait : (story : Story) → AllWait (waiters_by k story)
+  all_wait [] = tt
+  all_wait (BecameDue client hostgroup ordinal at command multiplex ∷ past) =
+      all_on (waiters_by k past) _ (all_wait past) (by_test (is_waiting k.terms k.now client hostgroup ordinal) refl)
+    where
+      n : SessionName
+      n = present_by k client hostgroup
+
+      by_test : (b : Bool) → is_waiting k.terms k.now client hostgroup ordinal ≡ b
+          → AllWait (if b then option_map_or (λ due. waiter_of k n due ∷ []) ((view_by k).dues n) [] else [])
+      by_test true waits = due_waits n ordinal ((view_by k).dues n) refl refl waits
+      by_test false waits = tt
+  all_wait (e ∷ past) = all_wait past
+
+  -- of each readied link
+
+  abbrev AreWaiting : (LinkId → Option Readied) → Type 0
+  AreWaiting readied = (link : LinkId) (r : Readied) → readied link ≡ Some r → Waits k r
+
+  found_waits : (test : Waiter → Bool) (ws : List Waiter) (r : Readied) → AllWait ws → option_map as_readied (find test ws) ≡ Some r → Waits k r
+  found_waits test [] r all is = no_some r is
+  found_waits test (one ∷ ws) r all is = by_test (test one) is (found_waits test ws r all.1) where
+    by_test : (b : Bool) → option_map as_readied (cond b (Some one) (find test ws)) ≡ Some r → (option_map as_readied (find test ws) ≡ Some r → Waits k r) → Waits k r
+    by_test true is later = subst (Waits k) (some_of (as_readied one) r is) all.0
+    by_test false is later = later is
+
+  kept_waits : (rest : Rest) → AllWait rest.waiters → AreWaiting (kept k rest)
+  kept_waits rest all link r is = by_readied (k.readied link) is where
+    by_near : (o : Option Readied) → ((one : Readied) → o ≡ Some one → Waits k one) → option_and_then (if_near k link) o ≡ Some r → Waits k r
+    by_near None waits is = no_some r is
+    by_near (Some one) waits is = by_test (is_near k link one) is where
+      by_test : (b : Bool) → (if b then Some one else None) ≡ Some r → Waits k r
+      by_test true is = waits r is
+      by_test false is = no_some r is
+
+    by_vacant : (b : Bool) (was : Readied) → (if b then option_and_then (if_near k link) (still_waits rest was) else None) ≡ Some r → Waits k r
+    by_vacant true was is = by_near (still_waits rest was) (λ one found. found_waits (is_waiter was) rest.waiters one all found) is
+    by_vacant false was is = no_some r is
+
+    by_readied : (o : Option Readied) → option_and_then (λ was. if is_vacant k.terms k.log k.now link then option_and_then (if_near k link) (still_waits rest was) else None) o ≡ Some r → Waits k r
+    by_readied None is = no_some r is
+    by_readied (Some was) is = by_vacant (is_vacant k.terms k.log k.now link) was is
+
+  lends_wait : (rest : Rest) (is_served : SessionName → Bool) (ws : List Waiter) (lends : Lends) → AllWait ws → next_lend rest is_served ws ≡ Some lends → Waits k lends.to
+  lends_wait rest is_served [] lends all is = no_some lends is
+  lends_wait rest is_served (w ∷ ws) lends all is = by_served (is_served w.name) is (lends_wait rest is_served ws lends all.1) where
+    by_best : (o : Option Idle) → option_map_or (λ (one : Idle). Some (record { link = one.link; to = record { name = w.name; due = w.due } })) o (next_lend rest is_served ws) ≡ Some lends
+        → (next_lend rest is_served ws ≡ Some lends → Waits k lends.to) → Waits k lends.to
+    by_best None is later = later is
+    by_best (Some one) is later = subst (λ (x : Lends). Waits k x.to) (some_of _ lends is) all.0
+
+    by_served : (b : Bool) → (if b then next_lend rest is_served ws
+        else option_map_or (λ (one : Idle). Some (record { link = one.link; to = record { name = w.name; due = w.due } })) (best rest w.key w.due.place rest.idle) (next_lend rest is_served ws)) ≡ Some lends
+        → (next_lend rest is_served ws ≡ Some lends → Waits k lends.to) → Waits k lends.to
+    by_served true is later = later is
+    by_served false is later = by_best (best rest w.key w.due.place rest.idle) is later
+
+  lent_waits : (lends : Lends) (readied : LinkId → Option Readied) → Waits k lends.to → AreWaiting readied → AreWaiting (lent lends readied)
+  lent_waits lends readied waits are link r is = by_test (is_link_id lends.link link) is where
+    by_test : (b : Bool) → (if b then Some lends.to else readied link) ≡ Some r → Waits k r
+    by_test true is = subst (Waits k) (some_of lends.to r is) waits
+    by_test false is = are link r is
+
+  lending_waits : (most : ℕ) (links : List LinkId) (rest : Rest) → AllWait rest.waiters → AreWaiting rest.readied → AreWaiting (lending most links rest).readied
+  lending_waits zero links rest all are = are
+  lending_waits (suc most) links rest all are = by_next (next_lend rest (is_readied_for links rest.readied) rest.waiters) refl (lending_waits most links) where
+    by_next : (o : Option Lends) → next_lend rest (is_readied_for links rest.readied) rest.waiters ≡ o
+        → ((other : Rest) → AllWait other.waiters → AreWaiting other.readied → AreWaiting (lending most links other).readied)
+        → AreWaiting (option_map_or (λ lends. lending most links (record rest { readied = lent lends rest.readied })) o rest).readied
+    by_next None is later = are
+    by_next (Some lends) is later =
+        later (record rest { readied = lent lends rest.readied }) all
+        (lent_waits lends rest.readied (lends_wait rest (is_readied_for links rest.readied) rest.waiters lends all is) are)
+
+  pub readied_waits : (link : LinkId) (r : Readied) → readied_now k link ≡ Some r → Waits k r
+  readied_waits link r is =
+      let rest : Rest = rest_of k (λ l. None) in
+      lending_waits (length rest.waiters) k.now.tale.links (record rest { readied = kept k rest }) (all_wait k.now.tale.story) (kept_waits rest (all_wait k.now.tale.story)) link r is
+
+  -- They are of its hostgroup and account.
+
+  record IsIdle (one : Idle) : Type 0 where
+    pub key : LinkKey
+    pub keyed : key_of k.terms k.now one.link ≡ Some key
+    pub same : one.key ≡ as_key key
+
+  abbrev AllIdle : List Idle → Type 0
+  AllIdle [] = Unit {0}
+  AllIdle (one ∷ more) = IsIdle one × AllIdle more
+
+  idle_so : (link : LinkId) (one : Idle) → idle_at k link ≡ Some one → IsIdle one
+  idle_so link one is = by_free (is_free k.terms k.log k.now link) is where
+    makes : LinkKey → Idle
+    makes key = record { link = link; key = as_key key; told = (link_by k link).told; id = (link_by k link).id; since = (k.now.uses link).used }
+
+    by_key : (o : Option LinkKey) → key_of k.terms k.now link ≡ o → option_map makes o ≡ Some one → IsIdle one
+    by_key None at is = no_some one is
+    by_key (Some key) at is =
+        let same : makes key ≡ one = some_of (makes key) one is in
+        record { key = key; keyed = ap (λ (x : Idle). key_of k.terms k.now x.link) (sym same) ∙ at; same = ap (λ (x : Idle). x.key) (sym same) }
+
+    by_free : (b : Bool) → (if b then option_map makes (key_of k.terms k.now link) else None) ≡ Some one → IsIdle one
+    by_free true is = by_key (key_of k.terms k.now link) refl is
+    by_free false is = no_some one is
+
+  all_idle : (links : List LinkId) → AllIdle (filter_map (idle_at k) links)
+  all_idle [] = tt
+  all_idle (link ∷ links) = by_idle (idle_at k link) refl (all_idle links) where
+    by_idle : (o : Option Idle) → idle_at k link ≡ o → AllIdle (filter_map (idle_at k) links) → AllIdle (cons_option o (filter_map (idle_at k) links))
+    by_idle None at later = later
+    by_idle (Some one) at later = (idle_so link one at, later)
+
+  record IsBest (key : policy.Key) (one : Idle) : Type 0 where
+    pub idle : IsIdle one
+    pub fits : policy.is_key one.key key ≡ true
+
+  best_so : (rest : Rest) (key : policy.Key) (place : Place) (idle : List Idle) (one : Idle) → AllIdle idle → best rest key place idle ≡ Some one → IsBest key one
+  best_so rest key place [] one all is = no_some one is
+  best_so rest key place (x ∷ idle) one all is = by_open (is_open_to rest key x) refl is (best_so rest key place idle) where
+    by_better : (o : Option Idle) → best rest key place idle ≡ o → ((other : Idle) → AllIdle idle → best rest key place idle ≡ Some other → IsBest key other)
+        → is_open_to rest key x ≡ true → better place x o ≡ Some one → IsBest key one
+    by_better None at later opened is = subst (IsBest key) (some_of x one is) (record { idle = all.0; fits = (and_parts (policy.is_key x.key key) _ opened).0 })
+    by_better (Some other) at later opened is = by_less (nat_le (steps_left x.told place) (steps_left other.told place)) is where
+      by_less : (b : Bool) → (if b then Some x else Some other) ≡ Some one → IsBest key one
+      by_less true is = subst (IsBest key) (some_of x one is) (record { idle = all.0; fits = (and_parts (policy.is_key x.key key) _ opened).0 })
+      by_less false is = subst (IsBest key) (some_of other one is) (later other all.1 at)
+
+    by_open : (b : Bool) → is_open_to rest key x ≡ b → (if b then better place x (best rest key place idle) else best rest key place idle) ≡ Some one
+        → ((other : Idle) → AllIdle idle → best rest key place idle ≡ Some other → IsBest key other) → IsBest key one
+    by_open true opened is later = by_better (best rest key place idle) refl later opened is
+    by_open false opened is later = later one all.1 is
+
+  -- a waiter's key is of its session
+  abbrev IsKeyed : Waiter → Type 0
+  IsKeyed w = (w.key.hostgroup ≡ w.name.hostgroup) × (w.key.account ≡ (setup_by k).accounts w.name.client)
+
+  abbrev AllKeyed : List Waiter → Type 0
+  AllKeyed [] = Unit {0}
+  AllKeyed (w ∷ ws) = IsKeyed w × AllKeyed ws
+
+  keyed_on : (a b : List Waiter) → AllKeyed a → AllKeyed b → AllKeyed (a ++ b)
+  keyed_on [] b first second = second
+  keyed_on (w ∷ a) b first second = (first.0, keyed_on a b first.1 second)
+
+  all_keyed : (story : Story) → AllKeyed (waiters_by k story)
+  all_keyed [] = tt
+  all_keyed (BecameDue client hostgroup ordinal at command multiplex ∷ past) =
+      keyed_on (waiters_by k past) _ (all_keyed past) (by_test (is_waiting k.terms k.now client hostgroup ordinal))
+    where
+      n : SessionName
+      n = present_by k client hostgroup
+
+      by_due : (o : Option Due) → AllKeyed (option_map_or (λ due. waiter_of k n due ∷ []) o [])
+      by_due None = tt
+      by_due (Some due) = ((refl, refl), tt)
+
+      by_test : (b : Bool) → AllKeyed (if b then option_map_or (λ due. waiter_of k n due ∷ []) ((view_by k).dues n) [] else [])
+      by_test true = by_due ((view_by k).dues n)
+      by_test false = tt
+  all_keyed (e ∷ past) = all_keyed past
+
+  abbrev IsNear : LinkId → Readied → Type 0
+  IsNear link r = is_near k link r ≡ true
+
+  best_near : (w : Waiter) (one : Idle) → IsKeyed w → IsBest w.key one → IsNear one.link (as_readied w)
+  best_near w one keyed is =
+      let parts = and_parts (is_hostgroup one.key.hostgroup w.key.hostgroup) _ is.fits in
+      let accounts = and_parts (is_account one.key.account w.key.account) _ parts.1 in
+      ap (λ (o : Option LinkKey). option_map_or (λ (key : LinkKey). is_hostgroup key.hostgroup w.name.hostgroup && is_account key.account ((setup_by k).accounts w.name.client)) o false) is.idle.keyed
+      ∙ and_from _ _
+      (ap (is_hostgroup is.idle.key.hostgroup) (sym keyed.0) ∙ ap (λ (x : policy.Key). is_hostgroup x.hostgroup w.key.hostgroup) (sym is.idle.same) ∙ parts.0)
+      (ap (is_account is.idle.key.account) (sym keyed.1) ∙ ap (λ (x : policy.Key). is_account x.account w.key.account) (sym is.idle.same) ∙ accounts.0)
+
+  lends_near : (rest : Rest) (is_served : SessionName → Bool) (ws : List Waiter) (lends : Lends) → AllKeyed ws → AllIdle rest.idle → next_lend rest is_served ws ≡ Some lends
+      → IsNear lends.link lends.to
+  lends_near rest is_served [] lends all idle is = no_some lends is
+  lends_near rest is_served (w ∷ ws) lends all idle is = by_served (is_served w.name) is (lends_near rest is_served ws lends all.1 idle) where
+    by_best : (o : Option Idle) → best rest w.key w.due.place rest.idle ≡ o
+        → option_map_or (λ (one : Idle). Some (record { link = one.link; to = record { name = w.name; due = w.due } })) o (next_lend rest is_served ws) ≡ Some lends
+        → (next_lend rest is_served ws ≡ Some lends → IsNear lends.link lends.to) → IsNear lends.link lends.to
+    by_best None at is later = later is
+    by_best (Some one) at is later =
+        subst (λ (x : Lends). IsNear x.link x.to) (some_of _ lends is) (best_near w one all.0 (best_so rest w.key w.due.place rest.idle one idle at))
+
+    by_served : (b : Bool) → (if b then next_lend rest is_served ws
+        else option_map_or (λ (one : Idle). Some (record { link = one.link; to = record { name = w.name; due = w.due } })) (best rest w.key w.due.place rest.idle) (next_lend rest is_served ws)) ≡ Some lends
+        → (next_lend rest is_served ws ≡ Some lends → IsNear lends.link lends.to) → IsNear lends.link lends.to
+    by_served true is later = later is
+    by_served false is later = by_best (best rest w.key w.due.place rest.idle) refl is later
+
+  abbrev AreNear : (LinkId → Option Readied) → Type 0
+  AreNear readied = (link : LinkId) (r : Readied) → readied link ≡ Some r → IsNear link r
+
+  kept_near : (rest : Rest) → AreNear (kept k rest)
+  kept_near rest link r is = by_readied (k.readied link) is where
+    by_test : (one : Readied) (b : Bool) → is_near k link one ≡ b → (if b then Some one else None) ≡ Some r → IsNear link r
+    by_test one true near is = subst (IsNear link) (some_of one r is) near
+    by_test one false near is = no_some r is
+
+    by_near : (o : Option Readied) → option_and_then (if_near k link) o ≡ Some r → IsNear link r
+    by_near None is = no_some r is
+    by_near (Some one) is = by_test one (is_near k link one) refl is
+
+    by_vacant : (b : Bool) (was : Readied) → (if b then option_and_then (if_near k link) (still_waits rest was) else None) ≡ Some r → IsNear link r
+    by_vacant true was is = by_near (still_waits rest was) is
+    by_vacant false was is = no_some r is
+
+    by_readied : (o : Option Readied) → option_and_then (λ was. if is_vacant k.terms k.log k.now link then option_and_then (if_near k link) (still_waits rest was) else None) o ≡ Some r → IsNear link r
+    by_readied None is = no_some r is
+    by_readied (Some was) is = by_vacant (is_vacant k.terms k.log k.now link) was is
+
+  lent_near : (lends : Lends) (readied : LinkId → Option Readied) → IsNear lends.link lends.to → AreNear readied → AreNear (lent lends readied)
+  lent_near lends readied near are link r is = by_test (is_link_id lends.link link) refl is where
+    by_test : (b : Bool) → is_link_id lends.link link ≡ b → (if b then Some lends.to else readied link) ≡ Some r → IsNear link r
+    by_test true same is = subst (IsNear link) (some_of lends.to r is) (subst (λ l. IsNear l lends.to) (link_of lends.link link same) near)
+    by_test false same is = are link r is
+
+  lending_near : (most : ℕ) (links : List LinkId) (rest : Rest) → AllKeyed rest.waiters → AllIdle rest.idle → AreNear rest.readied → AreNear (lending most links rest).readied
+  lending_near zero links rest all idle are = are
+  lending_near (suc most) links rest all idle are = by_next (next_lend rest (is_readied_for links rest.readied) rest.waiters) refl (lending_near most links) where
+    by_next : (o : Option Lends) → next_lend rest (is_readied_for links rest.readied) rest.waiters ≡ o
+        → ((other : Rest) → AllKeyed other.waiters → AllIdle other.idle → AreNear other.readied → AreNear (lending most links other).readied)
+        → AreNear (option_map_or (λ lends. lending most links (record rest { readied = lent lends rest.readied })) o rest).readied
+    by_next None is later = are
+    by_next (Some lends) is later =
+        later (record rest { readied = lent lends rest.readied }) all idle
+        (lent_near lends rest.readied (lends_near rest (is_readied_for links rest.readied) rest.waiters lends all idle is) are)
+
+  pub readied_near : (link : LinkId) (r : Readied) → readied_now k link ≡ Some r → is_near k link r ≡ true
+  readied_near link r is =
+      let rest : Rest = rest_of k (λ l. None) in
+      lending_near (length rest.waiters) k.now.tale.links (record rest { readied = kept k rest }) (all_keyed k.now.tale.story) (all_idle k.now.tale.links) (kept_near rest) link r is
