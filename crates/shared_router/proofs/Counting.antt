@@ -1,127 +1,190 @@
--- Clients that were ended are some of those that came.
-use Rattle.std.specs.Prelude.{◌≡◌, ◌+◌, ◌<◌, ◌≤◌, ◌⊎◌, ℕ, zero, suc, Bool, true, false, ◌&&◌, ◌||◌, fold, length, map, slice_get, if◌then◌else◌, List, [], ◌∷◌, ◌++◌, Option, Some, None}
-use Rattle.std.specs.List.{list_any}
-use Rattle.std.specs.Option.{option_map_or}
-use Rattle.std.proofs.Common.{refl, sym, ap, ◌∙◌, subst, arith, inl, inr, length-append}
-use Rattle.std.proofs.lemmas.Bool.{ne_eqb, cases_order}
-use Rattle.mx_wire.specs.Log.{Log}
-use Rattle.mx_wire.specs.declared.entry.Entry.{Entry}
-use Rattle.private_model.specs.Names.{ClientNo}
-use Rattle.private_model.specs.Story.{is_client, is_link_id}
-use Rattle.private_model.specs.View.{Setup, View}
-use Rattle.log_story.specs.Owed.{messages}
-use Rattle.log_story.specs.Tale.{Client, Tale, client_gets, client_hears, new_client, view_of}
-use Rattle.tale_world.specs.Decided.{Decided, plan_of}
-use Rattle.tale_world.specs.Deciding.{Deciding, World}
-use Rattle.tale_world.specs.World.{are_taken, decided_last, decided_next, ended_now, goes_on, is_called, is_counted, is_ended, is_told, next_of, taken_once, with_taken, world_step}
-use Rattle.shared_router.specs.Ends.{ending_of, goes}
-use Rattle.shared_router.specs.Fixed.{Fixed, setup_of}
-use Rattle.shared_router.specs.Judged.{heard}
-use Rattle.shared_router.specs.More.{More}
-use Rattle.shared_router.specs.Shared.{shared, world_at}
-use Rattle.shared_router.proofs.Looked.{Seats, anybody, ending-clients, freeing-clients, if-anybody, taken-clients, told-seats}
-use Rattle.shared_router.proofs.Single.{Numbered, counts_at, going-counts, step-counts}
-use Rattle.shared_router.proofs.Parting as parting
-use Rattle.shared_router.proofs.Parting.{next}
-use Rattle.shared_router.proofs.Since.{going-on}
-use Rattle.shared_router.proofs.Worded.{ended-same-ends, going-same-ends}
+-- What the policy counts is what the promise counts.
+use Rattle.std.specs.Prelude.{◌≡◌, ◌+◌, ℕ, zero, suc, Bool, true, false, ◌&&◌, bytes_eq, cond, count_by, filter, fold, length, nat_eq, if◌then◌else◌, List, [], ◌∷◌, ◌++◌, Option, Some, None}
+use Rattle.std.specs.List.{cons_option, filter_map}
+use Rattle.std.specs.Option.{option_map, option_map_or}
+use Rattle.std.proofs.Common.{refl, sym, ap, ◌∙◌, arith, length-append}
+use Rattle.mx_base.specs.declared.names.LinkId.{LinkId}
+use Rattle.private_model.specs.Names.{ClientNo, Hostgroup, MessageName, SessionName}
+use Rattle.private_model.specs.Story.{BecameDue, Broke, Dropped, Due, Freed, Gone, Heard, Left, LoggedIn, Mirrored, Ran, Sent, Story, Unprepared, is_hostgroup}
+use Rattle.server_rule.specs.declared.session.Capabilities.{Capabilities}
+use Rattle.tale_world.specs.Policy as policy
+use Rattle.tale_world.specs.Policy.{Idle, Lends, Opening, Rest, Waiter, next_lend}
+use Rattle.tale_world.specs.Tests as tests
+use Rattle.tale_world.specs.Tests.{is_flag}
+use Rattle.router_promises.specs.Keys as keys
+use Rattle.router_promises.specs.Keys.{LinkKey, how_many, is_free, is_of_key, is_opening, is_same, is_waiting, key_for, key_of, waiters_in, waiting}
+use Rattle.router_promises.specs.Now.{wire_now}
+use Rattle.shared_router.specs.Known.{Known, link_by, present_by, setup_by, view_by}
+use Rattle.shared_router.specs.Lends.{as_key, idle_at, is_readied_for, kept, lending, lent, opening_at, rest_of, settled, waiter_of, waiters_by}
+use Rattle.shared_router.proofs.Later.{adds}
 
--- at least so many
+abbrev pub from_key : policy.Key → LinkKey
+from_key key = record { hostgroup = key.hostgroup; account = key.account; bare = key.bare }
 
-abbrev AtLeast : ℕ → List Client → Type 0
-AtLeast n cs = n ≤ length cs
+flag_same : (a b : Bool) → is_flag a b ≡ is_same a b
+flag_same true true = refl
+flag_same true false = refl
+flag_same false true = refl
+flag_same false false = refl
 
-map-length : (f : Client → Client) (cs : List Client) → length (map f cs) ≡ length cs
-map-length f [] = refl
-map-length f (x ∷ cs) = ap (λ n. suc n) (map-length f cs)
+flags_same : (a b : Capabilities) → tests.are_flags a b ≡ keys.are_same a b
+flags_same a b =
+    ap (λ t. t && (is_flag a.multi_results b.multi_results && is_flag a.ignore_space b.ignore_space)) (flag_same a.found_rows b.found_rows)
+    ∙ ap (λ t. is_same a.found_rows b.found_rows && (t && is_flag a.ignore_space b.ignore_space)) (flag_same a.multi_results b.multi_results)
+    ∙ ap (λ t. is_same a.found_rows b.found_rows && (is_same a.multi_results b.multi_results && t)) (flag_same a.ignore_space b.ignore_space)
 
-least-seats : (n : ℕ) → Seats anybody (AtLeast n)
-least-seats n = record {
-  comes = λ cs link salt comes all. (let long : length (cs ++ new_client (length cs + 1) link salt ∷ []) ≡ length cs + 1 = length-append cs (new_client (length cs + 1) link salt ∷ []) in omega (arith, all, long));
-  hears = λ cs link bytes all. (let long = map-length (client_hears link bytes) cs in omega (arith, all, long));
-  gets = λ cs link count all. (let long = map-length (client_gets link count) cs in omega (arith, all, long));
-}
+pub key_is : (a : LinkKey) (key : policy.Key) → policy.is_key (as_key a) key ≡ keys.is_key a (from_key key)
+key_is a key =
+    let group : Bool = is_hostgroup a.hostgroup key.hostgroup in
+    ap (λ t. group && ((bytes_eq a.account.user key.account.user && t) && is_flag a.bare key.bare)) (flags_same a.account.capabilities key.account.capabilities)
+    ∙ ap (λ t. group && (keys.is_account a.account key.account && t)) (flag_same a.bare key.bare)
 
--- nobody has a number beyond
-beyond : (c : ClientNo) (g : Client → Bool) (from : ℕ) (xs : List Client) → Numbered from xs → from + length xs ≤ c.0
-    → list_any (λ (x : Client). is_client x.number c && g x) xs ≡ false
-beyond c g from [] all far = refl
-beyond c g from (x ∷ xs) all far =
-    let apart : is_client x.number c ≡ false = ne_eqb x.number.0 c.0 (λ is. omega (arith, is, all.0, far)) in
-    ap (λ b. (b && g x) || list_any (λ (x : Client). is_client x.number c && g x) xs) apart ∙ beyond c g (suc from) xs all.1 (omega (arith, far))
+-- Lists.
 
-ended-old : (moment : ℕ) (ends : Bool) (old : Option ℕ) (at : ℕ) → ended_now moment ends old ≡ Some at → (old ≡ Some at) ⊎ (ends ≡ true)
-ended-old moment true old at is = inr refl
-ended-old moment false old at is = inl is
+len_if : {A : Type 0} (b : Bool) (x : A) (xs : List A) → length (cond b (x ∷ xs) xs) ≡ cond b 1 0 + length xs
+len_if true x xs = omega arith
+len_if false x xs = omega arith
 
-isnt : {A : Type 0} → false ≡ true → A
-isnt is = absurd (cc)
+len_option : {B : Type 0} (t : B → Bool) (o : Option B) (ys : List B) → length (filter t (cons_option o ys)) ≡ cond (option_map_or t o false) 1 0 + length (filter t ys)
+len_option t None ys = omega arith
+len_option t (Some y) ys = len_if (t y) y (filter t ys)
 
-module _ (fixed : Fixed) where
-  abbrev setup : Setup
-  setup = setup_of fixed
+counts_from : {B : Type 0} (t : B → Bool) (f : LinkId → Option B) (g : LinkId → Bool) → ((x : LinkId) → option_map_or t (f x) false ≡ g x) → (xs : List LinkId) (n : ℕ)
+    → n + length (filter t (filter_map f xs)) ≡ fold (adds g) n xs
+counts_from t f g same [] n = omega arith
+counts_from t f g same (x ∷ xs) n =
+    let rest : ℕ = length (filter t (filter_map f xs)) in
+    let head : length (filter t (cons_option (f x) (filter_map f xs))) ≡ cond (g x) 1 0 + rest =
+    len_option t (f x) (filter_map f xs) ∙ ap (λ b. cond b 1 0 + rest) (same x) in
+    let moved : n + length (filter t (cons_option (f x) (filter_map f xs))) ≡ (n + cond (g x) 1 0) + rest = omega (arith, head) in
+    moved ∙ counts_from t f g same xs (n + cond (g x) 1 0)
 
-  abbrev by : Deciding More
-  by = shared fixed
+counts_are : {B : Type 0} (t : B → Bool) (f : LinkId → Option B) (g : LinkId → Bool) → ((x : LinkId) → option_map_or t (f x) false ≡ g x) → (xs : List LinkId)
+    → length (filter t (filter_map f xs)) ≡ count_by g xs
+counts_are t f g same xs =
+    let plus : 0 + length (filter t (filter_map f xs)) ≡ length (filter t (filter_map f xs)) = omega arith in sym plus ∙ counts_from t f g same xs 0
 
-  taking-least : (n most : ℕ) (client : Client) (w : World More) → AtLeast n w.tale.clients → AtLeast n (are_taken most setup by client w).tale.clients
-  taking-least n zero client w all = all
-  taking-least n (suc most) client w all = by_found (taken_once setup by w client) refl (taking-least n most (next_of client)) where
-    after : Option Tale → World More
-    after found = option_map_or (λ tale. are_taken most setup by (next_of client) (with_taken setup by w client tale)) found (record w { decided = decided_next setup by w client })
+len_on : {A : Type 0} (t : A → Bool) (a b : List A) → length (filter t (a ++ b)) ≡ length (filter t a) + length (filter t b)
+len_on t [] b = omega arith
+len_on t (x ∷ a) b =
+    let one = len_if (t x) x (filter t (a ++ b)) in
+    let two = len_if (t x) x (filter t a) in
+    let more = len_on t a b in
+    let all : length (cond (t x) (x ∷ filter t (a ++ b)) (filter t (a ++ b))) ≡ length (cond (t x) (x ∷ filter t a) (filter t a)) + length (filter t b) =
+    omega (arith, one, two, more) in all
 
-    by_found : (found : Option Tale) → taken_once setup by w client ≡ found
-        → ((v : World More) → AtLeast n v.tale.clients → AtLeast n (are_taken most setup by (next_of client) v).tale.clients) → AtLeast n (after found).tale.clients
-    by_found None is others = all
-    by_found (Some tale) is others =
-        let d = decided_next setup by w client in
-        let came = taken-clients setup (plan_of d) client (slice_get (messages (plan_of d) client) client.taken) w.tale tale is in
-        let same : length tale.clients ≡ length w.tale.clients = ap (λ cs. length cs) came.0 in
-        let long = map-length (λ (other : Client). if is_client other.number client.number then next_of client else other) tale.clients in
-        others (with_taken setup by w client tale) (omega (arith, all, same, long))
+and_true : (b : Bool) → b ≡ (b && true)
+and_true true = refl
+and_true false = refl
 
-  going-least : (n : ℕ) (view : View) (e : Entry) (xs : List Client) (w : World More) → AtLeast n w.tale.clients → AtLeast n (fold (goes_on setup by view e) w xs).tale.clients
-  going-least n view e [] w all = all
-  going-least n view e (x ∷ xs) w all = going-least n view e xs (goes_on setup by view e w x) (by_test (is_called v.decided w.tale.moment view e x)) where
-    v : World More
-    v = record w { decided = decided_last by w x }
+and_false : (b : Bool) → false ≡ (b && false)
+and_false true = refl
+and_false false = refl
 
-    by_test : (b : Bool) → AtLeast n (if b then are_taken (length (messages (plan_of v.decided) x)) setup by x v else v).tale.clients
-    by_test true = taking-least n (length (messages (plan_of v.decided) x)) x v all
-    by_test false = all
+module _ (k : Known) (key : policy.Key) where
+  -- links
 
-  grown : (w : World More) (e : Entry) → length w.tale.clients ≤ length (going-on fixed w e).tale.clients
-  grown w e =
-      let n = length w.tale.clients in
-      let a : World More = is_told setup by w e in
-      let b : World More = is_counted by a e in
-      going-least n (view_of setup w.tale) e (heard fixed w e).tale.clients (heard fixed w e)
-      (subst (AtLeast n) (sym (freeing-clients fixed b.tale.links b)) (told-seats anybody (AtLeast n) (least-seats n) setup (plan_of a.decided) w.tale e (if-anybody e) (omega arith)))
+  of_link : {B : Type 0} (make : LinkKey → B) (of : B → policy.Key) → ((a : LinkKey) → of (make a) ≡ as_key a) → (b : Bool) (o : Option LinkKey)
+      → option_map_or (λ i. policy.is_key (of i) key) (if b then option_map make o else None) false
+      ≡ (option_map_or (λ a. keys.is_key a (from_key key)) o false && b)
+  of_link make of is true None = refl
+  of_link make of is true (Some a) = ap (λ c. policy.is_key c key) (is a) ∙ key_is a key ∙ and_true (keys.is_key a (from_key key))
+  of_link make of is false None = refl
+  of_link make of is false (Some a) = and_false (keys.is_key a (from_key key))
 
-  abbrev pub AreSomeOf : World More → Type 0
-  AreSomeOf w = (c : ClientNo) (n : ℕ) → w.decided.ends c ≡ Some n → c.0 ≤ length w.tale.clients
+  idle_is : (link : LinkId) → option_map_or (λ (i : Idle). policy.is_key i.key key) (idle_at k link) false ≡ (is_of_key k.terms k.now (from_key key) link && is_free k.terms k.log k.now link)
+  idle_is link = of_link
+      (λ a. record { link = link; key = as_key a; told = (link_by k link).told; id = (link_by k link).id; since = (k.now.uses link).used })
+      (λ (i : Idle). i.key) (λ a. refl) (is_free k.terms k.log k.now link) (key_of k.terms k.now link)
 
-  step-some : (w : World More) (e : Entry) → Numbered 1 w.tale.clients → AreSomeOf w → AreSomeOf (world_step setup by w e)
-  step-some w e counted some c n is =
-      let d : World More = going-on fixed w e in
-      let f : World More = is_ended by d e in
-      let same : length (world_step setup by w e).tale.clients ≡ length d.tale.clients =
-      ap (λ cs. length cs) (freeing-clients fixed f.tale.links f ∙ ending-clients (plan_of f.decided) d.tale.clients d.tale) in
-      let more = grown w e in
-      elim (ended-old d.tale.moment (by.ends d e c) (d.decided.ends c) n (ap (λ g. g c) (sym (ended-same-ends fixed w e).ends) ∙ is)) [
-        | inl old ↦ (let early = some c n (ap (λ g. g c) (sym (going-same-ends fixed w e).ends) ∙ old) in omega (arith, early, more, same))
-        | inr new ↦ elim (cases_order c.0 (length d.tale.clients)) [
-            | inl equal ↦ omega (arith, equal, same)
-            | inr apart ↦ elim apart [
-                | inl below ↦ omega (arith, below, same)
-                | inr above ↦ isnt (sym (beyond c (goes (ending_of fixed d e)) 1 d.tale.clients (going-counts fixed w e counted) (omega (arith, above))) ∙ new)
-              ]
-          ]
-      ]
+  opening_is : (link : LinkId)
+      → option_map_or (λ (i : Opening). policy.is_key i.key key) (opening_at k link) false ≡ (is_of_key k.terms k.now (from_key key) link && is_opening k.terms k.log k.now link)
+  opening_is link = of_link (λ a. record { server = (wire_now k.now link).server; key = as_key a }) (λ (i : Opening). i.key) (λ a. refl)
+      (is_opening k.terms k.log k.now link) (key_of k.terms k.now link)
 
-  log-some : (log : Log) (w : World More) → Numbered 1 w.tale.clients → AreSomeOf w → AreSomeOf (fold (next fixed) w log)
-  log-some [] w counted some = some
-  log-some (e ∷ log) w counted some = log-some log (next fixed w e) (step-counts fixed w e counted) (step-some w e counted some)
+  free_is : length (filter (λ (i : Idle). policy.is_key i.key key) (filter_map (idle_at k) k.now.tale.links)) ≡ how_many is_free k.terms k.log k.now (from_key key)
+  free_is = counts_are (λ (i : Idle). policy.is_key i.key key) (idle_at k) (λ link. is_of_key k.terms k.now (from_key key) link && is_free k.terms k.log k.now link) idle_is k.now.tale.links
 
-  pub some_at : (log : Log) → AreSomeOf (world_at fixed log)
-  some_at log = log-some log (parting.first fixed) tt (λ c n is. absurd (cc))
+  opens_is : length (filter (λ (i : Opening). policy.is_key i.key key) (filter_map (opening_at k) k.now.tale.links)) ≡ how_many is_opening k.terms k.log k.now (from_key key)
+  opens_is = counts_are (λ (i : Opening). policy.is_key i.key key) (opening_at k) (λ link. is_of_key k.terms k.now (from_key key) link && is_opening k.terms k.log k.now link) opening_is k.now.tale.links
+
+  -- statements
+
+  abbrev is_its : Waiter → Bool
+  is_its w = policy.is_key w.key key
+
+  len_key : {A B : Type 0} (c d : Bool) (x : A) (y : B) → c ≡ d → length (cond c (x ∷ []) []) ≡ length (if d then y ∷ [] else [])
+  len_key true true x y same = refl
+  len_key false false x y same = refl
+  len_key true false x y same = absurd (cc)
+  len_key false true x y same = absurd (cc)
+
+  last_is : (client : ClientNo) (hostgroup : Hostgroup) (ordinal : ℕ) (b : Bool) (due : Option Due)
+      → (b ≡ true → option_map_or (λ (d : Due). nat_eq d.ordinal ordinal) due false ≡ true)
+      → length (filter is_its (if b then option_map_or (λ d. waiter_of k (present_by k client hostgroup) d ∷ []) due [] else []))
+      ≡ length {A = MessageName} (if b && keys.is_key (key_for (setup_by k) k.now client hostgroup) (from_key key) then record { client = client; ordinal = ordinal } ∷ [] else [])
+  last_is client hostgroup ordinal false due has = refl
+  last_is client hostgroup ordinal true None has = absurd (let never : false ≡ true = has refl in cc)
+  last_is client hostgroup ordinal true (Some due) has =
+      len_key (policy.is_key (as_key (key_for (setup_by k) k.now client hostgroup)) key) (keys.is_key (key_for (setup_by k) k.now client hostgroup) (from_key key))
+      (waiter_of k (present_by k client hostgroup) due) (record { client = client; ordinal = ordinal }) (key_is (key_for (setup_by k) k.now client hostgroup) key)
+
+  waits_then : (a b : Bool) → (a && b) ≡ true → b ≡ true
+  waits_then true b is = is
+  waits_then false b is = absurd (cc)
+
+  waiters_are : (story : Story) → length (filter is_its (waiters_by k story)) ≡ length (waiters_in k.terms k.now (from_key key) story)
+  waiters_are [] = refl
+  waiters_are (BecameDue client hostgroup ordinal at command multiplex ∷ past) =
+      let n : SessionName = present_by k client hostgroup in
+      let b : Bool = is_waiting k.terms k.now client hostgroup ordinal in
+      let mine : List Waiter = if b then option_map_or (λ d. waiter_of k n d ∷ []) ((view_by k).dues n) [] else [] in
+      let its : List MessageName = if b && keys.is_key (key_for (setup_by k) k.now client hostgroup) (from_key key) then record { client = client; ordinal = ordinal } ∷ [] else [] in
+      let one : length (filter is_its (waiters_by k past ++ mine)) ≡ length (filter is_its (waiters_by k past)) + length (filter is_its mine) = len_on is_its (waiters_by k past) mine in
+      let two : length (waiters_in k.terms k.now (from_key key) past ++ its) ≡ length (waiters_in k.terms k.now (from_key key) past) + length its = length-append (waiters_in k.terms k.now (from_key key) past) its in
+      let before : length (filter is_its (waiters_by k past)) ≡ length (waiters_in k.terms k.now (from_key key) past) = waiters_are past in
+      let last : length (filter is_its mine) ≡ length its = last_is client hostgroup ordinal b ((view_by k).dues n) (λ is. waits_then _ _ is) in
+      one ∙ ap (λ m. m + length (filter is_its mine)) before ∙ ap (λ m. length (waiters_in k.terms k.now (from_key key) past) + m) last ∙ sym two
+  waiters_are (LoggedIn link server account ∷ past) = waiters_are past
+  waiters_are (Sent link question ∷ past) = waiters_are past
+  waiters_are (Ran link ∷ past) = waiters_are past
+  waiters_are (Heard link reply ∷ past) = waiters_are past
+  waiters_are (Freed link ∷ past) = waiters_are past
+  waiters_are (Unprepared link number ∷ past) = waiters_are past
+  waiters_are (Dropped link ∷ past) = waiters_are past
+  waiters_are (Gone link ∷ past) = waiters_are past
+  waiters_are (Left client ∷ past) = waiters_are past
+  waiters_are (Broke ∷ past) = waiters_are past
+  waiters_are (Mirrored client job ∷ past) = waiters_are past
+
+-- Lending changes for whom links are readied, and nothing else.
+
+pub record IsLending (old new : Rest) : Type 0 where
+  pub waiters : new.waiters ≡ old.waiters
+  pub idle : new.idle ≡ old.idle
+  pub opening : new.opening ≡ old.opening
+
+lending_so : (most : ℕ) (links : List LinkId) (rest : Rest) → IsLending rest (lending most links rest)
+lending_so zero links rest = record { waiters = refl; idle = refl; opening = refl }
+lending_so (suc most) links rest = by_lends (next_lend rest (is_readied_for links rest.readied) rest.waiters) (lending_so most links) where
+  by_lends : (found : Option Lends) → ((r : Rest) → IsLending r (lending most links r))
+      → IsLending rest (option_map_or (λ lends. lending most links (record rest { readied = lent lends rest.readied })) found rest)
+  by_lends None others = record { waiters = refl; idle = refl; opening = refl }
+  by_lends (Some lends) others =
+      let on = others (record rest { readied = lent lends rest.readied }) in record { waiters = on.waiters; idle = on.idle; opening = on.opening }
+
+module _ (k : Known) where
+  abbrev first_rest : Rest
+  first_rest = let rest = rest_of k (λ link. None) in record rest { readied = kept k rest }
+
+  pub settled_so : IsLending first_rest (settled k)
+  settled_so = lending_so (length first_rest.waiters) k.now.tale.links first_rest
+
+  pub settled_free : (key : policy.Key) → policy.free (settled k) key ≡ how_many is_free k.terms k.log k.now (from_key key)
+  settled_free key = ap (λ xs. length (filter (λ (i : Idle). policy.is_key i.key key) xs)) settled_so.idle ∙ free_is k key
+
+  pub settled_opening : (key : policy.Key) → policy.opening (settled k) key ≡ how_many is_opening k.terms k.log k.now (from_key key)
+  settled_opening key = ap (λ xs. length (filter (λ (i : Opening). policy.is_key i.key key) xs)) settled_so.opening ∙ opens_is k key
+
+  pub settled_unsent : (key : policy.Key) → policy.unsent (settled k) key ≡ waiting k.terms k.now (from_key key)
+  settled_unsent key = ap (λ xs. length (filter (λ (w : Waiter). policy.is_key w.key key) xs)) settled_so.waiters ∙ waiters_are k key k.now.tale.story

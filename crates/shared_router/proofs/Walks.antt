@@ -54,7 +54,7 @@ pub record Keeping (setup : Setup) : Type 1 where
   pub more : (clients : List Client) (past : Story) (e : Happening) → MayTell (view_after setup past) e → holds clients past → holds clients (e ∷ past)
   pub moves : (clients : List Client) (past : Story) (f : Client → Client) → Stays f → holds clients past → holds (map f clients) past
 
-hears_stays : (link : LinkId) (bytes : List ℕ) → Stays (client_hears link bytes)
+pub hears_stays : (link : LinkId) (bytes : List ℕ) → Stays (client_hears link bytes)
 hears_stays link bytes = record { number = λ c. by_number c (is_link_id c.link link); taken = λ c. by_taken c (is_link_id c.link link) } where
   by_number : (c : Client) (b : Bool) → (if b then record c { read = c.read ++ bytes } else c).number ≡ c.number
   by_number c true = refl
@@ -64,7 +64,7 @@ hears_stays link bytes = record { number = λ c. by_number c (is_link_id c.link 
   by_taken c true = refl
   by_taken c false = refl
 
-gets_stays : (link : LinkId) (count : ℕ) → Stays (client_gets link count)
+pub gets_stays : (link : LinkId) (count : ℕ) → Stays (client_gets link count)
 gets_stays link count = record { number = λ c. by_number c (is_link_id c.link link); taken = λ c. by_taken c (is_link_id c.link link) } where
   by_number : (c : Client) (b : Bool) → (if b then record c { written = c.written + count } else c).number ≡ c.number
   by_number c true = refl

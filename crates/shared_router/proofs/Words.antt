@@ -27,7 +27,7 @@ use Rattle.shared_router.specs.Judged.{WordsFor}
 use Rattle.shared_router.specs.More.{More}
 use Rattle.shared_router.specs.Shared.{final_terms, world_at}
 use Rattle.shared_router.proofs.Coming.{IsFirst, accepted-idle}
-use Rattle.shared_router.proofs.Counting.{some_at}
+use Rattle.shared_router.proofs.Among.{some_at}
 use Rattle.shared_router.proofs.Ended as ended
 use Rattle.shared_router.proofs.Looked.{Each, IsLooked, each-all, each-so, going-looks, looks_at}
 use Rattle.shared_router.proofs.Musts.{IsEnding, ending_world, last_plan, served-same}

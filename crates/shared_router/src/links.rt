@@ -1,0 +1,32 @@
+// Links to servers: what is known of them, for whom they are opened, and why they are closed.
+ghost use Rattle.std.specs.Prelude.{◌≡◌, ◌++◌};
+ghost use Rattle.mx_wire.specs.Log.{Log};
+ghost use Rattle.mx_wire.specs.Moments.{AllLawful};
+ghost use Rattle.router_promises.specs.Closes.{ClosesSo};
+ghost use Rattle.router_promises.specs.Now.{now_at};
+ghost use Rattle.router_promises.specs.Opens.{OpensSo};
+ghost use Rattle.router_promises.specs.Terms.{AreWhoTheySay};
+ghost use Rattle.shared_router.specs.Fixed.{Fixed, IsNumbered};
+ghost use Rattle.shared_router.specs.More.{now_of};
+ghost use Rattle.shared_router.specs.Ours.{IsOurLog};
+ghost use Rattle.shared_router.specs.Shared.{final_terms, world_at};
+
+/// By what was decided in the end, all that is known at a moment of the log is what the world knows then: the clock, the tale, servers'
+/// states, clients' flags, since when messages are taken up, and how links were used.
+pub fn knows_now()
+    ensures { (fixed : Fixed) (before after : Log) → IsNumbered fixed
+        → now_at (final_terms fixed (before ++ after)) before ≡ now_of fixed (world_at fixed before) }
+{}
+
+/// Where clients are who they say, links are opened for statements that wait, as their clients: at servers with room, while fewer links of
+/// the key are free or opening than statements wait.
+pub fn opens_for_those_who_wait()
+    ensures { (fixed : Fixed) (log : Log) → IsNumbered fixed → IsOurLog fixed log
+        → AreWhoTheySay (final_terms fixed log) log → AllLawful (OpensSo (final_terms fixed log)) log }
+{}
+
+/// Links to servers are closed for a cause.
+pub fn closes_for_a_cause()
+    ensures { (fixed : Fixed) (log : Log) → IsNumbered fixed → IsOurLog fixed log
+        → AllLawful (ClosesSo (final_terms fixed log)) log }
+{}
