@@ -1,5 +1,5 @@
 -- Clients that were ended are some of those that came.
-use Rattle.std.specs.Prelude.{◌≡◌, ◌+◌, ◌<◌, ◌≤◌, ◌⊎◌, ℕ, zero, suc, Bool, true, false, ◌&&◌, ◌||◌, fold, length, map, slice_get, if◌then◌else◌, List, [], ◌∷◌, ◌++◌, Option, Some, None}
+use Rattle.std.specs.Prelude.{◌≡◌, ◌+◌, ◌≤◌, ◌⊎◌, ℕ, zero, suc, Bool, true, false, ◌&&◌, ◌||◌, fold, length, map, slice_get, if◌then◌else◌, List, [], ◌∷◌, ◌++◌, Option, Some, None}
 use Rattle.std.specs.List.{list_any}
 use Rattle.std.specs.Option.{option_map_or}
 use Rattle.std.proofs.Common.{refl, sym, ap, ◌∙◌, subst, arith, inl, inr, length-append}
@@ -7,11 +7,11 @@ use Rattle.std.proofs.lemmas.Bool.{ne_eqb, cases_order}
 use Rattle.mx_wire.specs.Log.{Log}
 use Rattle.mx_wire.specs.declared.entry.Entry.{Entry}
 use Rattle.private_model.specs.Names.{ClientNo}
-use Rattle.private_model.specs.Story.{is_client, is_link_id}
+use Rattle.private_model.specs.Story.{is_client}
 use Rattle.private_model.specs.View.{Setup, View}
 use Rattle.log_story.specs.Owed.{messages}
 use Rattle.log_story.specs.Tale.{Client, Tale, client_gets, client_hears, new_client, view_of}
-use Rattle.tale_world.specs.Decided.{Decided, plan_of}
+use Rattle.tale_world.specs.Decided.{plan_of}
 use Rattle.tale_world.specs.Deciding.{Deciding, World}
 use Rattle.tale_world.specs.World.{are_taken, decided_last, decided_next, ended_now, goes_on, is_called, is_counted, is_ended, is_told, next_of, taken_once, with_taken, world_step}
 use Rattle.shared_router.specs.Ends.{ending_of, goes}
@@ -20,7 +20,7 @@ use Rattle.shared_router.specs.Judged.{heard}
 use Rattle.shared_router.specs.More.{More}
 use Rattle.shared_router.specs.Shared.{shared, world_at}
 use Rattle.shared_router.proofs.Looked.{Seats, anybody, ending-clients, freeing-clients, if-anybody, taken-clients, told-seats}
-use Rattle.shared_router.proofs.Single.{Numbered, counts_at, going-counts, step-counts}
+use Rattle.shared_router.proofs.Single.{Numbered, going-counts, step-counts}
 use Rattle.shared_router.proofs.Parting as parting
 use Rattle.shared_router.proofs.Parting.{next}
 use Rattle.shared_router.proofs.Since.{going-on}
@@ -111,12 +111,12 @@ module _ (fixed : Fixed) where
       elim (ended-old d.tale.moment (by.ends d e c) (d.decided.ends c) n (ap (λ g. g c) (sym (ended-same-ends fixed w e).ends) ∙ is)) [
         | inl old ↦ (let early = some c n (ap (λ g. g c) (sym (going-same-ends fixed w e).ends) ∙ old) in omega (arith, early, more, same))
         | inr new ↦ elim (cases_order c.0 (length d.tale.clients)) [
-            | inl equal ↦ omega (arith, equal, same)
-            | inr apart ↦ elim apart [
-                | inl below ↦ omega (arith, below, same)
-                | inr above ↦ isnt (sym (beyond c (goes (ending_of fixed d e)) 1 d.tale.clients (going-counts fixed w e counted) (omega (arith, above))) ∙ new)
-              ]
+          | inl equal ↦ omega (arith, equal, same)
+          | inr apart ↦ elim apart [
+            | inl below ↦ omega (arith, below, same)
+            | inr above ↦ isnt (sym (beyond c (goes (ending_of fixed d e)) 1 d.tale.clients (going-counts fixed w e counted) (omega (arith, above))) ∙ new)
           ]
+        ]
       ]
 
   log-some : (log : Log) (w : World More) → Numbered 1 w.tale.clients → AreSomeOf w → AreSomeOf (fold (next fixed) w log)

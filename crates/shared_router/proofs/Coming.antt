@@ -1,5 +1,5 @@
 -- Nothing is taken up of a client at the entry at which it is accepted.
-use Rattle.std.specs.Prelude.{◌≡◌, ◌+◌, ℕ, zero, suc, Bool, true, false, ◌||◌, fold, length, map, slice_get, if◌then◌else◌, List, [], ◌∷◌, ◌++◌, Option, Some, None}
+use Rattle.std.specs.Prelude.{◌≡◌, ◌+◌, ℕ, zero, suc, Bool, true, false, ◌||◌, fold, length, slice_get, if◌then◌else◌, List, [], ◌∷◌, ◌++◌, Option, Some, None}
 use Rattle.std.specs.List.{list_any}
 use Rattle.std.specs.Option.{option_map_or}
 use Rattle.std.proofs.Common.{refl, sym, ap, ◌∙◌, subst, append_assoc, append-nil}
@@ -28,8 +28,7 @@ use Rattle.shared_router.specs.More.{More}
 use Rattle.shared_router.specs.Shared.{shared, world_at}
 use Rattle.shared_router.proofs.Ending.{any-on}
 use Rattle.shared_router.proofs.Looked.{Each, IfComes, Seats, each-last, each-map, each-so, ending-clients, freeing-clients, taken-clients, told-seats}
-use Rattle.shared_router.proofs.Parting as parting
-use Rattle.shared_router.proofs.Parting.{next, world_more}
+use Rattle.shared_router.proofs.Parting.{world_more}
 use Rattle.shared_router.proofs.Since.{going-on}
 
 -- Its link is named in the log.

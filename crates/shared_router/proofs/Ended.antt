@@ -1,8 +1,8 @@
 -- Clients end where they must, and for a cause.
-use Rattle.std.specs.Prelude.{◌≡◌, ◌+◌, ◌<◌, ◌≤◌, ◌⊎◌, ℕ, zero, suc, Bool, true, false, not, ◌&&◌, ◌||◌, All, fold, nat_eq, nat_le, if◌then◌else◌, unwrap_or, List, [], ◌∷◌, ◌++◌, Option, Some, None}
+use Rattle.std.specs.Prelude.{◌≡◌, ◌+◌, ◌<◌, ◌≤◌, ◌⊎◌, ℕ, suc, Bool, true, false, ◌&&◌, ◌||◌, All, fold, nat_eq, if◌then◌else◌, unwrap_or, [], ◌∷◌, ◌++◌, Option, Some, None}
 use Rattle.std.specs.Option.{option_and_then, option_map_or, option_or}
 use Rattle.std.proofs.Common.{refl, sym, ap, ◌∙◌, subst, append_assoc, arith, inl, inr}
-use Rattle.std.proofs.lemmas.Bool.{and_from, and_parts, eq-eqb, eqb-true, le-leb, or_cases, or_left, or_right}
+use Rattle.std.proofs.lemmas.Bool.{and_from, and_parts, eq-eqb, le-leb, or_cases, or_left, or_right}
 use Rattle.mx_wire.specs.Log.{Log}
 use Rattle.mx_wire.specs.Moments.{LawfulAfter}
 use Rattle.mx_wire.specs.declared.entry.Entry.{Entry}
@@ -11,9 +11,9 @@ use Rattle.private_model.specs.View.{Setup}
 use Rattle.log_story.specs.Owed.{name_of}
 use Rattle.log_story.specs.Plan.{LastWord, OwnAnswer, Plan, is_before, is_by_now}
 use Rattle.log_story.specs.Tale.{Client, Tale}
-use Rattle.tale_world.specs.Decided.{Agrees, Decided, plan_of}
+use Rattle.tale_world.specs.Decided.{Agrees, plan_of}
 use Rattle.tale_world.specs.Deciding.{Deciding, World}
-use Rattle.tale_world.specs.World.{ended_now, is_ended, world_step}
+use Rattle.tale_world.specs.World.{ended_now, is_ended}
 use Rattle.tale_world.proofs.Following.{step_even}
 use Rattle.router_promises.proofs.Saying.{now-tale}
 use Rattle.router_promises.specs.Closes.{was_starved}
@@ -21,22 +21,22 @@ use Rattle.router_promises.specs.Ends.{EndsRight, buffers_word, is_accepted, may
 use Rattle.router_promises.specs.Errors.{out_of_memory}
 use Rattle.router_promises.specs.Now as now
 use Rattle.router_promises.specs.Now.{Now, entry_now, now_at, while_ending}
-use Rattle.router_promises.specs.Terms.{Terms, plan_in, tale_at}
+use Rattle.router_promises.specs.Terms.{Terms, tale_at}
 use Rattle.router_promises.specs.Uses.{error_code}
-use Rattle.shared_router.specs.Ends.{Ending, away_word, client_at, ending_of, ends_by, goes, has_too_much, is_refused_now, is_starved, is_turned_away, may_say_starved, must_go, says_last, told_starved, was_told_starved, word_to, words_by}
+use Rattle.shared_router.specs.Ends.{Ending, away_word, client_at, ending_of, goes, has_too_much, is_refused_now, is_starved, is_turned_away, may_say_starved, must_go, says_last, told_starved, was_told_starved, word_to, words_by}
 use Rattle.shared_router.specs.Fixed.{Fixed, IsNumbered, setup_of}
 use Rattle.shared_router.specs.Judged.{EndsFor}
-use Rattle.shared_router.specs.More.{More, now_of}
+use Rattle.shared_router.specs.More.{More}
 use Rattle.shared_router.specs.Shared.{final_terms, shared, world_at}
 use Rattle.shared_router.proofs.Ending.{agrees-ended}
-use Rattle.shared_router.proofs.Looked.{Each, Has, IsLooked, each-all, each-so, ending-clients, freeing-clients, going-looks, looks_at}
-use Rattle.shared_router.proofs.Musts.{IsEnding, ending-so, ending_world, last_plan, must-same, served-same}
+use Rattle.shared_router.proofs.Looked.{IsLooked, each-all, each-so, ending-clients, freeing-clients, going-looks, looks_at}
+use Rattle.shared_router.proofs.Musts.{IsEnding, ending-so, ending_world, last_plan, must-same}
 use Rattle.shared_router.proofs.Single.{IsAlone, both-each, counts_at, each-alone, going-counts}
 use Rattle.shared_router.proofs.Parting as parting
 use Rattle.shared_router.proofs.Parting.{even_at, fold_more, next, tale_then, world_more}
 use Rattle.shared_router.proofs.Routing.{agrees_behind}
 use Rattle.shared_router.proofs.Since.{going-moment, log-since, step-moment}
-use Rattle.shared_router.proofs.Worded.{ended-same-ends, going-same-ends, parted_at, said-by, turned-goes}
+use Rattle.shared_router.proofs.Worded.{ended-same-ends, going-same-ends, parted_at, turned-goes}
 
 -- what is decided of an end
 ended-so : (moment : ℕ) (ends : Bool) (old : Option ℕ) (at : ℕ) → ended_now moment ends old ≡ Some at → (old ≡ Some at) ⊎ ((old ≡ None) × (ends ≡ true))
@@ -292,14 +292,14 @@ module _ (fixed : Fixed) (numbered : IsNumbered fixed) (before later : Log) (e :
               elim (or_cases (is_accepted e client) (was_told_starved x client || may_say_starved x client) parts.1) [
                 | inl accepted ↦ or_left (is_accepted e client) _ accepted
                 | inr other ↦ elim (or_cases (was_told_starved x client) (may_say_starved x client) other) [
-                    | inl told ↦ by-told (told-may told)
-                    | inr says ↦ (
-                        let both : starving ≡ true = and_from (is_refused_now x client) (may_say_starved x client) parts.0 says in
-                        by-last none (word-else (has_too_much x client) starving m refl refl (either-true (has_too_much x client) starving both))
+                  | inl told ↦ by-told (told-may told)
+                  | inr says ↦ (
+                      let both : starving ≡ true = and_from (is_refused_now x client) (may_say_starved x client) parts.0 says in
+                      by-last none (word-else (has_too_much x client) starving m refl refl (either-true (has_too_much x client) starving both))
                       )
-                  ]
+                ]
               ]
-            )
+              )
         ]
 
     may-right : plan.ends c ≡ Some (entry_now there) → (must_end t (before ++ e ∷ []) there (while_ending t there e) e client || may_end t there e client) ≡ true

@@ -1,5 +1,5 @@
 -- The world behind what is taken up at an entry, before clients are ended: by each plan that agrees with it, what is taken up and told is the same.
-use Rattle.std.specs.Prelude.{◌≡◌, ◌<◌, ◌≤◌, ℕ, zero, suc, Bool, true, false, not, ◌&&◌, ◌||◌, fold, length, slice_get, if◌then◌else◌, List, [], ◌∷◌, ◌++◌, Option, Some, None}
+use Rattle.std.specs.Prelude.{◌≡◌, ◌≤◌, ℕ, zero, suc, Bool, true, false, ◌&&◌, ◌||◌, fold, length, slice_get, if◌then◌else◌, List, [], ◌∷◌, ◌++◌, Option, Some, None}
 use Rattle.std.specs.List.{list_any}
 use Rattle.std.specs.Option.{option_map_or}
 use Rattle.std.proofs.Common.{refl, sym, ap, ◌∙◌, subst, arith}
@@ -7,16 +7,15 @@ use Rattle.mx_wire.specs.declared.entry.Entry.{Entry}
 use Rattle.packet_frame.specs.Packets.{Framed}
 use Rattle.private_model.specs.Story.{is_client}
 use Rattle.private_model.specs.View.{Setup, View}
-use Rattle.log_story.specs.Clients.{client_goes_on, clients_go_on, is_event_of}
-use Rattle.log_story.specs.Owed.{messages, name_of}
-use Rattle.log_story.specs.Plan.{Plan, gives_up, is_before}
+use Rattle.log_story.specs.Clients.{client_goes_on, clients_go_on}
+use Rattle.log_story.specs.Owed.{messages}
+use Rattle.log_story.specs.Plan.{Plan}
 use Rattle.log_story.specs.Servers.{links_are_freed}
 use Rattle.log_story.specs.Tale.{Client, Tale, counted, view_of, with_client}
 use Rattle.log_story.specs.Telling.{told}
-use Rattle.tale_world.specs.Decided.{Agrees, Decided, plan_of}
+use Rattle.tale_world.specs.Decided.{Agrees, plan_of}
 use Rattle.tale_world.specs.Deciding.{Deciding, World}
-use Rattle.tale_world.specs.Served.{SameFor}
-use Rattle.tale_world.specs.World.{are_freed, are_taken, decided_last, decided_looked, decided_next, goes_on, is_called, is_counted, is_ended, is_told, next_message, next_of, taken_once, with_taken, world_step}
+use Rattle.tale_world.specs.World.{are_taken, decided_looked, decided_next, goes_on, is_called, is_counted, is_ended, is_told, next_message, next_of, taken_once, with_taken, world_step}
 use Rattle.tale_world.proofs.Agreeing.{agrees-less}
 use Rattle.tale_world.proofs.Following.{are_freed_follows, are_taken_follow, called_same, counted_agrees, ended_agrees, go_on_follows, goes_on_follows, going_even, going_follows, once_same, since-looked, told_same}
 use Rattle.tale_world.proofs.Looking.{next_moment}
@@ -29,7 +28,7 @@ use Rattle.shared_router.specs.Judged.{heard, looked_last}
 use Rattle.shared_router.specs.More.{More}
 use Rattle.shared_router.specs.Shared.{shared, taking_in}
 use Rattle.shared_router.proofs.Judging.{same_later}
-use Rattle.shared_router.proofs.Since.{going-moment, going-on, heard-closed}
+use Rattle.shared_router.proofs.Since.{going-on, heard-closed}
 use Rattle.shared_router.proofs.Verdicts.{kind_same}
 use Rattle.shared_router.proofs.Walking.{none_then, taken_found, takings_once}
 

@@ -1,5 +1,5 @@
 -- Of each client of the tale it is decided where its messages so far went, and whether the router answered them.
-use Rattle.std.specs.Prelude.{◌≡◌, ◌+◌, ◌<◌, ◌≤◌, ℕ, zero, suc, Bool, true, false, ◌&&◌, fold, is_some, length, map, slice_get, slice_index_or, if◌then◌else◌, unwrap_or, All, List, [], ◌∷◌, ◌++◌, Option, Some, None}
+use Rattle.std.specs.Prelude.{◌≡◌, ◌+◌, ◌≤◌, ℕ, zero, suc, Bool, true, false, ◌&&◌, fold, is_some, length, map, slice_get, if◌then◌else◌, All, List, [], ◌∷◌, ◌++◌, Option, Some, None}
 use Rattle.std.specs.Option.{option_map_or}
 use Rattle.std.proofs.Common.{refl, sym, ap, ◌∙◌, subst, arith, inl, inr}
 use Rattle.std.proofs.lemmas.Bool.{cases_eq}
@@ -17,19 +17,18 @@ use Rattle.log_story.proofs.Moving.{says-moved, taken-moved, writes-moved}
 use Rattle.log_story.specs.Clients.{client_leaves, ended_if_now, next_taken, taken_by}
 use Rattle.log_story.specs.Clients as clients
 use Rattle.log_story.specs.Owed.{messages, name_of}
-use Rattle.log_story.specs.Plan.{OwnAnswer, Plan, Route, is_now}
+use Rattle.log_story.specs.Plan.{OwnAnswer, Plan, is_now}
 use Rattle.log_story.specs.Servers.{is_done, writes}
 use Rattle.log_story.specs.Tale.{Client, Tale, client_gets, client_hears, is_to_server, link_in, new_client, tell, view_of, with_client}
 use Rattle.log_story.specs.Telling.{server_says, told}
-use Rattle.tale_world.specs.Decided.{Decided, IsMore, filled, plan_of}
+use Rattle.tale_world.specs.Decided.{Decided, IsMore, plan_of}
 use Rattle.tale_world.specs.Deciding.{Deciding, World}
 use Rattle.tale_world.specs.Served.{SameFor}
-use Rattle.tale_world.specs.World.{are_freed, are_taken, decided_by_now, decided_ends, decided_freed, decided_last, decided_looked, decided_next, decided_told, freed_there, given_up, go_on, goes_on}
-use Rattle.tale_world.specs.World.{is_called, is_counted, is_ended, is_told, is_up, looked_at, next_message, next_of, taken_once, with_route, with_taken, world_step}
-use Rattle.tale_world.proofs.Agreeing.{agrees-itself, agrees-less, filled-kept, filled-there, more-refl, more-trans}
-use Rattle.tale_world.proofs.Following.{are_freed_follows, are_taken_follow, go_on_follows, goes_on_follows, going_follows, looked_same, next-more, since-looked, step_even, told-more}
+use Rattle.tale_world.specs.World.{are_freed, are_taken, decided_by_now, decided_freed, decided_last, decided_looked, decided_next, freed_there, given_up, go_on, goes_on}
+use Rattle.tale_world.specs.World.{is_called, is_counted, is_ended, is_told, is_up, next_message, next_of, taken_once, with_route, with_taken, world_step}
+use Rattle.tale_world.proofs.Agreeing.{agrees-itself, agrees-less, filled-kept, filled-there, more-refl}
+use Rattle.tale_world.proofs.Following.{are_freed_follows, goes_on_follows, looked_same, next-more, since-looked, step_even, told-more}
 use Rattle.tale_world.proofs.Looking.{same_messages, same_up}
-use Rattle.tale_world.proofs.Telling.{told_moment}
 use Rattle.shared_router.specs.Fixed.{Fixed, setup_of}
 use Rattle.shared_router.specs.Judged.{heard}
 use Rattle.shared_router.specs.More.{More}

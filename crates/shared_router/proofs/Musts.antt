@@ -1,5 +1,5 @@
 -- Whether a client has to end at an entry, by the last terms and by the world's then.
-use Rattle.std.specs.Prelude.{◌≡◌, ◌<◌, ◌≤◌, ℕ, zero, suc, Bool, true, false, not, ◌&&◌, ◌||◌, fold, is_some, length, nat_eq, List, [], ◌∷◌, ◌++◌, Option, Some, None}
+use Rattle.std.specs.Prelude.{◌≡◌, ◌≤◌, ℕ, zero, suc, Bool, false, not, ◌&&◌, ◌||◌, is_some, length, nat_eq, List, [], ◌∷◌, ◌++◌, Option}
 use Rattle.std.specs.List.{list_any}
 use Rattle.std.specs.Option.{option_map_or}
 use Rattle.std.proofs.Common.{refl, sym, ap, ◌∙◌, subst, append_assoc, arith}
@@ -9,21 +9,21 @@ use Rattle.client_session.specs.Setups.{Setup as Service}
 use Rattle.hostgroups.specs.declared.server.Server.{Server}
 use Rattle.mx_wire.specs.Log.{Log}
 use Rattle.mx_wire.specs.declared.entry.Entry.{Entry}
-use Rattle.private_model.specs.View.{Setup, View}
+use Rattle.private_model.specs.View.{Setup}
 use Rattle.log_story.specs.Clients.{clients_go_on, is_answered}
 use Rattle.log_story.specs.Owed.{messages, name_of, talk_of}
-use Rattle.log_story.specs.Plan.{Plan, own_at}
+use Rattle.log_story.specs.Plan.{Plan}
 use Rattle.log_story.specs.Tale.{Client, Tale, view_of}
 use Rattle.tale_world.specs.Decided.{Agrees, Decided, plan_of}
-use Rattle.tale_world.specs.Deciding.{Deciding, World}
+use Rattle.tale_world.specs.Deciding.{World}
 use Rattle.tale_world.proofs.Agreeing.{agrees-itself, same_own}
 use Rattle.router_promises.proofs.Saying.{now-tale}
-use Rattle.router_promises.specs.Ends.{breaks_client, is_accepted, is_at_fault, is_quit_of, is_refused, loses_client, must_end, quits_at}
+use Rattle.router_promises.specs.Ends.{breaks_client, is_accepted, is_at_fault, is_refused, loses_client, must_end, quits_at}
 use Rattle.router_promises.specs.Due.{served}
 use Rattle.router_promises.specs.Now as now
 use Rattle.router_promises.specs.Now.{Now, now_at, while_ending}
 use Rattle.router_promises.specs.Takings.{as_told, takings_at}
-use Rattle.router_promises.specs.Terms.{Terms, plan_in, tale_at}
+use Rattle.router_promises.specs.Terms.{Terms, tale_at}
 use Rattle.shared_router.specs.Ends.{ending_of, must_go}
 use Rattle.shared_router.specs.Fixed.{Fixed, IsNumbered, setup_of}
 use Rattle.shared_router.specs.Judged.{heard, with_plan}
@@ -31,7 +31,7 @@ use Rattle.shared_router.specs.More.{More, now_of, terms_of}
 use Rattle.shared_router.specs.Shared.{final_terms, shared, world_at}
 use Rattle.shared_router.proofs.Ending.{agrees-ending, going-so, quits_by, quits-same}
 use Rattle.shared_router.proofs.Looked.{IsLooked}
-use Rattle.shared_router.proofs.Parting.{even_at, fold_more, next, tale_then, world_more}
+use Rattle.shared_router.proofs.Parting.{even_at, fold_more, tale_then, world_more}
 use Rattle.shared_router.proofs.Routing.{agrees_behind, same_at}
 use Rattle.shared_router.proofs.Since.{going-before, going-on}
 use Rattle.shared_router.proofs.Staying.{all_stay, freeing_stays, log_at, step_stays}

@@ -1,12 +1,10 @@
 -- Last words are what they should be, and who keeps too much is ended.
-use Rattle.std.specs.Prelude.{◌≡◌, ◌+◌, ◌<◌, ◌≤◌, ℕ, zero, suc, Bool, true, false, not, ◌&&◌, ◌||◌, fold, is_some, length, nat_lt, sum_by, if◌then◌else◌, List, [], ◌∷◌, ◌++◌, Option, Some, None}
-use Rattle.std.specs.Option.{option_and_then, option_map, option_map_or, option_or}
+use Rattle.std.specs.Prelude.{◌≡◌, ◌+◌, ◌≤◌, ℕ, suc, Bool, true, false, not, ◌&&◌, ◌||◌, fold, length, nat_lt, sum_by, if◌then◌else◌, List, [], ◌∷◌, ◌++◌, Option, Some, None}
+use Rattle.std.specs.Option.{option_and_then, option_map}
 use Rattle.std.proofs.Common.{refl, sym, ap, ◌∙◌, subst, arith, inl, inr}
 use Rattle.std.proofs.lemmas.Bool.{and_from, and_parts, le-leb, lt-ltb, not-true, or_left, or_right}
 use Rattle.std.proofs.lemmas.List.Sums.{sum_by-cons}
-use Rattle.client_session.specs.Answers.{opening_of}
 use Rattle.client_session.specs.Arrivals.{Arrival, arrival_of}
-use Rattle.client_session.specs.Setups.{Setup as Service}
 use Rattle.client_side.specs.Login.{Fails, Opening, Says, Waits}
 use Rattle.mx_wire.specs.Log.{Log}
 use Rattle.mx_wire.specs.declared.entry.Entry.{Entry}
@@ -14,7 +12,7 @@ use Rattle.packet_frame.specs.Packets.{lacking}
 use Rattle.private_model.specs.Names.{ClientNo}
 use Rattle.private_model.specs.View.{Setup}
 use Rattle.log_story.specs.Clients.{is_answered}
-use Rattle.log_story.specs.Plan.{Alone, LastWord, Plan, WordPlace, is_before, is_by_now}
+use Rattle.log_story.specs.Plan.{Alone, LastWord, Plan, is_before, is_by_now}
 use Rattle.log_story.specs.Tale.{Client, Tale, view_of}
 use Rattle.tale_world.specs.Decided.{Agrees, Decided, plan_of}
 use Rattle.tale_world.specs.Deciding.{Deciding, World}
@@ -26,11 +24,11 @@ use Rattle.router_promises.specs.Ends.{IsLastWord, NoMemory, TooMuch, TurnedAway
 use Rattle.router_promises.specs.Errors.{buffers_full, out_of_memory}
 use Rattle.router_promises.specs.Now as now
 use Rattle.router_promises.specs.Now.{Now, entry_now, now_at, while_ending}
-use Rattle.router_promises.specs.Terms.{Terms, plan_in}
+use Rattle.router_promises.specs.Terms.{Terms}
 use Rattle.shared_router.specs.Ends.{Ending, away_word, client_at, ending_of, goes, has_too_much, is_refused_now, is_turned_away, may_say_starved, must_go, place_by, says_last, word_place, word_to, words_by}
 use Rattle.shared_router.specs.Fixed.{Fixed, IsNumbered, setup_of}
 use Rattle.shared_router.specs.Judged.{with_plan}
-use Rattle.shared_router.specs.More.{More, now_of, terms_of}
+use Rattle.shared_router.specs.More.{More}
 use Rattle.shared_router.specs.Shared.{final_terms, shared, world_at}
 use Rattle.shared_router.proofs.Ended as ended
 use Rattle.shared_router.proofs.Looked.{IsLooked}

@@ -65,19 +65,19 @@ pub since-wider : (from until start end : ℕ) (old new : Decided) → start ≤
 since-wider from until start end old new first last since = record {
   own = λ m answer is. elim (since.own m answer is) [
     | inl was ↦ inl was
-    | inr rest ↦ elim rest [ | inl first_on ↦ inr (inl first_on) | inr within ↦ inr (inr (within-wider from until start end answer.from first last within)) ]
+    | inr rest ↦ elim rest [ inl first_on ↦ inr (inl first_on) | inr within ↦ inr (inr (within-wider from until start end answer.from first last within)) ]
   ];
-  ends = λ c at is. elim (since.ends c at is) [ | inl was ↦ inl was | inr within ↦ inr (within-wider from until start end at first last within) ];
-  words = λ c word is. elim (since.words c word is) [ | inl was ↦ inl was | inr within ↦ inr (within-wider from until start end word.from first last within) ];
+  ends = λ c at is. elim (since.ends c at is) [ inl was ↦ inl was | inr within ↦ inr (within-wider from until start end at first last within) ];
+  words = λ c word is. elim (since.words c word is) [ inl was ↦ inl was | inr within ↦ inr (within-wider from until start end word.from first last within) ];
   ended = since.ended;
   said = since.said;
 }
 
 pub since-on : (from until : ℕ) (a b c : Decided) → Since from until a b → Since from until b c → Since from until a c
 since-on from until a b c one two = record {
-  own = λ m answer is. elim (two.own m answer is) [ | inl was ↦ one.own m answer was | inr new ↦ inr new ];
-  ends = λ k at is. elim (two.ends k at is) [ | inl was ↦ one.ends k at was | inr new ↦ inr new ];
-  words = λ k word is. elim (two.words k word is) [ | inl was ↦ one.words k word was | inr new ↦ inr new ];
+  own = λ m answer is. elim (two.own m answer is) [ inl was ↦ one.own m answer was | inr new ↦ inr new ];
+  ends = λ k at is. elim (two.ends k at is) [ inl was ↦ one.ends k at was | inr new ↦ inr new ];
+  words = λ k word is. elim (two.words k word is) [ inl was ↦ one.words k word was | inr new ↦ inr new ];
   ended = λ k at is. two.ended k at (one.ended k at is);
   said = λ k word is. two.said k word (one.said k word is);
 }
@@ -263,15 +263,15 @@ module _ (fixed : Fixed) where
       elim (if-word (is_turned_away x client) _ _ word is) [
         | inl away ↦ away-from x client (arrival_of client.number.0 x.log) word away
         | inr other ↦ elim (if-word (must_go x client) _ _ word other) [
-            | inl none ↦ no_word word (entry_now x.now) none
-            | inr later ↦ elim (if-word (has_too_much x client) _ _ word later) [
-                | inl much ↦ last-from x client (buffers_word x.terms x.ending client) word much
-                | inr rest ↦ elim (if-word (is_refused_now x client && may_say_starved x client) _ _ word rest) [
-                    | inl starved ↦ last-from x client out_of_memory word starved
-                    | inr none ↦ no_word word (entry_now x.now) none
-                  ]
-              ]
+          | inl none ↦ no_word word (entry_now x.now) none
+          | inr later ↦ elim (if-word (has_too_much x client) _ _ word later) [
+            | inl much ↦ last-from x client (buffers_word x.terms x.ending client) word much
+            | inr rest ↦ elim (if-word (is_refused_now x client && may_say_starved x client) _ _ word rest) [
+              | inl starved ↦ last-from x client out_of_memory word starved
+              | inr none ↦ no_word word (entry_now x.now) none
+            ]
           ]
+        ]
       ]
 
   found-word : (x : Ending) (found : Option Client) (word : LastWord) → option_and_then (word_to x) found ≡ Some word → word.from ≡ entry_now x.now

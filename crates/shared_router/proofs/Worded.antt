@@ -1,8 +1,8 @@
 -- Last words are of clients that are ended, and what was decided of ends and words stays until clients are ended.
-use Rattle.std.specs.Prelude.{◌≡◌, ◌≤◌, ◌⊎◌, ℕ, zero, suc, Bool, true, false, not, ◌&&◌, ◌||◌, find, fold, length, if◌then◌else◌, List, [], ◌∷◌, Option, Some, None}
+use Rattle.std.specs.Prelude.{◌≡◌, ◌⊎◌, ℕ, zero, suc, Bool, true, false, ◌&&◌, ◌||◌, find, fold, length, if◌then◌else◌, List, [], ◌∷◌, Option, Some, None}
 use Rattle.std.specs.List.{list_any}
 use Rattle.std.specs.Option.{option_and_then, option_map_or, option_or}
-use Rattle.std.proofs.Common.{refl, sym, ap, ◌∙◌, subst, arith, inl, inr}
+use Rattle.std.proofs.Common.{refl, sym, ap, ◌∙◌, inl, inr}
 use Rattle.std.proofs.lemmas.Bool.{or_left, or_right, and_parts}
 use Rattle.mx_base.specs.declared.names.LinkId.{LinkId}
 use Rattle.mx_wire.specs.Log.{Log}
@@ -18,8 +18,7 @@ use Rattle.log_story.specs.Servers.{may_begin}
 use Rattle.log_story.specs.Tale.{Client, Tale, is_to_server, view_of}
 use Rattle.tale_world.specs.Decided.{Decided, plan_of}
 use Rattle.tale_world.specs.Deciding.{Deciding, World}
-use Rattle.tale_world.specs.World.{are_taken, decided_ends, decided_last, decided_looked, decided_next, decided_told, ended_now, freed_there, goes_on, is_called, is_counted, is_ended, is_told, is_up, next_message, next_of, taken_once, with_route, with_step, with_taken, world_step}
-use Rattle.tale_world.proofs.Following.{are_freed_follows, go_on_follows, step_even, told-more}
+use Rattle.tale_world.specs.World.{are_taken, decided_last, decided_looked, decided_next, decided_told, ended_now, freed_there, goes_on, is_called, is_counted, is_ended, is_told, is_up, next_message, next_of, taken_once, with_route, with_step, with_taken, world_step}
 use Rattle.router_promises.specs.Ends.{buffers_word, is_accepted}
 use Rattle.router_promises.specs.Errors.{out_of_memory}
 use Rattle.router_promises.specs.Terms.{plan_in}
@@ -31,7 +30,7 @@ use Rattle.shared_router.specs.Shared.{shared, world_at}
 use Rattle.shared_router.proofs.Looked.{Has}
 use Rattle.shared_router.proofs.Parting as parting
 use Rattle.shared_router.proofs.Parting.{next}
-use Rattle.shared_router.proofs.Since.{going-on, heard-closed}
+use Rattle.shared_router.proofs.Since.{going-on}
 
 -- Who is told a last word goes.
 
@@ -169,7 +168,7 @@ module _ (fixed : Fixed) where
   ended-has moment true None why = (moment, refl)
   ended-has moment true (Some n) why = (n, refl)
   ended-has moment false (Some n) why = (n, refl)
-  ended-has moment false None why = elim why [ | inl is ↦ absurd (cc (is)) | inr has ↦ absurd (cc (has.1)) ]
+  ended-has moment false None why = elim why [ inl is ↦ absurd (cc (is)) | inr has ↦ absurd (cc (has.1)) ]
 
   pub said-by : (old new : Option LastWord) (word : LastWord) → option_or old new ≡ Some word → (old ≡ Some word) ⊎ (new ≡ Some word)
   said-by None new word is = inr is

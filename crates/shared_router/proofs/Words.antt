@@ -1,5 +1,5 @@
 -- Last words along a log.
-use Rattle.std.specs.Prelude.{◌≡◌, ◌+◌, ◌≤◌, ℕ, zero, suc, Bool, true, false, not, ◌&&◌, All, if◌then◌else◌, length, List, [], ◌∷◌, ◌++◌, Option, Some, None}
+use Rattle.std.specs.Prelude.{◌≡◌, ◌+◌, ℕ, true, false, not, ◌&&◌, All, if◌then◌else◌, length, List, [], ◌∷◌, ◌++◌, Option, Some, None}
 use Rattle.std.specs.Option.{option_map}
 use Rattle.std.proofs.Common.{refl, sym, ap, ◌∙◌, subst, append_assoc, arith}
 use Rattle.std.proofs.lemmas.Bool.{and_from}
@@ -9,11 +9,10 @@ use Rattle.mx_wire.specs.Moments.{LawfulAfter}
 use Rattle.mx_wire.specs.Tells.{Fits}
 use Rattle.mx_wire.specs.declared.entry.Entry.{Entry}
 use Rattle.mx_wire.specs.declared.entry.Entry.TheVariants as entry
-use Rattle.private_model.specs.Names.{ClientNo}
 use Rattle.private_model.specs.View.{Setup}
 use Rattle.log_story.specs.Clients.{is_answered}
 use Rattle.log_story.specs.Plan.{Alone, LastWord, Plan}
-use Rattle.log_story.specs.Tale.{Client, Tale, view_of}
+use Rattle.log_story.specs.Tale.{Client, view_of}
 use Rattle.tale_world.specs.Deciding.{World}
 use Rattle.router_promises.specs.Due.{served, turned_away}
 use Rattle.router_promises.specs.Ends.{WordRight, buffers_word, is_accepted, was_answered}
