@@ -43,3 +43,4 @@ pub mod Coming
 pub mod Said
 pub mod Among
 pub mod Words
+pub mod Owes
