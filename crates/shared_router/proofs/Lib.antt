@@ -34,3 +34,15 @@ pub mod Spelling
 pub mod Apart
 pub mod Closing
 pub mod Standing
+pub mod Since
+pub mod Looked
+pub mod Ending
+pub mod Musts
+pub mod Single
+pub mod Worded
+pub mod Ended
+pub mod Coming
+pub mod Said
+pub mod Among
+pub mod Words
+pub mod Owes

@@ -2,6 +2,7 @@
 #![tactic(auto)]
 
 mod clients;
+pub mod departing;
 mod links;
 
 ghost use Rattle.std.specs.Prelude.{◌≡◌, ◌++◌, ℕ, Bool, Some, true};
