@@ -7,9 +7,10 @@ use conn_pool::{Pool, Shelf, Sizes};
 use mx_base::OutOfMemory;
 use std::alloc::Global;
 
-/// `pool <step>, <step>..`, each with a moment last: `open <link> <server> <key>`, `in <link>`, `back <link> <key> <place> <group> <server>`,
-/// `lend <key> <place>`, `evict <group>`, `close <link>`, `expire <idle ms>`, `aside <server>`, `forth <server>`, `wait <client> <key>`,
-/// `leave <client>`, `oldest`, `wants <key>`, `connections <server>`.
+/// `pool <step>, <step>..`. With a moment last: `open <link> <server> <key>`, `back <link> <key> <place> <group> <server>`,
+/// `aside <server>`, `forth <server>`, `expire <idle ms>`, `wait <client> <key>`. Without a moment: `lend <key> <place>`, `evict <group>`,
+/// `in <link>`, `close <link>`, `leave <client>`, `oldest`, `first <key>`, `next <client>`, `since <client>`, `wants <key>`, `connections <server>`,
+/// `longest <server>`.
 pub(crate) fn run(fields: &mut Fields<'_>) {
     let steps = fields.rest_text();
     match pool(fields.answer.alloc()) {
@@ -81,14 +82,8 @@ fn take(answer: &mut Answer, pool: &mut Pool, step: &str)
             let link = below(answer, rest, 8);
             pool.close(link);
         }
-        "wait" => wait(answer, pool, rest),
-        "leave" => {
-            let client = below(answer, rest, 8);
-            pool.leave(client);
-        }
-        "oldest" => push(answer, pool.oldest()),
-        "wants" => wants(answer, pool, rest),
         "connections" => connections(answer, pool, rest),
+        "longest" => longest(answer, pool, rest),
         verb => choose(answer, pool, verb, rest),
     }
 }
@@ -104,6 +99,26 @@ fn choose(answer: &mut Answer, pool: &mut Pool, verb: &str, step: &str)
         "expire" => expire(answer, pool, step),
         "aside" => aside(answer, pool, step),
         "forth" => forth(answer, pool, step),
+        verb => queue(answer, pool, verb, step),
+    }
+}
+
+// The steps of clients that wait.
+fn queue(answer: &mut Answer, pool: &mut Pool, verb: &str, step: &str)
+    requires { IsTable pool.old }
+    ensures { IsTable pool.new }
+{
+    match verb {
+        "wait" => wait(answer, pool, step),
+        "leave" => {
+            let client = below(answer, step, 8);
+            pool.leave(client);
+        }
+        "oldest" => push(answer, pool.oldest()),
+        "first" => first(answer, pool, step),
+        "next" => next(answer, pool, step),
+        "since" => since(answer, pool, step),
+        "wants" => wants(answer, pool, step),
         _ => answer.bad(),
     }
 }
@@ -213,6 +228,28 @@ fn wait(answer: &mut Answer, pool: &mut Pool, step: &str)
     pool.wait(client, key, moment);
 }
 
+fn first(answer: &mut Answer, pool: &Pool, step: &str)
+    requires { IsTable pool.now }
+{
+    let key = below(answer, step, 4);
+    push(answer, pool.oldest_of(key));
+}
+
+fn next(answer: &mut Answer, pool: &Pool, step: &str)
+    requires { IsTable pool.now }
+{
+    let client = below(answer, step, 8);
+    push(answer, pool.next(client));
+}
+
+fn since(answer: &mut Answer, pool: &Pool, step: &str)
+    requires { IsTable pool.now }
+{
+    let client = below(answer, step, 8);
+    answer.separate(0, ", ");
+    answer.display(pool.waits_since(client));
+}
+
 fn wants(answer: &mut Answer, pool: &Pool, step: &str)
     requires { IsTable pool.now }
 {
@@ -227,4 +264,11 @@ fn connections(answer: &mut Answer, pool: &Pool, step: &str)
     let server = below(answer, step, 4);
     answer.separate(0, ", ");
     answer.display(pool.connections()[server as usize]);
+}
+
+fn longest(answer: &mut Answer, pool: &Pool, step: &str)
+    requires { IsTable pool.now }
+{
+    let server = below(answer, step, 4);
+    push(answer, pool.oldest_link_to(server));
 }

@@ -44,7 +44,14 @@ fn client_step(answer: &mut Answer, statements: &mut ClientStatements, step: &st
         }
         "close" => {
             let number = answer.parsed(rest);
-            push(answer, if statements.close(number) { "closed" } else { "unknown" });
+            push(
+                answer,
+                if statements.close(number) {
+                    "closed"
+                } else {
+                    "unknown"
+                },
+            );
         }
         "fill" => fill(answer, statements, rest),
         "clear" => statements.clear(),
@@ -143,7 +150,7 @@ fn append_long(answer: &mut Answer, statements: &mut ClientStatements, step: &st
 }
 
 /// `link <step>, <step>..`: the statements of a link. `add <key> <number>`, `find <key>`, `oldest`, `remove <key>`, `fill <count>`
-/// (keys and numbers from 1), `len`, `clear`.
+/// (keys and numbers from 1), `len`, `clear`. The oldest is shown as `<key>=<number>`.
 pub(crate) fn link(fields: &mut Fields<'_>) {
     let mut statements = LinkStatements::new(fields.answer.alloc());
     let steps = fields.rest_text();
@@ -165,7 +172,7 @@ fn link_step(answer: &mut Answer, statements: &mut LinkStatements, step: &str) {
             let key = answer.parsed(rest);
             push_number(answer, statements.find(key));
         }
-        "oldest" => push_number(answer, statements.oldest().map(|entry| entry.0)),
+        "oldest" => push_entry(answer, statements.oldest()),
         "remove" => {
             let key = answer.parsed(rest);
             push_number(answer, statements.remove(key));
@@ -192,4 +199,14 @@ fn push_number(answer: &mut Answer, number: Option<u32>) {
         Some(number) => answer.display(number),
         None => answer.text("unknown"),
     }
+}
+
+fn push_entry(answer: &mut Answer, entry: Option<(u32, u32)>) {
+    let Some((key, number)) = entry else {
+        return push(answer, "unknown");
+    };
+    answer.separate(0, ", ");
+    answer.display(key);
+    answer.text("=");
+    answer.display(number);
 }

@@ -19,7 +19,14 @@ fn settings_behind(alloc: Global, statement: &str) -> Result<Settings, OutOfMemo
 }
 
 fn place(alloc: Global, schema: &str, statement: &str) -> Result<Place, OutOfMemory> {
-    let schema = Bytes::from_slice(alloc, if schema == "-" { b"" } else { schema.as_bytes() })?;
+    let schema = Bytes::from_slice(
+        alloc,
+        if schema == "-" {
+            b""
+        } else {
+            schema.as_bytes()
+        },
+    )?;
     let settings = settings_behind(alloc, statement)?;
     Ok(Place { schema, settings })
 }
@@ -28,7 +35,10 @@ fn place(alloc: Global, schema: &str, statement: &str) -> Result<Place, OutOfMem
 fn told(alloc: Global, schema: &str, statement: &str) -> Result<Told, OutOfMemory> {
     if schema == "new" {
         let settings = Settings::defaults(alloc)?;
-        return Ok(Told { schema: None, settings });
+        return Ok(Told {
+            schema: None,
+            settings,
+        });
     }
     let Place { schema, settings } = place(alloc, schema, statement)?;
     Ok(Told {
@@ -52,7 +62,7 @@ fn push_step(answer: &mut Answer, step: &Step) {
         }
         Step::SetText(text) => push_bytes(answer, text.as_slice()),
         Step::SetId(id) => {
-            answer.text("last_insert_id = ");
+            answer.text("SET SESSION last_insert_id = ");
             answer.display(*id);
         }
         Step::Prepare => answer.text("prepare"),
@@ -143,7 +153,11 @@ pub(crate) fn prepare(fields: &mut Fields<'_>) {
     }
 }
 
-fn push_preparation(answer: &mut Answer, told: &mut Told, place: &Place) -> Result<(), OutOfMemory> {
+fn push_preparation(
+    answer: &mut Answer,
+    told: &mut Told,
+    place: &Place,
+) -> Result<(), OutOfMemory> {
     let alloc = answer.alloc();
     for _ in 0..MOST_STEPS {
         if !place.settings.value(Slot::Names).is_text() {
