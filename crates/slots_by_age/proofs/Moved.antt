@@ -113,8 +113,12 @@ tables-put all kinds all' kinds' since kept counts slot kind moment n t small wi
       counts_length = length-set counts kind (n + 1) ∙ t.counts_length ∙ sym (of'.lists);
       whole = rw order (placed_all all all' since slot 0 moment t.whole small apart in');
       parts = rw order (of'.placed (order_in all) spelled apart (omega (arith, t.slots, room_for all since (order_in all) slot t.whole small apart)));
-      within = λ other small'. omega (arith, of'.lists, within-put kinds.list_of kinds'.list_of slot kind kinds.lists all.slots within of'.here of'.others
-          t.within other (omega (arith, small', in'.slots)));
+      within = λ other small'. omega (
+        arith,
+        of'.lists,
+        within-put kinds.list_of kinds'.list_of slot kind kinds.lists all.slots within of'.here of'.others
+            t.within other (omega (arith, small', in'.slots)),
+      );
       is_kept = λ other small'. rw order (kept-put kept (set since slot moment) (order_in all) slot all.slots small t.kept_length t.is_kept other
           (omega (arith, small', in'.slots)));
       counted = λ other small'. rw (order, of'.others) (counted-put kinds.list_of counts (set since slot moment) (order_in all) slot kind n kinds.lists
