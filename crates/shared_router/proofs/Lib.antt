@@ -33,3 +33,4 @@ pub mod Users
 pub mod Growing
 pub mod Fitting
 pub mod Spelling
+pub mod Calming

@@ -3,6 +3,7 @@
 
 mod clients;
 mod links;
+mod rests;
 
 ghost use Rattle.std.specs.Prelude.{◌≡◌, ◌++◌, ℕ, Bool, Some, true};
 ghost use Rattle.mx_base.specs.declared.names.LinkId.{LinkId};
