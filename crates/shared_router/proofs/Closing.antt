@@ -53,13 +53,13 @@ module _ (fixed : Fixed) (log : Log) (now : Now) (v last : World More) (alike : 
   abbrev other : Terms
   other = terms_of fixed v
 
-  spoilt_same : is_spoilt one log now link ≡ is_spoilt other log now link
+  pub spoilt_same : is_spoilt one log now link ≡ is_spoilt other log now link
   spoilt_same = ap
       (λ failed. was_lost log link || ((not (wire_now now link).entered && failed) || (has_bad_bytes (setup_of fixed) now link
       || (status_in is_off now.servers (wire_now now link).server || not (is_known now.servers (wire_now now link).server)))))
       (failed_same fixed log now v last alike link there)
 
-  way_same : (key : Option LinkKey) → is_in_the_way one now key ≡ is_in_the_way other now key
+  pub way_same : (key : Option LinkKey) → is_in_the_way one now key ≡ is_in_the_way other now key
   way_same None = refl
   way_same (Some key) = elsewhere_same fixed log now v last alike key now.tale.story
 

@@ -46,3 +46,4 @@ pub mod Said
 pub mod Among
 pub mod Words
 pub mod Owes
+pub mod Calming

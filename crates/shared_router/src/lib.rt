@@ -4,6 +4,7 @@
 mod clients;
 pub mod departing;
 mod links;
+mod rests;
 
 ghost use Rattle.std.specs.Prelude.{◌≡◌, ◌++◌, ℕ, Bool, Some, true};
 ghost use Rattle.mx_base.specs.declared.names.LinkId.{LinkId};

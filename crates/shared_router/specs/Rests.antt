@@ -1,0 +1,40 @@
+-- What stands where the loop waits, or is over: parts of the promise that it waits at rest.
+use Rattle.std.specs.Prelude.{◌≡◌, ◌+◌, ◌<◌, ◌≤◌, ◌⊎◌, false, true}
+use Rattle.mx_base.specs.declared.names.LinkId.{LinkId}
+use Rattle.mx_base.specs.declared.names.Port.{Port}
+use Rattle.mx_wire.specs.Log.{Log, is_open}
+use Rattle.mx_wire.specs.declared.entry.Entry.{Entry}
+use Rattle.mx_wire.specs.declared.entry.Entry.TheVariants.{Over, WaitFailed, Woke}
+use Rattle.ready_loop.specs.Drained.{all_accepted, all_named}
+use Rattle.log_story.specs.Tale.{is_to_server}
+use Rattle.router_promises.specs.Closes.{is_usable}
+use Rattle.router_promises.specs.Keys.{LinkKey, has_room_in, how_many, is_free, is_opening, is_resting, waiting}
+use Rattle.router_promises.specs.Now.{Now, now_at}
+use Rattle.router_promises.specs.Terms.{Terms}
+
+-- a link to a server can be used; and where it rests and carries nobody, it wasn't idle for long
+pub record IsKept (terms : Terms) (log : Log) (now : Now) (link : LinkId) : Type 0 where
+  pub sound : is_usable terms log now link ≡ true
+  pub young : is_resting terms log now link ≡ true → now.clock < (now.uses link).used + terms.router.proxy.idle_ms
+
+-- for the statements of a key as many links are free or opening, or no server of its hostgroup has room for one more
+abbrev pub HasEnough : Terms → Log → Now → LinkKey → Type 0
+HasEnough terms log now key =
+    (waiting terms now key ≤ how_many is_free terms log now key + how_many is_opening terms log now key)
+    ⊎ (has_room_in terms.router log now key.hostgroup ≡ false)
+
+-- Nobody waits at a port, and each ready link was named; each link to a server is kept; and each key has enough.
+pub record IsCalm (terms : Terms) (log : Log) (now : Now) : Type 0 where
+  pub accepted : (port : Port) → all_accepted port log ≡ true
+  pub named : all_named log ≡ true
+  pub kept : (link : LinkId) → is_to_server now.tale link ≡ true → is_open link log ≡ true → IsKept terms log now link
+  pub enough : (key : LinkKey) → HasEnough terms log now key
+
+abbrev pub CalmBy : Terms → Log → Now → Entry → Type 0
+CalmBy terms log now (Woke until_ms now_ms) = IsCalm terms log now
+CalmBy terms log now WaitFailed = IsCalm terms log now
+CalmBy terms log now Over = IsCalm terms log now
+CalmBy terms log now _ = Unit {0}
+
+abbrev pub CalmSo : Terms → Log → Entry → Type 0
+CalmSo terms log e = CalmBy terms log (now_at terms log) e
