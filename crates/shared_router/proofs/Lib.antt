@@ -44,3 +44,5 @@ pub mod Said
 pub mod Among
 pub mod Words
 pub mod Owes
+pub mod Distinct
+pub mod Parted
