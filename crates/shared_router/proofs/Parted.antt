@@ -139,15 +139,15 @@ module _ (fixed : Fixed) (numbered : IsNumbered fixed) (before later : Log) (e :
         elim (or_cases (bytes_eq (written_of client.link before) (due_to k.terms k.now client)) (lossy || (late || (turned || unheard))) conditions.1) [
           | inl written ↦ all-written written
           | inr second ↦ elim (or_cases lossy (late || (turned || unheard)) second) [
-              | inl broken ↦ Broken broken
-              | inr third ↦ elim (or_cases late (turned || unheard) third) [
-                  | inl over ↦ is-over over
-                  | inr fourth ↦ elim (or_cases turned unheard fourth) [
-                      | inl away ↦ not-served away
-                      | inr none ↦ was-unheard none
-                    ]
-                ]
+            | inl broken ↦ Broken broken
+            | inr third ↦ elim (or_cases late (turned || unheard) third) [
+              | inl over ↦ is-over over
+              | inr fourth ↦ elim (or_cases turned unheard fourth) [
+                | inl away ↦ not-served away
+                | inr none ↦ was-unheard none
+              ]
             ]
+          ]
         ]
 
   -- each client of the link that closes
