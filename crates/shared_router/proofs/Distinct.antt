@@ -1,5 +1,5 @@
 -- No two clients have one link.
-use Rattle.std.specs.Prelude.{◌≡◌, ◌+◌, ℕ, Bool, true, false, find, length, map, if◌then◌else◌, List, [], ◌∷◌, ◌++◌, Option, Some, None}
+use Rattle.std.specs.Prelude.{◌≡◌, ◌+◌, Bool, true, false, find, length, map, if◌then◌else◌, List, [], ◌∷◌, ◌++◌, Some}
 use Rattle.std.proofs.Common.{refl, sym, ap, ◌∙◌, subst, append_assoc, append-nil}
 use Rattle.mx_base.specs.declared.names.LinkId.{LinkId}
 use Rattle.mx_wire.specs.Log.{Log}
@@ -12,7 +12,6 @@ use Rattle.private_model.proofs.Maps.{same_link}
 use Rattle.private_model.specs.Story.{is_link_id}
 use Rattle.log_story.specs.Plan.{Plan}
 use Rattle.log_story.specs.Tale.{Client, Tale, client_gets, client_hears, is_to_server, new_client}
-use Rattle.tale_world.specs.Deciding.{World}
 use Rattle.shared_router.specs.Fixed.{Fixed, setup_of}
 use Rattle.shared_router.specs.Shared.{world_at}
 use Rattle.shared_router.proofs.Coming.{IsNamed, named_at, named_new}

@@ -1,5 +1,5 @@
 -- The links of clients that ended close for a cause, and so the promise on ends is kept.
-use Rattle.std.specs.Prelude.{◌≡◌, ◌+◌, ◌≤◌, ◌⊎◌, ℕ, Bool, true, false, not, ◌&&◌, ◌||◌, All, bytes_eq, find, nat_le, if◌then◌else◌, List, [], ◌∷◌, ◌++◌, Option, Some, None}
+use Rattle.std.specs.Prelude.{◌≡◌, ◌+◌, ◌⊎◌, ℕ, Bool, true, false, not, ◌&&◌, ◌||◌, All, bytes_eq, find, nat_le, if◌then◌else◌, List, [], ◌∷◌, ◌++◌, Option, Some, None}
 use Rattle.std.specs.List.{list_any}
 use Rattle.std.specs.Option.{option_map, option_map_or, option_or}
 use Rattle.std.proofs.Common.{refl, sym, ap, ◌∙◌, subst, append_assoc, inl, inr}
@@ -7,7 +7,7 @@ use Rattle.std.proofs.lemmas.Bool.{and_parts, leb-true, not-true, or_cases, or_l
 use Rattle.std.proofs.lemmas.Slice.Eq.{bytes_eq-Decides}
 use Rattle.client_session.specs.Arrivals.{arrival_of, is_served}
 use Rattle.mx_base.specs.declared.names.LinkId.{LinkId}
-use Rattle.mx_wire.specs.Log.{Log, is_link, link_of, of_link, written_of}
+use Rattle.mx_wire.specs.Log.{Log, is_link, link_of, written_of}
 use Rattle.mx_wire.specs.Moments.{LawfulAfter, lawful-more}
 use Rattle.mx_wire.specs.Tells.{Fits}
 use Rattle.mx_wire.specs.declared.entry.Entry.{Entry}
@@ -17,17 +17,15 @@ use Rattle.private_model.specs.Story.{is_link_id}
 use Rattle.private_model.specs.View.{Setup}
 use Rattle.log_story.specs.Plan.{Plan, is_by_now}
 use Rattle.log_story.specs.Tale.{Client, is_to_server, view_of}
-use Rattle.tale_world.specs.Decided.{Agrees, plan_of}
+use Rattle.tale_world.specs.Decided.{Agrees}
 use Rattle.tale_world.specs.Deciding.{World}
 use Rattle.router_promises.specs.Due.{due_to, served}
-use Rattle.router_promises.specs.Ends.{AllWritten, Broken, EndsSo, MayPart, NotServed, PartsBy, PartsRight, TimeIsOver, Unheard, is_unheard, is_write, moment_in}
-use Rattle.router_promises.specs.Ends as ending
-use Rattle.router_promises.specs.Now as now
+use Rattle.router_promises.specs.Ends.{AllWritten, Broken, EndsSo, MayPart, NotServed, PartsBy, PartsRight, TimeIsOver, Unheard, is_unheard, moment_in}
 use Rattle.router_promises.specs.Now.{Now, is_loss, now_at}
-use Rattle.router_promises.specs.Terms.{Terms, plan_in}
+use Rattle.router_promises.specs.Terms.{Terms}
 use Rattle.shared_router.specs.Fixed.{Fixed, IsNumbered, setup_of}
 use Rattle.shared_router.specs.Known.{Known, known}
-use Rattle.shared_router.specs.More.{More, now_of, terms_of}
+use Rattle.shared_router.specs.More.{More, now_of}
 use Rattle.shared_router.specs.Ours.{IsOurs}
 use Rattle.shared_router.specs.Owed.{close_by, is_to_close, may_part, parts, was_tried}
 use Rattle.shared_router.specs.Shared.{final_terms, world_at}
