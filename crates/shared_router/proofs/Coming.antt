@@ -48,6 +48,14 @@ not_named link (e ∷ log) new = by_test (is_link link (link_of e)) new (not_nam
   by_test true none later = absurd (cc)
   by_test false none later = later none
 
+never : {A : Type 0} → true ≡ false → A
+never is = absurd (cc)
+
+-- a link that is new is no client's
+pub named_new : {A : Type 0} (log : Log) (link : LinkId) (client : Client) → of_link link log ≡ [] → link ≡ client.link → IsNamed log client → A
+named_new log link client new same named =
+    never (sym named ∙ ap (λ l. list_any (λ e. is_link l (link_of e)) log) (sym same) ∙ not_named link log new)
+
 named-more : (log : Log) (e : Entry) (client : Client) → IsNamed log client → IsNamed (log ++ e ∷ []) client
 named-more log e client named = any-on (λ e. is_link client.link (link_of e)) log (e ∷ []) ∙ or_left _ (is_link client.link (link_of e) || false) named
 
@@ -84,9 +92,6 @@ says_none : (plan : Plan) (client : Client) → client.read ≡ [] → messages 
 unfolding packets.split login.opening packets.first_message
 says_none plan client none =
     ap (λ read. (messages_of (record { setup = plan.service; number = client.number.0; salt = client.salt; read = read })).messages) none
-
-never : {A : Type 0} → true ≡ false → A
-never is = absurd (cc)
 
 module _ (fixed : Fixed) where
   abbrev setup : Setup

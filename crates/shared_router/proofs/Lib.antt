@@ -47,3 +47,5 @@ pub mod Among
 pub mod Words
 pub mod Owes
 pub mod Calming
+pub mod Distinct
+pub mod Parted

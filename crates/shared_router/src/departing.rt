@@ -3,8 +3,10 @@
 ghost use Rattle.mx_wire.specs.Log.{Log};
 ghost use Rattle.mx_wire.specs.Moments.{AllLawful};
 ghost use Rattle.mx_wire.specs.Tells.{Fits};
+ghost use Rattle.router_promises.specs.Ends.{EndsSo};
 ghost use Rattle.shared_router.specs.Fixed.{Fixed, IsNumbered};
 ghost use Rattle.shared_router.specs.Judged.{EndsFor, WordsFor};
+ghost use Rattle.shared_router.specs.Ours.{IsOurLog};
 ghost use Rattle.shared_router.specs.Shared.{final_terms};
 
 /// At each entry of any log, each client that must end by it has ended, and one that ends by it must, or there was no memory for it, or
@@ -17,4 +19,9 @@ pub fn ends_right()
 /// that isn't served has its word, and who keeps too much has ended.
 pub fn words_right()
     ensures { (fixed : Fixed) (log : Log) → IsNumbered fixed → AllLawful Fits log → AllLawful (WordsFor (final_terms fixed log)) log }
+{}
+
+/// Its clients end, are told a last word, and have their links closed as is promised.
+pub fn ends_kept()
+    ensures { (fixed : Fixed) (log : Log) → IsNumbered fixed → IsOurLog fixed log → AllLawful (EndsSo (final_terms fixed log)) log }
 {}
