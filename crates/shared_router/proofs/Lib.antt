@@ -34,3 +34,4 @@ pub mod Growing
 pub mod Fitting
 pub mod Spelling
 pub mod Calming
+pub mod Lending
