@@ -1,10 +1,9 @@
 -- Where the loop waits, no link is to be closed or opened.
-use Rattle.std.specs.Prelude.{◌≡◌, ◌⊎◌, ◌+◌, ◌<◌, ◌≤◌, ℕ, zero, suc, Bool, true, false, not, ◌&&◌, ◌||◌, cond, filter, find, is_some, length, nat_le, if◌then◌else◌, List, [], ◌∷◌, ◌++◌, Option, Some, None}
+use Rattle.std.specs.Prelude.{◌≡◌, ◌⊎◌, ◌+◌, ◌<◌, ◌≤◌, ℕ, zero, suc, Bool, true, false, not, ◌&&◌, ◌||◌, cond, filter, find, is_some, length, nat_le, List, [], ◌∷◌, ◌++◌, Option, Some, None}
 use Rattle.std.specs.List.{list_any}
 use Rattle.std.specs.Option.{option_map, option_or}
 use Rattle.std.proofs.Common.{refl, sym, ap, ◌∙◌, subst, append_assoc, arith, inl, inr}
 use Rattle.std.proofs.lemmas.Bool.{and_parts, leb-false}
-use Rattle.hostgroups.specs.Servers.{is_known}
 use Rattle.mx_base.specs.declared.names.Hostgroup.{Hostgroup}
 use Rattle.mx_base.specs.declared.names.LinkId.{LinkId}
 use Rattle.mx_base.specs.declared.names.ServerId.{ServerId}
@@ -24,8 +23,8 @@ use Rattle.tale_world.specs.Served.{AreServed}
 use Rattle.tale_world.specs.Tests.{is_account, is_flag}
 use Rattle.tale_world.proofs.Policies.{none_opened}
 use Rattle.tale_world.proofs.Testing.{same_account}
-use Rattle.router_promises.specs.Closes.{is_full, is_in_the_way, is_joined, is_past_reset, is_spoilt, is_unlent, is_usable, was_amiss, was_refused}
-use Rattle.router_promises.specs.Keys.{LinkKey, has_room, has_room_in, how_many, is_at_work, is_free, is_in, is_nobodys, is_opening, is_resting, key_of, numbered_from, waiting}
+use Rattle.router_promises.specs.Closes.{is_full, is_in_the_way, is_joined, is_past_reset, is_spoilt, is_unlent, was_amiss, was_refused}
+use Rattle.router_promises.specs.Keys.{LinkKey, has_room, how_many, is_at_work, is_free, is_in, is_nobodys, is_opening, is_resting, key_of, numbered_from, waiting}
 use Rattle.router_promises.specs.Now.{Now, is_here, link_now, now_at, wire_now}
 use Rattle.router_promises.specs.Running.{is_soft, status_in}
 use Rattle.router_promises.specs.Terms.{Terms}
@@ -34,7 +33,7 @@ use Rattle.shared_router.specs.Known.{Known, known}
 use Rattle.shared_router.specs.Lends.{as_key, settled}
 use Rattle.shared_router.specs.More.{More, now_of, terms_of}
 use Rattle.shared_router.specs.Ours.{IsOurs, MayWait}
-use Rattle.shared_router.specs.Owed.{asks, close_by, is_let_go, is_refused, is_to_close, parts}
+use Rattle.shared_router.specs.Owed.{asks, close_by, is_to_close, parts}
 use Rattle.shared_router.specs.Rests.{CalmSo, HasEnough, IsCalm, IsKept}
 use Rattle.shared_router.specs.Shared.{final_terms, world_at}
 use Rattle.shared_router.specs.Wishes.{pick, wanted_by}

@@ -49,3 +49,4 @@ pub mod Owes
 pub mod Calming
 pub mod Distinct
 pub mod Parted
+pub mod Lending

@@ -1,7 +1,14 @@
 // What stands where the loop waits.
+ghost use Rattle.std.specs.Prelude.{◌≡◌, None, Some, true};
+ghost use Rattle.mx_base.specs.declared.names.LinkId.{LinkId};
 ghost use Rattle.mx_wire.specs.Log.{Log};
 ghost use Rattle.mx_wire.specs.Moments.{AllLawful};
+ghost use Rattle.log_story.specs.Tale.{is_to_server};
+ghost use Rattle.router_promises.specs.Keys.{LinkKey, is_free, key_of};
 ghost use Rattle.shared_router.specs.Fixed.{Fixed, IsNumbered};
+ghost use Rattle.shared_router.specs.Known.{Known};
+ghost use Rattle.shared_router.specs.Lends.{readied_now, waiters_by};
+ghost use Rattle.shared_router.specs.Lent.{HaveLinks};
 ghost use Rattle.shared_router.specs.Ours.{IsOurLog};
 ghost use Rattle.shared_router.specs.Rests.{CalmSo};
 ghost use Rattle.shared_router.specs.Shared.{final_terms};
@@ -12,4 +19,11 @@ ghost use Rattle.shared_router.specs.Shared.{final_terms};
 pub fn waits_when_calm()
     ensures { (fixed : Fixed) (log : Log) → IsNumbered fixed → IsOurLog fixed log
         → AllLawful (CalmSo (final_terms fixed log)) log }
+{}
+
+/// Where a link is free and readied for nobody, each statement of its key that waits has a link that is readied for it.
+pub fn lends_to_all()
+    ensures { (k : Known) (link : LinkId) (key : LinkKey) → is_to_server k.now.tale link ≡ true
+        → is_free k.terms k.log k.now link ≡ true → key_of k.terms k.now link ≡ Some key → readied_now k link ≡ None
+        → HaveLinks k key (waiters_by k k.now.tale.story) }
 {}
