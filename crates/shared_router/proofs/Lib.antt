@@ -32,3 +32,5 @@ pub mod Seated
 pub mod Users
 pub mod Growing
 pub mod Fitting
+pub mod Wished
+pub mod Sending

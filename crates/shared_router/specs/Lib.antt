@@ -12,3 +12,4 @@ pub mod Shared
 pub mod Ours
 pub mod Judged
 pub mod Fits
+pub mod Sends
