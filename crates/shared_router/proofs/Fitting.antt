@@ -1,37 +1,33 @@
 -- Which clients there are, and what was read of them, is of the log alone, not of what was decided: so who they are is read off a log,
 -- and fits it.
-use Rattle.std.specs.Prelude.{◌≡◌, ◌+◌, ◌≤◌, ℕ, suc, Bool, true, false, cond, find, fold, length, map, if◌then◌else◌, List, [], ◌∷◌, ◌++◌, Option, Some, None}
+use Rattle.std.specs.Prelude.{◌≡◌, ◌+◌, ◌≤◌, ℕ, suc, Bool, true, false, cond, find, fold, length, map, if◌then◌else◌, List, [], ◌∷◌, ◌++◌, Some}
 use Rattle.std.specs.List.{list_any}
 use Rattle.std.specs.Option.{option_map_or}
 use Rattle.std.proofs.Common.{refl, sym, ap, ◌∙◌, subst, append-nil, arith}
-use Rattle.client_session.specs.Answers.{Talk, account, opening_of}
-use Rattle.client_session.specs.Setups.{Setup as Service}
+use Rattle.client_session.specs.Answers.{account, opening_of}
 use Rattle.client_side.specs.Login.{Fails, Opening, Says, Waits}
 use Rattle.mx_base.specs.declared.names.LinkId.{LinkId}
 use Rattle.mx_wire.specs.Log.{Log, opened_links}
 use Rattle.mx_wire.specs.declared.entry.Entry.{Entry}
 use Rattle.mx_wire.specs.declared.entry.Entry.TheVariants as entry
 use Rattle.private_model.proofs.Maps.{client_of, same_number}
-use Rattle.private_model.specs.Commands.{Account}
 use Rattle.private_model.specs.Names.{ClientNo}
 use Rattle.private_model.specs.Story.{is_client, is_link_id}
 use Rattle.private_model.specs.View.{Setup}
-use Rattle.server_side.specs.Account.{Account as Login}
-use Rattle.session_state.specs.declared.place.Place.{Place}
 use Rattle.log_story.specs.Owed.{talk_of}
 use Rattle.log_story.specs.Plan.{Plan}
 use Rattle.log_story.specs.Tale.{Client, Tale, client_gets, client_hears, first_tale, is_to_server, new_client}
 use Rattle.log_story.specs.Telling.{tale_step, told}
 use Rattle.tale_world.proofs.Links.{log_links}
-use Rattle.router_promises.specs.Router.{first_place, service_of}
-use Rattle.router_promises.specs.Terms.{AreWhoTheySay, IsWhoItSays, Terms, login_as, plan_in, setup_in, tale_at}
-use Rattle.shared_router.specs.Fits.{Fits, account_said, client_named, fitted, place_by, place_said, talk_in}
+use Rattle.router_promises.specs.Router.{service_of}
+use Rattle.router_promises.specs.Terms.{IsWhoItSays, Terms, login_as, plan_in, setup_in, tale_at}
+use Rattle.shared_router.specs.Fits.{Fits, account_said, fitted, place_by, place_said, talk_in}
 use Rattle.shared_router.specs.Fixed.{Fixed}
-use Rattle.shared_router.specs.Shared.{final_terms, world_at}
+use Rattle.shared_router.specs.Shared.{final_terms}
 use Rattle.shared_router.proofs.Growing.{IsWho, all_from, all_who_as, numbered_on, who_before}
 use Rattle.shared_router.proofs.Numbered.{AreNumbered}
 use Rattle.shared_router.proofs.Parting.{service_kept, tale_then}
-use Rattle.shared_router.proofs.Seated.{AllOf, AreLike, IsLike, clients_by, like_itself, like_numbered, numbered_step, step_like, told_clients}
+use Rattle.shared_router.proofs.Seated.{AllOf, AreLike, IsLike, clients_by, like_numbered, numbered_step, step_like, told_clients}
 use Rattle.shared_router.proofs.Users.{all_more, all_of}
 
 one_back : (x y : Client) → IsLike x y → IsLike y x

@@ -1,5 +1,5 @@
 -- Clients stay, and more is read of them: so who they are at the end of a log they are at each moment before.
-use Rattle.std.specs.Prelude.{◌≡◌, ◌+◌, ◌<◌, ℕ, zero, suc, Bool, true, false, All, drop, fold, length, map, slice_index_or, take, if◌then◌else◌, List, [], ◌∷◌, ◌++◌, Some}
+use Rattle.std.specs.Prelude.{◌≡◌, ◌+◌, ℕ, zero, suc, Bool, true, false, All, drop, fold, length, map, take, if◌then◌else◌, List, [], ◌∷◌, ◌++◌, Some}
 use Rattle.std.proofs.Common.{refl, sym, ap, ◌∙◌, subst, append_assoc, append-nil, arith}
 use Rattle.std.proofs.lemmas.List.{take-append-drop}
 use Rattle.client_session.specs.Accounts.{account_of}
@@ -11,18 +11,15 @@ use Rattle.mx_wire.specs.Log.{Log}
 use Rattle.mx_wire.specs.Moments.{AtEachMoment}
 use Rattle.mx_wire.specs.declared.entry.Entry.{Entry}
 use Rattle.mx_wire.specs.declared.entry.Entry.TheVariants as entry
-use Rattle.private_model.specs.Commands.{Account}
 use Rattle.private_model.specs.Names.{ClientNo}
 use Rattle.private_model.specs.Story.{is_link_id}
 use Rattle.private_model.specs.View.{Setup}
-use Rattle.server_side.specs.Account.{Account as Login}
-use Rattle.session_state.specs.declared.place.Place.{Place}
 use Rattle.log_story.specs.Owed.{talk_of}
 use Rattle.log_story.specs.Plan.{Plan}
 use Rattle.log_story.specs.Tale.{Client, Tale, client_gets, client_hears, first_tale, is_to_server, new_client}
 use Rattle.log_story.specs.Telling.{tale_step, told}
 use Rattle.router_promises.specs.Router.{Router, first_place}
-use Rattle.router_promises.specs.Terms.{AreWhoTheySay, IsWhoItSays, Terms, login_as, plan_in, setup_in, tale_at}
+use Rattle.router_promises.specs.Terms.{AreWhoTheySay, IsWhoItSays, Terms, plan_in, setup_in, tale_at}
 use Rattle.shared_router.proofs.Numbered.{AreNumbered}
 use Rattle.shared_router.proofs.Parting.{fold_more}
 use Rattle.shared_router.proofs.Seated.{AllOf, AreLike, IsLike, clients_by, numbered_step, step_like, told_clients}

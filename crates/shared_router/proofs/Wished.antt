@@ -1,9 +1,8 @@
 -- What the policy asks to be sent: no step is a QUIT, and no reset comes behind a statement of which none takes back what it does.
-use Rattle.std.specs.Prelude.{◌≡◌, ℕ, Bool, true, false, not, ◌&&◌, ◌||◌, is_some, nat_eq, if◌then◌else◌, Option, Some, None, List}
+use Rattle.std.specs.Prelude.{◌≡◌, ℕ, Bool, true, false, not, ◌&&◌, ◌||◌, is_some, nat_eq, if◌then◌else◌, Option, Some, None}
 use Rattle.std.specs.List.{list_any}
 use Rattle.std.specs.Option.{option_map, option_map_or}
 use Rattle.std.proofs.Common.{refl, sym, ap, ◌∙◌, subst}
-use Rattle.mx_base.specs.declared.names.LinkId.{LinkId}
 use Rattle.session_state.specs.Pins.{is_pinned, needs_reset}
 use Rattle.session_state.specs.declared.place.Place.{Place}
 use Rattle.session_state.specs.declared.place.Told.{Told}
@@ -15,7 +14,7 @@ use Rattle.log_story.specs.Plan.{Asks, Closes, Resets, StepText}
 use Rattle.log_story.specs.Servers.{is_quiet}
 use Rattle.tale_world.specs.Policy.{Readied, Texts, for_session, id_step, is_unprepared, key_place, next_question, numbered, or_else, place_step, question_for}
 use Rattle.tale_world.specs.Tests.{are_settings, is_id, is_schema}
-use Rattle.tale_world.specs.Wishes.{Says, Sends, Standing, Wish, before_command, before_prepare, before_question, if_long, next_wish, wish_for}
+use Rattle.tale_world.specs.Wishes.{Says, Sends, Standing, Wish, before_command, before_prepare, before_question, if_long, wish_for}
 
 no_some : {A B : Type 0} (a : A) → None ≡ Some a → B
 no_some a is = absurd (cc)
