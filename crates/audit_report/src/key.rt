@@ -1,5 +1,8 @@
 // What lines are counted by.
-ghost use Rattle.std.specs.Prelude.{◌≡◌, IfOk};
+ghost use Rattle.std.specs.Prelude.{◌≡◌, ◌∷◌, IfOk};
+ghost use Rattle.std.proofs.Common.{rules};
+ghost use Rattle.std.specs.Hash as fed;
+ghost use Rattle.std.specs.Cmp.Rules.{hashing};
 ghost use Rattle.audit_report.specs.Keys.{key_of};
 
 use crate::name::place_of;
@@ -7,10 +10,11 @@ use mx_base::{Bytes, OutOfMemory};
 use pin_classifier::classify;
 use query_digest::digest;
 use std::alloc::Global;
+use std::hash::{Hash, Hasher};
 
 // A digest and the name of a class. Keys stand in the order of their digests' bytes, and under one digest in that of
 // their names' bytes.
-#[derive(PartialEq, Eq, PartialOrd, Ord, Hash, Drop)]
+#[derive(PartialEq, Eq, PartialOrd, Ord, Drop)]
 pub(crate) struct Key {
     pub digest: Bytes,
     // The name's place in the order of the names.
@@ -29,5 +33,17 @@ impl Key {
             digest,
             name: place_of(class.name()),
         })
+    }
+}
+
+impl Hash for Key {
+    ghost hash_input = { λ a. a.digest ∷ fed.u8 a.name };
+
+    ghost respects_eq = { Prim.search (hashing, rules) };
+
+    // A digest is one write: of a slice's own hash, each byte would be one.
+    fn hash<H: Hasher>(&self, state: &mut H) {
+        state.write(self.digest.as_slice());
+        state.write_u8(self.name);
     }
 }

@@ -15,7 +15,7 @@ use Rattle.private_model.specs.View.{Carried, Joined, present}
 use Rattle.log_story.specs.Plan.{LastWord, WordPlace}
 use Rattle.log_story.specs.Tale.{Client}
 use Rattle.router_promises.specs.Closes.{Amiss, Idle, Leaving, MakesRoom, MayDrop, Needless, PastReset, Refused, Spoilt, Starved, is_joined, is_past_reset_by, is_spoilt, is_starved_by, was_amiss, was_starved}
-use Rattle.router_promises.specs.Ends.{EndsBy, EndsRight, IsLastWord, NoMemory, TooMuch, TurnedAway, WordFor, WordRight, is_accepted, is_at, is_too_much, may_end, must_end}
+use Rattle.router_promises.specs.Ends.{EndsBy, EndsRight, IsLastWord, NoMemory, TooMuch, TurnedAway, WordFor, WordRight, is_accepted, is_at, is_too_much, may_end, must_end, was_starved_at_once}
 use Rattle.router_promises.specs.Now.{Now, entry_now, link_now, next, now_at, view_now, while_ending}
 use Rattle.router_promises.specs.Terms.{Terms, plan_in, setup_in}
 use Rattle.router_promises.specs.Wakes.{lacks_an_event, moments, wakes_at}
@@ -60,9 +60,9 @@ pub client-parted : (terms : Terms) (before : Log) (e : Entry) (k : ℕ) (client
     → k < length (next terms (now_at terms before) e).tale.clients → slice_index_or (next terms (now_at terms before) e).tale.clients k client ≡ client
     → (plan_in terms).ends client.number ≡ Some (entry_now (now_at terms before))
     → must_end terms (before ++ e ∷ []) (now_at terms before) (while_ending terms (now_at terms before) e) e client ≡ false
-    → is_accepted e client ≡ false → was_starved terms (entry_now (now_at terms before)) client ≡ false
+    → is_accepted e client ≡ false → was_starved terms (entry_now (now_at terms before)) client ≡ false → was_starved_at_once terms client ≡ false
     → is_at (setup_in terms) (now_at terms before) e client ≡ false → is_too_much terms (while_ending terms (now_at terms before) e) client ≡ false → ⊥
-client-parted terms before e k client ends within is ended needless known fed far few = by ((plan_in terms).words client.number) refl where
+client-parted terms before e k client ends within is ended needless known fed served far few = by ((plan_in terms).words client.number) refl where
   now : Now
   now = now_at terms before
 
@@ -72,14 +72,15 @@ client-parted terms before e k client ends within is ended needless known fed fa
       at-index (EndsRight terms (before ++ e ∷ []) now (next terms now e) e) (next terms now e).tale.clients k client ends.ends within is in
       right.may ended
 
-  or-so : (a b c d : Bool) → a ≡ false → b ≡ false → c ≡ false → (a || (b || (c || d))) ≡ true → d ≡ true
-  or-so true b c d x y z so = never x
-  or-so false true c d x y z so = never y
-  or-so false false true d x y z so = never z
-  or-so false false false d x y z so = so
+  or-so : (a b c d f : Bool) → a ≡ false → b ≡ false → c ≡ false → d ≡ false → (a || (b || (c || (d || f)))) ≡ true → f ≡ true
+  or-so true b c d f x y z v so = never x
+  or-so false true c d f x y z v so = never y
+  or-so false false true d f x y z v so = never z
+  or-so false false false true f x y z v so = never v
+  or-so false false false false f x y z v so = so
 
   word : option_map_or (λ (w : LastWord). nat_eq w.from (entry_now now)) ((plan_in terms).words client.number) false ≡ true
-  word = or-so _ _ _ _ needless known fed may
+  word = or-so _ _ _ _ _ needless known fed served may
 
   by : (last : Option LastWord) → (plan_in terms).words client.number ≡ last → ⊥
   by None none = never (sym (subst (λ (l : Option LastWord). option_map_or (λ (w : LastWord). nat_eq w.from (entry_now now)) l false ≡ true) none word))

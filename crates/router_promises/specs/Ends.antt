@@ -15,7 +15,7 @@ use Rattle.private_model.specs.Story.{Capture, Question, is_client, is_link_id, 
 use Rattle.private_model.specs.View.{Setup, present, session_in}
 use Rattle.session_state.specs.Pins.{is_pinned}
 use Rattle.log_story.specs.Clients.{concerns, is_answered}
-use Rattle.log_story.specs.Owed.{messages, talk_of}
+use Rattle.log_story.specs.Owed.{messages, name_of, talk_of}
 use Rattle.log_story.specs.Plan.{is_by_now}
 use Rattle.log_story.specs.Tale.{Client}
 use Rattle.router_promises.specs.Closes.{has_bytes, was_starved}
@@ -27,8 +27,9 @@ use Rattle.router_promises.specs.Now.{Now, entry_now, held_now, is_loss, link_no
 use Rattle.router_promises.specs.Running.{is_off, status_in}
 use Rattle.router_promises.specs.Takings.{Taking}
 use Rattle.router_promises.specs.Terms.{Terms, plan_in, setup_in}
-use Rattle.log_story.specs.Plan.{Alone, LastWord, WordPlace}
+use Rattle.log_story.specs.Plan.{Alone, LastWord, OwnAnswer, WordPlace}
 use Rattle.client_session.specs.Arrivals.{Arrival, arrival_of}
+use Rattle.router_promises.specs.Uses.{error_code}
 use Rattle.router_promises.specs.Verdicts.{Kind, Quits, kind_in}
 
 -- What ends a client.
@@ -115,11 +116,17 @@ must_end terms log now later e client =
     || (is_at_fault terms later client
     || (quits_at terms now e client || breaks_client (setup_in terms) now later e client))))
 
+-- its last message was answered so as it was taken up, which is where it ends
+abbrev pub was_starved_at_once : Terms → Client → Bool
+was_starved_at_once terms client =
+    option_map_or (λ (answer : OwnAnswer). nat_eq answer.from 0 && nat_eq (error_code answer.payloads) 9199)
+    ((plan_in terms).own (name_of client client.taken)) false
+
 -- there is no memory for it, also as it is accepted; or a last word to it comes
 abbrev pub may_end : Terms → Now → Entry → Client → Bool
 may_end terms now e client =
-    is_accepted e client || (was_starved terms (entry_now now) client
-    || option_map_or (λ (word : LastWord). nat_eq word.from (entry_now now)) ((plan_in terms).words client.number) false)
+    is_accepted e client || (was_starved terms (entry_now now) client || (was_starved_at_once terms client
+    || option_map_or (λ (word : LastWord). nat_eq word.from (entry_now now)) ((plan_in terms).words client.number) false))
 
 -- A client ends at an entry exactly where it must, by what is known before clients are ended; but for want of memory and a last word.
 pub record EndsRight (terms : Terms) (log : Log) (now later : Now) (e : Entry) (client : Client) : Type 0 where

@@ -16,7 +16,7 @@ ghost use Rattle.log_story.specs.Plan.{Asks, OwnAnswer};
 ghost use Rattle.log_story.specs.Servers.{may_begin};
 ghost use Rattle.log_story.specs.Tale.{Client, is_to_server};
 ghost use Rattle.router_promises.specs.Closes.{is_spoilt, is_starved_by, was_amiss, was_starved};
-ghost use Rattle.router_promises.specs.Ends.{is_accepted, is_at, is_too_much, moment_in, must_end};
+ghost use Rattle.router_promises.specs.Ends.{is_accepted, is_at, is_too_much, moment_in, must_end, was_starved_at_once};
 ghost use Rattle.router_promises.specs.GivenUp.{key_tried};
 ghost use Rattle.router_promises.specs.Keys.{LinkKey, is_resting, oldest};
 ghost use Rattle.router_promises.specs.Now.{entry_now, link_now, next, now_at, view_now, while_ending, wire_now};
@@ -49,6 +49,7 @@ pub fn parts_from_a_client()
         (while_ending terms (now_at terms before) e) e client ≡ false
         → is_accepted e client ≡ false
         → was_starved terms (entry_now (now_at terms before)) client ≡ false
+        → was_starved_at_once terms client ≡ false
         → is_at (setup_in terms) (now_at terms before) e client ≡ false
         → is_too_much terms (while_ending terms (now_at terms before) e) client ≡ false → ⊥ }
 {}

@@ -1,7 +1,6 @@
 -- Links of clients are no links to servers.
-use Rattle.std.specs.Prelude.{◌≡◌, ◌+◌, ℕ, zero, suc, Bool, true, false, ◌&&◌, ◌||◌, not, cond, find, fold, length, map, nat_eq, if◌then◌else◌, slice_get, slice_index_or, List, [], ◌∷◌, ◌++◌, Option, Some, None}
+use Rattle.std.specs.Prelude.{◌≡◌, ◌+◌, Bool, true, false, ◌||◌, cond, find, length, map, if◌then◌else◌, List, [], ◌∷◌, ◌++◌, Some}
 use Rattle.std.specs.List.{list_any}
-use Rattle.std.specs.Option.{option_map_or}
 use Rattle.std.proofs.Common.{refl, sym, ap, ◌∙◌, subst, append-nil, append_assoc}
 use Rattle.std.proofs.lemmas.Bool.{or_right}
 use Rattle.mx_base.specs.declared.names.LinkId.{LinkId}
@@ -11,30 +10,21 @@ use Rattle.mx_wire.specs.Moments.{LawfulAfter}
 use Rattle.mx_wire.specs.Tells.{Fits, IsNew}
 use Rattle.mx_wire.specs.declared.entry.Entry.{Entry}
 use Rattle.mx_wire.specs.declared.entry.Entry.TheVariants as entry
-use Rattle.packet_frame.specs.Packets.{Framed}
 use Rattle.private_model.proofs.Maps.{link_of, same_link}
-use Rattle.private_model.specs.Commands.{Command}
-use Rattle.private_model.specs.Names.{Hostgroup, MessageName}
-use Rattle.private_model.specs.Story.{Dropped, Freed, Gone, Left, Ran, is_client, is_link_id}
-use Rattle.private_model.specs.View.{Setup, View}
-use Rattle.log_story.proofs.Moving.{says-moved, writes-moved}
-use Rattle.log_story.specs.Clients.{client_goes_on, client_leaves, copied, due_by, ended_if_now, is_event_of, is_up, next_taken, taken_by, taken_up}
-use Rattle.log_story.specs.Executes.{Request, requested}
-use Rattle.log_story.specs.Owed.{messages, name_of}
-use Rattle.log_story.specs.Plan.{Plan, Route, com_reset, gives_up, is_before, is_now}
-use Rattle.log_story.specs.Servers.{freed_if_done, is_done, links_are_freed}
-use Rattle.log_story.specs.Clients.{clients_are_ended, clients_go_on}
-use Rattle.log_story.specs.Tale.{Client, Tale, client_gets, client_hears, counted, is_to_server, link_in, new_client, tell, view_of, with_client}
-use Rattle.log_story.specs.Telling.{is_lost_or_left, tale_step, told}
-use Rattle.tale_world.specs.Decided.{plan_of}
+use Rattle.private_model.specs.Story.{is_link_id}
+use Rattle.private_model.specs.View.{Setup}
+use Rattle.log_story.specs.Plan.{Plan}
+use Rattle.log_story.specs.Tale.{Client, Tale, client_gets, client_hears, is_to_server, new_client}
+use Rattle.log_story.specs.Telling.{tale_step, told}
 use Rattle.tale_world.specs.Deciding.{World}
-use Rattle.tale_world.proofs.Agreeing.{agrees-itself}
-use Rattle.tale_world.proofs.Following.{stepped}
 use Rattle.shared_router.specs.Fixed.{Fixed, setup_of}
 use Rattle.shared_router.specs.More.{More}
-use Rattle.shared_router.specs.Shared.{shared, world_at}
+use Rattle.shared_router.specs.Shared.{world_at}
+use Rattle.shared_router.proofs.Dues.{either}
+use Rattle.shared_router.proofs.Growing.{numbered_at, tale_so}
 use Rattle.shared_router.proofs.Lasting.{links_at, new_there}
-use Rattle.shared_router.proofs.Parting.{even_at, next, world_more}
+use Rattle.shared_router.proofs.Numbered.{AreNumbered}
+use Rattle.shared_router.proofs.Seated.{AreLike, clients_by, step_like, told_clients}
 
 -- What holds of clients' links holds of them behind an entry, if it holds of one that is accepted by it.
 module _ (Q : LinkId → Type 0) where
@@ -57,114 +47,32 @@ module _ (Q : LinkId → Type 0) where
     by_test true is later = let same : x ≡ one = cc in subst (λ (c : Client). Q c.link) same all.0
     by_test false is later = later is
 
-  either : {A : Type 0} (P : A → Type 0) (b : Bool) (x y : A) → P x → P y → P (if b then x else y)
-  either P true x y one two = one
-  either P false x y one two = two
-
-  abbrev Has : Tale → Type 0
-  Has tale = AllOf tale.clients
-
-  abbrev HasIn : Option Tale → Type 0
-  HasIn None = Unit {0}
-  HasIn (Some tale) = Has tale
-
-  copied_has : (message : MessageName) (command : Command) (mirror : Option Hostgroup) (tale : Tale) → Has tale → Has (copied message command mirror tale)
-  copied_has message command None tale has = has
-  copied_has message command (Some hostgroup) tale has = has
-
-  due_has : (client : Client) (i : ℕ) (route : Route) (request : Option Request) (tale : Tale) → Has tale → Has (due_by client i route request tale)
-  due_has client i route None tale has = has
-  due_has client i route (Some request) tale has = copied_has (name_of client i) request.command route.mirror _ has
+  all_like : (xs ys : List Client) → AreLike xs ys → AllOf xs → AllOf ys
+  all_like [] [] like all = tt
+  all_like [] (y ∷ ys) like all = absurd like
+  all_like (x ∷ xs) [] like all = absurd like
+  all_like (x ∷ xs) (y ∷ ys) like all = (subst Q (sym like.0.link) all.0, all_like xs ys like.1 all.1)
 
   module _ (setup : Setup) (plan : Plan) where
-    taken_has : (client : Client) (i : ℕ) (message : Framed) (route : Option Route) (tale : Tale) → Has tale → Has (taken_by setup plan client i message route tale)
-    taken_has client i message None tale has = either Has (nat_eq (slice_index_or message.payload 0 0) com_reset) (tell (Left client.number) tale) tale has has
-    taken_has client i message (Some route) tale has = due_has client i route (requested setup (view_of setup tale) plan client i route message.payload) tale has
-
-    next_has : (client : Client) (found : Option Framed) (tale : Tale) → Has tale → HasIn (next_taken setup plan client found tale)
-    next_has client None tale has = tt
-    next_has client (Some message) tale has =
-        either HasIn (is_up setup plan client tale)
-        (Some (taken_by setup plan client (suc client.taken) message (plan.routes (name_of client (suc client.taken))) tale)) None
-        (taken_has client (suc client.taken) message (plan.routes (name_of client (suc client.taken))) tale has) tt
-
-    with_has : (client : Client) (tale : Tale) → Q client.link → Has tale → Has (with_client client tale)
-    with_has client tale is has =
-        all_map (λ (other : Client). if is_client other.number client.number then client else other)
-        (λ c was. either (λ (x : Client). Q x.link) (is_client c.number client.number) client c is was) tale.clients has
-
-    others_has : (others : Tale → Tale) (found : Option Tale) (old : Tale) → Has old → HasIn found → ((tale : Tale) → Has tale → Has (others tale))
-        → Has (option_map_or others found old)
-    others_has others None old has in_it keeps = has
-    others_has others (Some tale) old has in_it keeps = keeps tale in_it
-
-    up_has : (most : ℕ) (client : Client) (tale : Tale) → Q client.link → Has tale → Has (taken_up most setup plan client tale)
-    up_has zero client tale is has = has
-    up_has (suc most) client tale is has =
-        let onward : Client = record client { taken = suc client.taken } in
-        others_has (λ other. taken_up most setup plan onward (with_client onward other)) (next_taken setup plan client (slice_get (messages plan client) client.taken) tale) tale
-        has (next_has client (slice_get (messages plan client) client.taken) tale has)
-        (λ other in_it. up_has most onward (with_client onward other) is (with_has onward other is in_it))
-
-    going_has : (view : View) (e : Entry) (xs : List Client) (tale : Tale) → AllOf xs → Has tale → Has (fold (client_goes_on setup plan view e) tale xs)
-    going_has view e [] tale all has = has
-    going_has view e (x ∷ xs) tale all has =
-        going_has view e xs (client_goes_on setup plan view e tale x) all.1
-        (either Has ((is_event_of view x e || gives_up plan tale.moment (name_of x x.taken)) && not (is_before tale.moment (plan.ends x.number)))
-        (taken_up (length (messages plan x)) setup plan x tale) tale (up_has (length (messages plan x)) x tale all.0 has) has)
-
-    freeing_has : (xs : List LinkId) (tale : Tale) → Has tale → Has (fold (freed_if_done setup plan) tale xs)
-    freeing_has [] tale has = has
-    freeing_has (x ∷ xs) tale has =
-        freeing_has xs (freed_if_done setup plan tale x)
-        (either Has (is_done plan tale.moment (view_of setup tale) (tale.wires x) (link_in setup tale x)) (tell (Freed x) tale) tale has has)
-
-    ending_has : (xs : List Client) (tale : Tale) → Has tale → Has (fold (ended_if_now plan) tale xs)
-    ending_has [] tale has = has
-    ending_has (x ∷ xs) tale has =
-        ending_has xs (ended_if_now plan tale x) (either Has (is_now tale.moment (plan.ends x.number)) (tell (Left x.number) tale) tale has has)
-
-    leaving_has : (link : LinkId) (xs : List Client) (tale : Tale) → Has tale → Has (fold (client_leaves link) tale xs)
-    leaving_has link [] tale has = has
-    leaving_has link (x ∷ xs) tale has =
-        leaving_has link xs (client_leaves link tale x) (either Has (is_link_id x.link link) (tell (Left x.number) tale) tale has has)
-
-    losing_has : (link : LinkId) (tale : Tale) → Has tale → Has (is_lost_or_left link tale)
-    losing_has link tale has = either Has (is_to_server tale link) (tell (Gone link) tale) (fold (client_leaves link) tale tale.clients) has (leaving_has link tale.clients tale has)
-
-    runs_has : (b : Bool) (link : LinkId) (tale : Tale) → Has tale → Has (tell (if b then Dropped link else Ran link) tale)
-    runs_has b link tale has = has
-
     -- one that is accepted has it
     abbrev pub IsOfNew : Entry → Type 0
     IsOfNew (entry.Accepted port link salt) = Q link
     IsOfNew _ = Unit {0}
 
-    told_has : (tale : Tale) (e : Entry) → IsOfNew e → Has tale → Has (told setup plan tale e)
-    told_has tale (entry.Accepted port link salt) is has = all_on tale.clients (new_client (length tale.clients + 1) link salt) has is
-    told_has tale (entry.Opened server address link) is has = has
-    told_has tale (entry.Got link bytes) is has =
-        either Has (is_to_server tale link) _ _ (subst AllOf (sym (says-moved setup plan link bytes tale).clients) has)
-        (all_map (client_hears link bytes) (λ c was. either (λ (x : Client). Q x.link) (is_link_id c.link link) (record c { read = c.read ++ bytes }) c was was) tale.clients has)
-    told_has tale (entry.Wrote link tag bytes) is has =
-        either Has (is_to_server tale link) _ _ (subst AllOf (sym (writes-moved setup plan link tag bytes tale).clients) has)
-        (all_map (client_gets link (length bytes)) (λ c was. either (λ (x : Client). Q x.link) (is_link_id c.link link) (record c { written = c.written + length bytes }) c was was) tale.clients has)
-    told_has tale (entry.Exec link) is has = either Has (tale.wires link).entered _ _ (runs_has (tale.wires link).quits link tale has) has
-    told_has tale (entry.Drop link) is has = has
-    told_has tale (entry.Ended link) is has = losing_has link tale has
-    told_has tale (entry.ReadFailed link) is has = losing_has link tale has
-    told_has tale (entry.WriteFailed link) is has = losing_has link tale has
-    told_has tale (entry.Closed link) is has = losing_has link tale has
-    told_has tale _ is has = has
+    all_by : (tale : Tale) (e : Entry) → IsOfNew e → AllOf tale.clients → AllOf (clients_by setup plan tale e)
+    all_by tale (entry.Accepted port link salt) is all = all_on tale.clients (new_client (length tale.clients + 1) link salt) all is
+    all_by tale (entry.Got link bytes) is all =
+        either AllOf (is_to_server tale link) tale.clients (map (client_hears link bytes) tale.clients) all
+        (all_map (client_hears link bytes) (λ c was. either (λ (x : Client). Q x.link) (is_link_id c.link link) (record c { read = c.read ++ bytes }) c was was) tale.clients all)
+    all_by tale (entry.Wrote link tag bytes) is all =
+        either AllOf (is_to_server tale link) tale.clients (map (client_gets link (length bytes)) tale.clients) all
+        (all_map (client_gets link (length bytes)) (λ c was. either (λ (x : Client). Q x.link) (is_link_id c.link link) (record c { written = c.written + length bytes }) c was was) tale.clients all)
+    all_by tale _ is all = all
 
-    step_has : (tale : Tale) (e : Entry) → IsOfNew e → Has tale → Has (tale_step setup plan tale e)
-    step_has tale e is has =
-        let heard : Tale = counted (told setup plan tale e) in
-        let freed : Tale = links_are_freed setup plan heard in
-        let gone : Tale = clients_go_on setup plan (view_of setup tale) e freed in
-        let ended : Tale = clients_are_ended plan gone in
-        let in_freed : Has freed = freeing_has heard.links heard (told_has tale e is has) in
-        freeing_has ended.links ended (ending_has gone.clients gone (going_has (view_of setup tale) e freed.clients freed in_freed in_freed))
+    step_has : (tale : Tale) (e : Entry) → AreNumbered 1 tale.clients → IsOfNew e → AllOf tale.clients → AllOf (tale_step setup plan tale e).clients
+    step_has tale e are is all =
+        all_like (told setup plan tale e).clients (tale_step setup plan tale e).clients (step_like setup plan tale e are)
+        (subst AllOf (sym (told_clients setup plan tale e)) (all_by tale e is all))
 
 all_more : (P Q : LinkId → Type 0) → ((l : LinkId) → P l → Q l) → (xs : List Client) → AllOf P xs → AllOf Q xs
 all_more P Q more [] all = tt
@@ -240,14 +148,10 @@ module _ (fixed : Fixed) where
       → AllOf (IsSeat (log ++ e ∷ [])) (world_at fixed (log ++ e ∷ [])).tale.clients
   seats_step log e fits seats =
       let w : World More = world_at fixed log in
-      let v : World More = next fixed w e in
-      let plan : Plan = plan_of v.decided in
-      let told_by : v.tale ≡ tale_step (setup_of fixed) plan w.tale e =
-      (stepped (setup_of fixed) (shared fixed) w e plan (even_at fixed log) (agrees-itself v.decided v.tale.moment)).same in
-      subst (λ (x : World More). AllOf (IsSeat (log ++ e ∷ [])) x.tale.clients) (sym (world_more fixed log (e ∷ [])))
-      (subst (λ (t : Tale). AllOf (IsSeat (log ++ e ∷ [])) t.clients) (sym told_by)
-      (step_has (IsSeat (log ++ e ∷ [])) (setup_of fixed) plan w.tale e (seat_new log e plan fits)
-      (all_more (IsSeat log) (IsSeat (log ++ e ∷ [])) (λ l is. seat_more log e fits l is) w.tale.clients seats)))
+      let step = tale_so fixed log e in
+      subst (λ (t : Tale). AllOf (IsSeat (log ++ e ∷ [])) t.clients) (sym step.1)
+      (step_has (IsSeat (log ++ e ∷ [])) (setup_of fixed) step.0 w.tale e (numbered_at fixed log) (seat_new log e step.0 fits)
+      (all_more (IsSeat log) (IsSeat (log ++ e ∷ [])) (λ l is. seat_more log e fits l is) w.tale.clients seats))
 
   seats_from : (before later : Log) → LawfulAfter Fits before later → AllOf (IsSeat before) (world_at fixed before).tale.clients
       → AllOf (IsSeat (before ++ later)) (world_at fixed (before ++ later)).tale.clients

@@ -141,7 +141,7 @@ module _ (setup : Setup) (plan : Plan) where
   told_clients tale (entry.Closed link) = losing_clients link tale
   told_clients tale _ = refl
 
-  numbered_by : (tale : Tale) (e : Entry) → AreNumbered 1 tale.clients → AreNumbered 1 (clients_by tale e)
+  pub numbered_by : (tale : Tale) (e : Entry) → AreNumbered 1 tale.clients → AreNumbered 1 (clients_by tale e)
   numbered_by tale (entry.Accepted port link salt) are = numbered_comes 1 tale.clients (new_client (length tale.clients + 1) link salt) are (omega arith)
   numbered_by tale (entry.Got link bytes) are =
       either (AreNumbered 1) (is_to_server tale link) tale.clients (map (client_hears link bytes) tale.clients) are

@@ -49,7 +49,7 @@ module _ (fixed : Fixed) where
   abbrev by : Deciding More
   by = shared fixed
 
-  freeing_stays : (xs : List LinkId) (w : World More) → Stays w.more (fold (freed_there setup by) w xs).more
+  pub freeing_stays : (xs : List LinkId) (w : World More) → Stays w.more (fold (freed_there setup by) w xs).more
   freeing_stays [] w = stays-refl w.more
   freeing_stays (x ∷ xs) w = freeing_stays xs (freed_there setup by w x)
 
@@ -75,7 +75,7 @@ module _ (fixed : Fixed) where
     by_test true = taking_stays (length (messages (plan_of v.decided) client)) client v
     by_test false = stays-refl w.more
 
-  all_stay : (view : View) (e : Entry) (xs : List Client) (w : World More) → Stays w.more (fold (goes_on setup by view e) w xs).more
+  pub all_stay : (view : View) (e : Entry) (xs : List Client) (w : World More) → Stays w.more (fold (goes_on setup by view e) w xs).more
   all_stay view e [] w = stays-refl w.more
   all_stay view e (x ∷ xs) w = stays-on _ _ _ (going_stays view e w x) (all_stay view e xs (goes_on setup by view e w x))
 

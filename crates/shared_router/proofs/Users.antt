@@ -136,7 +136,7 @@ module _ (fixed : Fixed) where
   abbrev service : Service
   service = service_of fixed.router
 
-  abbrev talk_by : Service → Client → Talk
+  abbrev pub talk_by : Service → Client → Talk
   talk_by by client = record { setup = by; number = client.number.0; salt = client.salt; read = client.read }
 
   account_found : (client : Client) (login : Login) → account (talk_by service client) ≡ Some login → IsFound fixed.router.users login

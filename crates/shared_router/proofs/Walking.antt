@@ -30,7 +30,7 @@ use Rattle.shared_router.specs.Shared.{shared, taking_in, takes_by}
 use Rattle.shared_router.proofs.Judging.{judged_later, same_later}
 use Rattle.shared_router.proofs.Verdicts.{flag_same}
 
-none_then : (client : Client) (tale : Tale) (found : Option Framed) (later : Tale → List Taking) → taking_then client tale found None later ≡ []
+pub none_then : (client : Client) (tale : Tale) (found : Option Framed) (later : Tale → List Taking) → taking_then client tale found None later ≡ []
 none_then client tale None later = refl
 none_then client tale (Some message) later = refl
 
@@ -78,28 +78,28 @@ module _ (fixed : Fixed) (numbered : IsNumbered fixed) (plan : Plan) (bare : Lin
 
   -- One message.
 
-  abbrev after : World More → Client → Decided
+  abbrev pub after : World More → Client → Decided
   after w client = decided_next setup by w client
 
-  abbrev looked : World More → Client → Decided
+  abbrev pub looked : World More → Client → Decided
   looked w client = decided_looked setup by w client
 
-  abbrev found_by : Client → Service → Option Framed
+  abbrev pub found_by : Client → Service → Option Framed
   found_by client service = slice_get (messages (record plan { service = service }) client) client.taken
 
-  abbrev later_by : (most : ℕ) → Client → Tale → List Taking
+  abbrev pub later_by : (most : ℕ) → Client → Tale → List Taking
   later_by most client other = takings_of most setup plan (next_of client) (with_client (next_of client) other)
 
   -- the message that is taken up
 
-  abbrev IsNext : World More → Client → Framed → Type 0
+  abbrev pub IsNext : World More → Client → Framed → Type 0
   IsNext w client message = next_message (looked w client) client ≡ Some message
 
   found_of : (p : Plan) (client : Client) (tale other : Tale) (o : Option Framed) → next_taken setup p client o tale ≡ Some other → (message : Framed) × (o ≡ Some message)
   found_of p client tale other None is = absurd (cc)
   found_of p client tale other (Some message) is = (message, refl)
 
-  taken_found : (w : World More) (client : Client) (tale : Tale) → taken_once setup by w client ≡ Some tale → (message : Framed) × IsNext w client message
+  pub taken_found : (w : World More) (client : Client) (tale : Tale) → taken_once setup by w client ≡ Some tale → (message : Framed) × IsNext w client message
   taken_found w client tale is =
       let found = found_of (plan_of (after w client)) client w.tale tale (slice_get (messages (plan_of (after w client)) client) client.taken) is in
       (found.0, ap (found_by client) (sym (since-looked setup by w client).service) ∙ found.1)
@@ -115,7 +115,7 @@ module _ (fixed : Fixed) (numbered : IsNumbered fixed) (plan : Plan) (bare : Lin
       (flag_same (terms_of fixed w) (plan_of w.decided) plan bare tried servers (w.more.flags client.number) (taking_in w client message)
       (same_later fixed w client message bare tried plan agrees))
 
-  takings_once : (most : ℕ) (w : World More) (client : Client) (message : Framed) (tale : Tale) → IsNext w client message → Agrees (after w client) w.tale.moment plan
+  pub takings_once : (most : ℕ) (w : World More) (client : Client) (message : Framed) (tale : Tale) → IsNext w client message → Agrees (after w client) w.tale.moment plan
       → Agrees (looked w client) w.tale.moment plan → taken_once setup by w client ≡ Some tale
       → takings_of (suc most) setup plan client w.tale ≡ taking_in w client message ∷ takings_of most setup plan (next_of client) (with_taken setup by w client tale).tale
   takings_once most w client message tale next agrees on_looked is =

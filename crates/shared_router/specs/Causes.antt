@@ -11,15 +11,14 @@ use Rattle.private_model.specs.Names.{LinkId, MessageName, SessionName}
 use Rattle.private_model.specs.Story.{Own, Prep, Question, Sync, is_link_id, is_message, is_name}
 use Rattle.private_model.specs.View.{Carried, Nobody}
 use Rattle.session_state.specs.Pins.{is_pinned}
-use Rattle.log_story.specs.Plan.{Route}
+use Rattle.log_story.specs.Plan.{Route, is_by_now}
 use Rattle.tale_world.specs.Deciding.{World}
 use Rattle.tale_world.specs.Policy.{Readied}
-use Rattle.router_promises.specs.Dues.{is_unsent}
 use Rattle.router_promises.specs.Errors.{no_connection, out_of_memory, replay_refused, server_offline}
 use Rattle.router_promises.specs.GivenUp.{is_in_work, key_tried, session_of}
 use Rattle.router_promises.specs.Heard as heard
 use Rattle.router_promises.specs.Heard.{Answer, Bad, Part, Reading, is_amiss, is_step, reading_of}
-use Rattle.router_promises.specs.Keys.{oldest}
+use Rattle.router_promises.specs.Keys.{is_waiting, oldest}
 use Rattle.router_promises.specs.Now.{entry_now, is_loss, wire_now}
 use Rattle.router_promises.specs.Running.{is_off, status_in}
 use Rattle.router_promises.specs.Steps.{wants_there}
@@ -67,7 +66,7 @@ is_ready c = is_readied_for c.known.now.tale.links c.known.readied (name_in c)
 
 abbrev pub late_by : Case → Entry → Option (List ℕ)
 late_by c (Woke until_ms now_ms) =
-    payload_if (is_unsent c.known.terms c.known.now.tale (name_in c)
+    payload_if (is_waiting c.known.terms c.known.now c.m.client c.route.hostgroup c.m.ordinal
     && (nat_le (c.known.now.since c.m + c.known.terms.router.proxy.wait_ms) now_ms && not (is_ready c)))
     (no_connection (c.known.now.since c.m) now_ms)
 late_by c _ = None
@@ -113,9 +112,10 @@ abbrev pub offline : Case → Option (List ℕ)
 offline c = option_and_then
     (λ link. payload_if (is_on c link && status_in is_off c.servers (wire_now c.known.now link).server) server_offline) (home_in c)
 
--- memory is refused to its client
+-- memory is refused to its client, which wasn't ended before
 abbrev pub starved : Case → Option (List ℕ)
-starved c = payload_if (c.known.fixed.starves (entry_now c.known.now) c.m.client) out_of_memory
+starved c = payload_if (c.known.fixed.starves (entry_now c.known.now) c.m.client
+    && not (is_by_now c.known.now.tale.moment ((plan_in c.known.terms).ends c.m.client))) out_of_memory
 
 abbrev pub cause_of : Case → Option (List ℕ)
 cause_of c = option_or (starved c) (option_or (lost c) (option_or (late c) (option_or (unlinked c) (option_or (by_bytes c) (offline c)))))

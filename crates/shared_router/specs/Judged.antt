@@ -1,5 +1,5 @@
 -- What a plan says of a message that is taken up, by the verdict on it.
-use Rattle.std.specs.Prelude.{◌≡◌, ◌⊎◌, ℕ, zero, suc, Bool, length, true, List, [], ◌∷◌, Some, None}
+use Rattle.std.specs.Prelude.{◌≡◌, ◌⊎◌, ℕ, zero, suc, Bool, length, true, All, List, [], ◌∷◌, ◌++◌, Some, None}
 use Rattle.hostgroups.specs.declared.server.Server.{Server}
 use Rattle.mx_wire.specs.Log.{Log}
 use Rattle.mx_wire.specs.declared.entry.Entry.{Entry}
@@ -12,8 +12,9 @@ use Rattle.log_story.specs.Tale.{Client, Tale, view_of}
 use Rattle.tale_world.specs.Decided.{plan_of}
 use Rattle.tale_world.specs.Deciding.{World}
 use Rattle.tale_world.specs.World.{are_freed, decided_last, decided_looked, goes_on, is_called, is_counted, is_told, is_up, next_message, next_of, taken_once, with_taken}
+use Rattle.router_promises.specs.Ends.{EndsRight, WordRight}
 use Rattle.router_promises.specs.Errors.{out_of_memory}
-use Rattle.router_promises.specs.Now.{flag_taken, now_at, takings_now}
+use Rattle.router_promises.specs.Now.{flag_taken, next, now_at, takings_now}
 use Rattle.router_promises.specs.Routed.{IsRoute, IsTold}
 use Rattle.router_promises.specs.Running.{servers_after}
 use Rattle.router_promises.specs.Takings.{Taking, message_in}
@@ -94,3 +95,15 @@ PromptSo fixed log e = IsPromptAt fixed (world_at fixed log) e
 abbrev pub JudgedSo : Terms → Log → Entry → Type 0
 JudgedSo terms log e = AreJudged terms (servers_after terms (now_at terms log).clock (now_at terms log).tale e (now_at terms log).servers) (now_at terms log).flags
     (takings_now terms (now_at terms log) e)
+
+-- the promise on ends, but for last words and for when the links of clients that ended close
+abbrev pub EndsFor : Terms → Log → Entry → Type 0
+EndsFor terms log e =
+    let later = next terms (now_at terms log) e in
+    All (EndsRight terms (log ++ e ∷ []) (now_at terms log) later e) later.tale.clients
+
+-- and on last words
+abbrev pub WordsFor : Terms → Log → Entry → Type 0
+WordsFor terms log e =
+    let later = next terms (now_at terms log) e in
+    All (WordRight terms (log ++ e ∷ []) (now_at terms log) later e) later.tale.clients

@@ -11,5 +11,4 @@ pub mod Owed
 pub mod Shared
 pub mod Ours
 pub mod Judged
-pub mod Fits
 pub mod Sends

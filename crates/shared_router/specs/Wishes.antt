@@ -23,6 +23,7 @@ use Rattle.tale_world.specs.Policy.{Texts, Wanted, next_open}
 use Rattle.tale_world.specs.Wishes.{Says, Sends, Standing, Wish, next_wish}
 use Rattle.router_promises.specs.Dues.{is_due}
 use Rattle.router_promises.specs.Keys.{has_room, is_in, numbered_from}
+use Rattle.router_promises.specs.Now.{wire_now}
 use Rattle.router_promises.specs.Router.{user_named}
 use Rattle.router_promises.specs.Steps.{live_keys}
 use Rattle.router_promises.specs.Terms.{Tried}
@@ -52,8 +53,11 @@ standing_on k link =
 abbrev pub kept_due : Known → View
 kept_due k = record (view_by k) { dues = λ n. if is_due k.terms k.now.tale n then (view_by k).dues n else None }
 
+-- nothing goes behind a QUIT
 abbrev pub wish_on : Known → LinkId → Option Wish
-wish_on k link = next_wish texts k.fixed.ids (setup_by k) (kept_due k) (link_by k link) (standing_on k link) (readied_now k link)
+wish_on k link =
+    if (wire_now k.now link).quits then None
+    else next_wish texts k.fixed.ids (setup_by k) (kept_due k) (link_by k link) (standing_on k link) (readied_now k link)
 
 abbrev pub ordinal_due : Option Due → ℕ
 ordinal_due due = option_map_or (λ (d : Due). d.ordinal) due 0

@@ -1,8 +1,9 @@
 //! The router with shared links, as a world that decides: what it does at each entry of a log, and what such a log keeps.
 #![tactic(auto)]
 
+mod clients;
+pub mod departing;
 mod links;
-mod who;
 
 ghost use Rattle.std.specs.Prelude.{◌≡◌, ◌++◌, ℕ, Bool, Some, true};
 ghost use Rattle.mx_base.specs.declared.names.LinkId.{LinkId};

@@ -1,7 +1,7 @@
 // Links to servers: what is known of them, for whom they are opened, and why they are closed.
 ghost use Rattle.std.specs.Prelude.{◌≡◌, ◌++◌};
 ghost use Rattle.mx_wire.specs.Log.{Log};
-ghost use Rattle.mx_wire.specs.Moments.{AllLawful, AtEachMoment};
+ghost use Rattle.mx_wire.specs.Moments.{AllLawful};
 ghost use Rattle.router_promises.specs.Closes.{ClosesSo};
 ghost use Rattle.router_promises.specs.Now.{now_at};
 ghost use Rattle.router_promises.specs.Opens.{OpensSo};
@@ -23,7 +23,7 @@ pub fn knows_now()
 /// the key are free or opening than statements wait.
 pub fn opens_for_those_who_wait()
     ensures { (fixed : Fixed) (log : Log) → IsNumbered fixed → IsOurLog fixed log
-        → AtEachMoment (AreWhoTheySay (final_terms fixed log)) log → AllLawful (OpensSo (final_terms fixed log)) log }
+        → AreWhoTheySay (final_terms fixed log) log → AllLawful (OpensSo (final_terms fixed log)) log }
 {}
 
 /// Links to servers are closed for a cause.

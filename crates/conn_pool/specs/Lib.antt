@@ -1,0 +1,3 @@
+pub mod Shelves
+pub mod Pools
+pub mod Sized

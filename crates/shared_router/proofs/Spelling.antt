@@ -1,0 +1,352 @@
+-- What stands on links to servers is a front of its one spelling: what a tale's steps keep of that.
+use Rattle.std.specs.Prelude.{◌≡◌, ℕ, ◌-◌, Bool, true, false, not, fold, if◌then◌else◌, length, take, List, [], ◌∷◌, ◌++◌, Option, Some, None}
+use Rattle.std.specs.List.{list_any}
+use Rattle.std.proofs.Common.{refl, sym, ap, ◌∙◌, subst, append_assoc}
+use Rattle.mx_base.specs.declared.names.LinkId.{LinkId}
+use Rattle.mx_base.specs.declared.tag.Tag.{Tag}
+use Rattle.mx_wire.specs.declared.entry.Entry.{Entry}
+use Rattle.mx_wire.specs.declared.entry.Entry.TheVariants as entry
+use Rattle.packet_frame.specs.Packets.{spelling}
+use Rattle.private_model.proofs.Maps.{link_of, same_link}
+use Rattle.private_model.specs.Commands.{Quit, Reply, is_prepare}
+use Rattle.private_model.specs.Story.{BecameDue, Broke, Dropped, Freed, Gone, Happening, Heard, Left, LoggedIn, Mirrored, Question, Ran, Sent, Story, Unprepared}
+use Rattle.private_model.specs.Story.{command_of, is_link_id, put}
+use Rattle.private_model.specs.View.{Answered, Asked, Link, Quiet, Setup, Stage, View, heard, new_link, ran_by, view_after, view_heard}
+use Rattle.reply_track.specs.Replying.{payloads_in}
+use Rattle.reply_track.specs.Runs.{Ended, Ending, Failed, Going}
+use Rattle.reply_track.specs.declared.reply.ReplyKind.TheVariants as kind
+use Rattle.server_side.specs.Account.{Account as Login}
+use Rattle.server_side.specs.Laws.{opening-said}
+use Rattle.server_side.specs.Login as login
+use Rattle.server_side.specs.Login.{Goes, LogsIn, Opening, opening, said_of}
+use Rattle.log_story.specs.Clients.{client_leaves, clients_are_ended, ended_if_now}
+use Rattle.log_story.specs.Honest.{IsFront, number_for}
+use Rattle.log_story.specs.Plan.{Asks, Closes, Plan, Resets, StepText, is_now, step_payload, text_payload}
+use Rattle.log_story.specs.Servers.{entered_by, freed_if_done, heard_by, hears, is_done, is_quiet, kind_by, links_are_freed, logged_in_as, read_as, reply_id, reads_on, reset_by, runs_first, with_run}
+use Rattle.log_story.specs.Tale.{Client, Tale, Wire, is_reset_step, is_to_server, link_in, new_wire, tell, view_of, with_wire}
+use Rattle.log_story.specs.Telling.{is_lost_or_left, server_says, told, wire_with}
+use Rattle.shared_router.specs.Spelt.{spelt}
+
+-- a STMT_CLOSE or a STMT_RESET stands there
+abbrev pub is_mute : Option StepText → Bool
+is_mute None = false
+is_mute (Some (Asks command)) = false
+is_mute (Some (Closes number)) = true
+is_mute (Some (Resets number)) = true
+
+-- All that is to be written of what stands there.
+
+abbrev pub text_if_quits : Bool → List ℕ
+text_if_quits true = spelling 0 (text_payload Quit)
+text_if_quits false = []
+
+abbrev pub text_of_step : (quits : Bool) → Option StepText → List ℕ
+text_of_step quits None = text_if_quits quits
+text_of_step quits (Some (Asks command)) = text_if_quits quits
+text_of_step quits (Some (Closes number)) = spelling 0 (step_payload (Closes number))
+text_of_step quits (Some (Resets number)) = spelling 0 (step_payload (Resets number))
+
+abbrev pub text_on : (quits : Bool) → Option StepText → Stage → (live : ℕ → Option ℕ) → List ℕ
+text_on quits step Quiet live = text_of_step quits step
+text_on quits step (Asked question) live = spelt (command_of question) (number_for question live)
+text_on quits step (Answered question) live = spelt (command_of question) (number_for question live)
+
+pub record IsClean (wire : Wire) (stage : Stage) (live : ℕ → Option ℕ) : Type 0 where
+  pub front : IsFront wire.written (text_on wire.quits wire.step stage live)
+  pub mute : is_mute wire.step ≡ true → (is_quiet stage ≡ true) × (wire.quits ≡ false)
+  pub ends : wire.quits ≡ true → is_quiet stage ≡ true
+
+-- in a login
+pub record IsEntering (login : Login) (wire : Wire) : Type 0 where
+  pub front : IsFront wire.written (said_of (opening login wire.unread))
+  pub begun : wire.step ≡ None
+  pub stays : wire.quits ≡ false
+
+abbrev pub IsStanding : (entered : Bool) → Login → Wire → Link → Type 0
+IsStanding false login wire link = IsEntering login wire
+IsStanding true login wire link = IsClean wire link.stage link.live
+
+abbrev pub Stood : Wire → Login → Link → Type 0
+Stood wire login link = IsStanding wire.entered login wire link
+
+isnt : {A : Type 0} → false ≡ true → A
+isnt is = absurd (cc)
+
+quiet_so : (stage : Stage) → stage ≡ Quiet → is_quiet stage ≡ true
+quiet_so stage is = ap is_quiet is
+
+-- nothing was written of it yet
+pub none_written : (text : List ℕ) → IsFront [] text
+none_written text = record { rest = text; is = refl }
+
+-- Tables.
+
+pub other_put : {A : Type 0} (f : LinkId → A) (k : LinkId) (x : A) (l : LinkId) → is_link_id l k ≡ false → put is_link_id f k x l ≡ f l
+other_put f k x l is = ap (λ b. if b then x else f l) is
+
+pub put_there : {A : Type 0} (f : LinkId → A) (k : LinkId) (x : A) → put is_link_id f k x k ≡ x
+put_there f k x = ap (λ b. if b then x else f k) (same_link k)
+
+put_like : {A : Type 0} (of : Link → A) (links : LinkId → Link) (k : LinkId) (value : Link) → of value ≡ of (links k) → (l : LinkId)
+    → of (put is_link_id links k value l) ≡ of (links l)
+put_like of links k value same l = by_test (is_link_id l k) refl where
+  by_test : (b : Bool) → is_link_id l k ≡ b → of (if b then value else links l) ≡ of (links l)
+  by_test true here = same ∙ ap (λ j. of (links j)) (sym (link_of l k here))
+  by_test false other = refl
+
+-- Happenings that leave what stands on links.
+
+abbrev pub IsCalm : Happening → Type 0
+IsCalm (LoggedIn link server account) = ⊥
+IsCalm (Sent link question) = ⊥
+IsCalm (Ran link) = ⊥
+IsCalm (Heard link reply) = ⊥
+IsCalm (Unprepared link number) = ⊥
+IsCalm _ = Unit {0}
+
+module _ (setup : Setup) where
+  abbrev pub links_in : Story → LinkId → Link
+  links_in story = (view_after setup story).links
+
+  calm_of : {A : Type 0} (of : Link → A) → ((l m : Link) → l.stage ≡ m.stage → l.live ≡ m.live → of l ≡ of m) → (past : Story) (e : Happening) → IsCalm e → (l : LinkId)
+      → of (links_in (e ∷ past) l) ≡ of (links_in past l)
+  calm_of of same past (LoggedIn link server account) calm l = absurd calm
+  calm_of of same past (Sent link question) calm l = absurd calm
+  calm_of of same past (Ran link) calm l = absurd calm
+  calm_of of same past (Heard link reply) calm l = absurd calm
+  calm_of of same past (Unprepared link number) calm l = absurd calm
+  calm_of of same past (Freed link) calm l = put_like of (links_in past) link _ (same _ _ refl refl) l
+  calm_of of same past (Gone link) calm l = put_like of (links_in past) link _ (same _ _ refl refl) l
+  calm_of of same past (BecameDue client hostgroup ordinal key command multiplex) calm l = refl
+  calm_of of same past (Dropped link) calm l = refl
+  calm_of of same past (Left client) calm l = refl
+  calm_of of same past Broke calm l = refl
+  calm_of of same past (Mirrored client job) calm l = refl
+
+  stood_like : (entered : Bool) (login : Login) (wire : Wire) (old new : Link) → new.stage ≡ old.stage → new.live ≡ old.live → IsStanding entered login wire old → IsStanding entered login wire new
+  stood_like false login wire old new stage live stood = stood
+  stood_like true login wire old new stage live stood =
+      subst (λ (s : Stage). IsClean wire s new.live) (sym stage) (subst (λ (f : ℕ → Option ℕ). IsClean wire old.stage f) (sym live) stood)
+
+  -- what happens on one link leaves the others
+
+  heard_apart : (view : View) (k : LinkId) (reply : Reply) (stage : Stage) (l : LinkId) → is_link_id l k ≡ false → (view_heard setup view k reply stage).links l ≡ view.links l
+  heard_apart view k reply Quiet l other = refl
+  heard_apart view k reply (Asked question) l other = refl
+  heard_apart view k reply (Answered question) l other = other_put view.links k _ l other
+
+  heard_quiet : (view : View) (k : LinkId) (reply : Reply) (stage : Stage) (question : Question) → stage ≡ Answered question
+      → ((view_heard setup view k reply stage).links k).stage ≡ Quiet
+  heard_quiet view k reply Quiet question is = absurd (cc)
+  heard_quiet view k reply (Asked other) question is = absurd (cc)
+  heard_quiet view k reply (Answered other) question is = ap (λ (x : Link). x.stage) (put_there view.links k (heard setup.reads other reply (view.links k)))
+
+  module _ (plan : Plan) where
+    abbrev pub At : (LinkId → Wire) → Story → LinkId → Type 0
+    At wires story l = Stood (wires l) (plan.logins l) (links_in story l)
+
+    abbrev pub AllStand : List LinkId → (LinkId → Wire) → Story → Type 0
+    AllStand links wires story = (l : LinkId) → list_any (is_link_id l) links ≡ true → At wires story l
+
+    abbrev pub AllOn : Tale → Type 0
+    AllOn tale = AllStand tale.links tale.wires tale.story
+
+    pub tell_calm : (links : List LinkId) (wires : LinkId → Wire) (past : Story) (e : Happening) → IsCalm e → AllStand links wires past → AllStand links wires (e ∷ past)
+    tell_calm links wires past e calm all l there =
+        stood_like (wires l).entered (plan.logins l) (wires l) (links_in past l) (links_in (e ∷ past) l)
+        (calm_of (λ (x : Link). x.stage) (λ a b one two. one) past e calm l) (calm_of (λ (x : Link). x.live) (λ a b one two. two) past e calm l) (all l there)
+
+    pub one_changes : (links : List LinkId) (wires new : LinkId → Wire) (past story : Story) (k : LinkId)
+        → ((l : LinkId) → is_link_id l k ≡ false → new l ≡ wires l) → ((l : LinkId) → is_link_id l k ≡ false → links_in story l ≡ links_in past l)
+        → (list_any (is_link_id k) links ≡ true → At new story k) → AllStand links wires past → AllStand links new story
+    one_changes links wires new past story k same_wires same_links now all l there = by_test (is_link_id l k) refl where
+      by_test : (b : Bool) → is_link_id l k ≡ b → At new story l
+      by_test true here = subst (λ j. list_any (is_link_id j) links ≡ true → At new story j) (sym (link_of l k here)) now there
+      by_test false other =
+          subst (λ (w : Wire). Stood w (plan.logins l) (links_in story l)) (sym (same_wires l other))
+          (subst (λ (x : Link). Stood (wires l) (plan.logins l) x) (sym (same_links l other)) (all l there))
+
+    -- another wire on one link, and what is told of it
+    pub one_on : (tale : Tale) (k : LinkId) (wire : Wire) (story : Story) → ((l : LinkId) → is_link_id l k ≡ false → links_in story l ≡ links_in tale.story l)
+        → (is_to_server tale k ≡ true → Stood wire (plan.logins k) (links_in story k)) → AllOn tale → AllStand tale.links (put is_link_id tale.wires k wire) story
+    one_on tale k wire story apart now all =
+        one_changes tale.links tale.wires (put is_link_id tale.wires k wire) tale.story story k (λ l other. other_put tale.wires k wire l other) apart
+        (λ there. subst (λ (w : Wire). Stood w (plan.logins k) (links_in story k)) (sym (put_there tale.wires k wire)) (now there)) all
+
+    -- Folds of what is calm.
+
+    pub ifs : {A : Type 0} (P : A → Type 0) (b : Bool) (x y : A) → P x → P y → P (if b then x else y)
+    ifs P true x y first second = first
+    ifs P false x y first second = second
+
+    freed_stand : (xs : List LinkId) (tale : Tale) → AllOn tale → AllOn (fold (freed_if_done setup plan) tale xs)
+    freed_stand [] tale all = all
+    freed_stand (x ∷ xs) tale all =
+        freed_stand xs (freed_if_done setup plan tale x)
+        (ifs AllOn (is_done plan tale.moment (view_of setup tale) (tale.wires x) (link_in setup tale x)) (tell (Freed x) tale) tale
+        (tell_calm tale.links tale.wires tale.story (Freed x) tt all) all)
+
+    ended_stand : (xs : List Client) (tale : Tale) → AllOn tale → AllOn (fold (ended_if_now plan) tale xs)
+    ended_stand [] tale all = all
+    ended_stand (x ∷ xs) tale all =
+        ended_stand xs (ended_if_now plan tale x)
+        (ifs AllOn (is_now tale.moment (plan.ends x.number)) (tell (Left x.number) tale) tale (tell_calm tale.links tale.wires tale.story (Left x.number) tt all) all)
+
+    left_stand : (link : LinkId) (xs : List Client) (tale : Tale) → AllOn tale → AllOn (fold (client_leaves link) tale xs)
+    left_stand link [] tale all = all
+    left_stand link (x ∷ xs) tale all =
+        left_stand link xs (client_leaves link tale x)
+        (ifs AllOn (is_link_id x.link link) (tell (Left x.number) tale) tale (tell_calm tale.links tale.wires tale.story (Left x.number) tt all) all)
+
+    pub freeing_stand : (tale : Tale) → AllOn tale → AllOn (links_are_freed setup plan tale)
+    freeing_stand tale all = freed_stand tale.links tale all
+
+    pub ending_stand : (tale : Tale) → AllOn tale → AllOn (clients_are_ended plan tale)
+    ending_stand tale all = ended_stand tale.clients tale all
+
+    pub losing_stand : (link : LinkId) (tale : Tale) → AllOn tale → AllOn (is_lost_or_left link tale)
+    losing_stand link tale all =
+        ifs AllOn (is_to_server tale link) (tell (Gone link) tale) (fold (client_leaves link) tale tale.clients)
+        (tell_calm tale.links tale.wires tale.story (Gone link) tt all) (left_stand link tale.clients tale all)
+
+    -- A run.
+
+    ran_stood : (stage : Stage) (link : Link) (entered : Bool) (login : Login) (wire : Wire) → link.stage ≡ stage → IsStanding entered login wire link
+        → IsStanding entered login wire (ran_by setup.reads stage link)
+    ran_stood Quiet link entered login wire is stood = stood
+    ran_stood (Answered question) link entered login wire is stood = stood
+    ran_stood (Asked question) link false login wire is stood = stood
+    ran_stood (Asked question) link true login wire is stood =
+        let now : IsClean wire (Asked question) link.live = subst (λ (s : Stage). IsClean wire s link.live) is stood in
+        record { front = now.front; mute = now.mute; ends = now.ends }
+
+    pub ran_stands : (k : LinkId) (tale : Tale) → AllOn tale → AllOn (tell (Ran k) tale)
+    ran_stands k tale all =
+        let links = links_in tale.story in
+        one_changes tale.links tale.wires tale.wires tale.story (Ran k ∷ tale.story) k (λ l other. refl) (λ l other. other_put links k _ l other)
+        (λ there. subst (λ (x : Link). Stood (tale.wires k) (plan.logins k) x) (sym (put_there links k (ran_by setup.reads (links k).stage (links k))))
+        (ran_stood (links k).stage (links k) (tale.wires k).entered (plan.logins k) (tale.wires k) refl (all k there))) all
+
+    runs_stand : (stage : Stage) (k : LinkId) (tale : Tale) → AllOn tale → AllOn (runs_first stage k tale)
+    runs_stand (Asked question) k tale all = ran_stands k tale all
+    runs_stand Quiet k tale all = all
+    runs_stand (Answered question) k tale all = all
+
+    runs_wires : (stage : Stage) (k : LinkId) (tale : Tale) → (runs_first stage k tale).wires ≡ tale.wires
+    runs_wires (Asked question) k tale = refl
+    runs_wires Quiet k tale = refl
+    runs_wires (Answered question) k tale = refl
+
+    -- Bytes of a server: of one that is logged in, what stands there stays, or is answered.
+
+    clean_read : (wire : Wire) (unread : List ℕ) (stage : Stage) (live : ℕ → Option ℕ) → IsClean wire stage live → IsClean (record wire { unread = unread }) stage live
+    clean_read wire unread stage live clean = record { front = clean.front; mute = clean.mute; ends = clean.ends }
+
+    heard_stand : (k : LinkId) (question : Question) (wire : Wire) (ending : Ending) (tale : Tale) → wire.entered ≡ true
+        → (links_in tale.story k).stage ≡ Answered question → (is_to_server tale k ≡ true → IsClean wire (links_in tale.story k).stage (links_in tale.story k).live)
+        → AllOn tale → AllOn (heard_by k question wire ending tale)
+    heard_stand k question wire (Ended end rest) tale entered is clean all =
+        let reply : Reply = record { to_prepare = is_prepare (command_of question); payloads = payloads_in (reply_id wire) (take (length wire.unread - length rest) wire.unread) } in
+        let story : Story = Heard k reply ∷ tale.story in
+        let after : Wire = record wire { unread = rest; written = [] } in
+        one_on tale k after story (λ l other. heard_apart (view_of setup tale) k reply (links_in tale.story k).stage l other)
+        (λ there. subst (λ b. IsStanding b (plan.logins k) after (links_in story k)) (sym entered) (record {
+          front = none_written _;
+          mute = λ mute. (quiet_so (links_in story k).stage (heard_quiet (view_of setup tale) k reply (links_in tale.story k).stage question is), ((clean there).mute mute).1);
+          ends = λ quits. quiet_so (links_in story k).stage (heard_quiet (view_of setup tale) k reply (links_in tale.story k).stage question is);
+        })) all
+    heard_stand k question wire (Going state) tale entered is clean all =
+        one_on tale k wire tale.story (λ l other. refl)
+        (λ there. subst (λ b. IsStanding b (plan.logins k) wire (links_in tale.story k)) (sym entered) (clean there)) all
+    heard_stand k question wire (Failed rest) tale entered is clean all =
+        one_on tale k wire tale.story (λ l other. refl)
+        (λ there. subst (λ b. IsStanding b (plan.logins k) wire (links_in tale.story k)) (sym entered) (clean there)) all
+
+    hears_stand : (k : LinkId) (wire : Wire) (stage : Stage) (tale : Tale) → (links_in tale.story k).stage ≡ stage → wire.entered ≡ true
+        → (is_to_server tale k ≡ true → IsClean wire (links_in tale.story k).stage (links_in tale.story k).live) → AllOn tale → AllOn (hears k wire stage tale)
+    hears_stand k wire (Answered question) tale is entered clean all =
+        heard_stand k question wire (read_as (kind_by (command_of question)) wire) tale entered is clean all
+    hears_stand k wire Quiet tale is entered clean all =
+        one_on tale k wire tale.story (λ l other. refl)
+        (λ there. subst (λ b. IsStanding b (plan.logins k) wire (links_in tale.story k)) (sym entered) (clean there)) all
+    hears_stand k wire (Asked question) tale is entered clean all =
+        one_on tale k wire tale.story (λ l other. refl)
+        (λ there. subst (λ b. IsStanding b (plan.logins k) wire (links_in tale.story k)) (sym entered) (clean there)) all
+
+    reads_stand : (k : LinkId) (bytes : List ℕ) (tale : Tale) → (tale.wires k).entered ≡ true → AllOn tale → AllOn (reads_on setup k (wire_with tale k bytes) tale)
+    reads_stand k bytes tale entered all =
+        let ran : Tale = with_run setup k tale in
+        let on : AllOn ran = runs_stand (link_in setup tale k).stage k tale all in
+        let same : ran.wires k ≡ tale.wires k = ap (λ (f : LinkId → Wire). f k) (runs_wires (link_in setup tale k).stage k tale) in
+        hears_stand k (wire_with tale k bytes) (link_in setup ran k).stage ran refl entered
+        (λ there. clean_read (tale.wires k) ((tale.wires k).unread ++ bytes) (links_in ran.story k).stage (links_in ran.story k).live
+        (subst (λ b. IsStanding b (plan.logins k) (tale.wires k) (links_in ran.story k)) entered
+        (subst (λ (w : Wire). Stood w (plan.logins k) (links_in ran.story k)) same (on k there)))) on
+
+    -- the answer to a STMT_RESET
+    reset_stands : (k : LinkId) (wire : Wire) (ending : Ending) (tale : Tale) → wire.entered ≡ true → is_reset_step wire.step ≡ true
+        → (is_to_server tale k ≡ true → IsClean wire (links_in tale.story k).stage (links_in tale.story k).live) → AllOn tale → AllOn (reset_by k wire ending tale)
+    reset_stands k wire (Ended end rest) tale entered resets clean all =
+        one_on tale k (record wire { unread = rest; written = []; step = None }) tale.story (λ l other. refl)
+        (λ there. subst (λ b. IsStanding b (plan.logins k) (record wire { unread = rest; written = []; step = None }) (links_in tale.story k)) (sym entered) (record {
+          front = none_written _;
+          mute = λ mute. isnt mute;
+          ends = λ quits. (clean there).ends quits;
+        })) all
+    reset_stands k wire (Going state) tale entered resets clean all =
+        one_on tale k wire tale.story (λ l other. refl)
+        (λ there. subst (λ b. IsStanding b (plan.logins k) wire (links_in tale.story k)) (sym entered) (clean there)) all
+    reset_stands k wire (Failed rest) tale entered resets clean all =
+        one_on tale k wire tale.story (λ l other. refl)
+        (λ there. subst (λ b. IsStanding b (plan.logins k) wire (links_in tale.story k)) (sym entered) (clean there)) all
+
+    -- in a login: what is to be said grows
+    login_grows : (login : Login) (wire : Wire) (bytes : List ℕ) → IsEntering login wire → IsEntering login (record wire { unread = wire.unread ++ bytes })
+    login_grows login wire bytes is =
+        let grown = opening-said login wire.unread bytes in
+        record {
+          front = record { rest = is.front.rest ++ grown.0; is = sym (append_assoc wire.written is.front.rest grown.0) ∙ ap (λ (xs : List ℕ). xs ++ grown.0) is.front.is ∙ grown.1 };
+          begun = is.begun;
+          stays = is.stays;
+        }
+
+    enters_stand : (k : LinkId) (wire : Wire) (at : Opening) (tale : Tale) → wire.entered ≡ false → (is_to_server tale k ≡ true → IsEntering (plan.logins k) wire)
+        → AllOn tale → AllOn (entered_by plan k wire at tale)
+    enters_stand k wire (LogsIn said rest) tale entered is all =
+        let past = tale.story in
+        let story : Story = LoggedIn k wire.server (logged_in_as (plan.logins k)) ∷ past in
+        let after : Wire = record wire { entered = true; unread = rest; written = [] } in
+        one_on tale k after story (λ l other. other_put (links_in past) k _ l other)
+        (λ there. subst (λ (x : Link). Stood after (plan.logins k) x) (sym (put_there (links_in past) k (new_link wire.server (logged_in_as (plan.logins k))))) (record {
+          front = none_written _;
+          mute = λ mute. (refl, (is there).stays);
+          ends = λ quits. refl;
+        })) all
+    enters_stand k wire (Goes said) tale entered is all =
+        one_on tale k wire tale.story (λ l other. refl)
+        (λ there. subst (λ b. IsStanding b (plan.logins k) wire (links_in tale.story k)) (sym entered) (is there)) all
+    enters_stand k wire (login.Fails said fault) tale entered is all =
+        one_on tale k wire tale.story (λ l other. refl)
+        (λ there. subst (λ b. IsStanding b (plan.logins k) wire (links_in tale.story k)) (sym entered) (is there)) all
+
+    pub says_stand : (k : LinkId) (bytes : List ℕ) (tale : Tale) → AllOn tale → AllOn (server_says setup plan k bytes tale)
+    says_stand k bytes tale all = by_entered (tale.wires k).entered refl where
+      wire : Wire
+      wire = wire_with tale k bytes
+
+      read : (tale.wires k).entered ≡ true → is_to_server tale k ≡ true → IsClean wire (links_in tale.story k).stage (links_in tale.story k).live
+      read entered there = clean_read (tale.wires k) ((tale.wires k).unread ++ bytes) (links_in tale.story k).stage (links_in tale.story k).live
+          (subst (λ b. IsStanding b (plan.logins k) (tale.wires k) (links_in tale.story k)) entered (all k there))
+
+      by_reset : (b : Bool) → is_reset_step (tale.wires k).step ≡ b → (tale.wires k).entered ≡ true
+          → AllOn (if b then reset_by k wire (read_as kind.Command wire) tale else reads_on setup k wire tale)
+      by_reset true resets entered = reset_stands k wire (read_as kind.Command wire) tale entered resets (read entered) all
+      by_reset false other entered = reads_stand k bytes tale entered all
+
+      by_entered : (b : Bool) → (tale.wires k).entered ≡ b
+          → AllOn (if not b then entered_by plan k wire (opening (plan.logins k) wire.unread) tale
+          else if is_reset_step (tale.wires k).step then reset_by k wire (read_as kind.Command wire) tale else reads_on setup k wire tale)
+      by_entered true entered = by_reset (is_reset_step (tale.wires k).step) refl entered
+      by_entered false entered =
+          enters_stand k wire (opening (plan.logins k) wire.unread) tale entered
+          (λ there. login_grows (plan.logins k) (tale.wires k) bytes (subst (λ b. IsStanding b (plan.logins k) (tale.wires k) (links_in tale.story k)) entered (all k there))) all

@@ -1,5 +1,0 @@
-use Rattle.shared_router.proofs.Fitting.{fitted_so}
-use Rattle.shared_router.proofs.who.reads_who_they_are.Goals as goal
-
-pub returns : goal.returns
-returns c = λ fixed log. fitted_so fixed log

@@ -1,0 +1,4 @@
+pub mod Has
+pub mod Counted
+pub mod Moved
+pub mod Views

@@ -1,0 +1,2 @@
+pub mod Aged
+pub mod Tables
