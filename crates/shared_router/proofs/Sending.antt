@@ -1,6 +1,6 @@
 -- What our router sends to servers is due, takes back what was done, or is said for a cause.
 use Rattle.std.specs.Prelude.{◌≡◌, ◌&&◌, ◌<◌, ℕ, Bool, true, false, not, find, fold, is_some, length, nat_eq, if◌then◌else◌, List, [], ◌∷◌, ◌++◌, Option, Some, None}
-use Rattle.std.specs.Option.{option_map_or}
+use Rattle.std.specs.Option.{option_map, option_map_or}
 use Rattle.std.proofs.Common.{refl, sym, ap, ◌∙◌, subst, append_assoc}
 use Rattle.mx_base.specs.declared.names.LinkId.{LinkId}
 use Rattle.mx_base.specs.declared.tag.Tag.{Tag}
@@ -27,7 +27,7 @@ use Rattle.tale_world.specs.Deciding.{World}
 use Rattle.tale_world.specs.Policy.{next_question}
 use Rattle.tale_world.specs.Tested.{IsTestedFrom, Passes}
 use Rattle.tale_world.specs.Tests.{may_tell}
-use Rattle.tale_world.specs.Wishes.{Says, Sends, Wish}
+use Rattle.tale_world.specs.Wishes.{Says, Sends, Wish, wish_for}
 use Rattle.router_promises.specs.Closes.{MayDrop, is_past_reset}
 use Rattle.router_promises.specs.Dues.{is_due, is_kept_due}
 use Rattle.router_promises.specs.Now.{Now, now_at, wire_now}
@@ -163,10 +163,16 @@ module _ (k : Known) (link : LinkId) where
   IsGood = IsRight texts k.fixed.ids (setup_by k) (kept_due k) (link_by k link).carries
 
   wished_good : (wish : Wish) → wish_on k link ≡ Some wish → IsRightWish (link_by k link) (standing_on k link) IsGood wish
-  wished_good wish is =
-      wish_right (link_by k link) (standing_on k link) IsGood
-      (next_question texts k.fixed.ids (setup_by k) (kept_due k) (link_by k link) (readied_now k link)) wish
-      (question_right texts k.fixed.ids (setup_by k) (kept_due k) (link_by k link) (readied_now k link)) is
+  wished_good wish is = by_quits (wire_now k.now link).quits is where
+    asked : Option Question
+    asked = next_question texts k.fixed.ids (setup_by k) (kept_due k) (link_by k link) (readied_now k link)
+
+    by_quits : (b : Bool) → (if b then None else option_map (wish_for (link_by k link) (standing_on k link)) asked) ≡ Some wish
+        → IsRightWish (link_by k link) (standing_on k link) IsGood wish
+    by_quits true now = absurd (cc)
+    by_quits false now =
+        wish_right (link_by k link) (standing_on k link) IsGood asked wish
+        (question_right texts k.fixed.ids (setup_by k) (kept_due k) (link_by k link) (readied_now k link)) now
 
   module _ (t : Terms) (log : Log) (setups : setup_in t ≡ setup_by k) where
     plain_says : (command : Command) → IsPlainStep command → MaySay t log k.now link (Asks command)
