@@ -273,6 +273,7 @@ module _ (fixed : Fixed) (numbered : IsNumbered fixed) where
           subst (λ (n : Now). SendsFor t before n link ((plan_in t).steps link (wire_now n link).begun) tag) (sym same)
           (here_so (ap (λ (n : Now). is_to_server n.tale link) (sym same) ∙ there)
           (ap (λ (n : Now). may_begin (setup_of fixed) link (wire_now n link) n.tale) (sym same) ∙ at))
+
   sends_by : (before later : Log) (e : Entry) → LawfulAfter Fits [] before → LawfulAfter Fits before (e ∷ later) → AreBegun fixed (world_at fixed before)
       → Passes (setup_of fixed) (plan_in (final_terms fixed (before ++ e ∷ later))) (tale_at (final_terms fixed (before ++ e ∷ later)) before) e
       → IsOurs fixed before e → SendsSo (final_terms fixed (before ++ e ∷ later)) before e
@@ -286,11 +287,11 @@ module _ (fixed : Fixed) (numbered : IsNumbered fixed) where
   sends_from before [] log is so_far fits begun tests our = tt
   sends_from before (e ∷ later) log is so_far fits begun tests our = (
     subst (λ l. SendsSo (final_terms fixed l) before e) is
-    (sends_by before later e so_far fits begun
-    (tested_at (setup_of fixed) (plan_in (final_terms fixed (before ++ e ∷ later))) before later e first_tale
-    (subst (λ l. IsTestedFrom (setup_of fixed) (plan_in (final_terms fixed l)) first_tale l) (sym is) tests)) our.0),
+        (sends_by before later e so_far fits begun
+        (tested_at (setup_of fixed) (plan_in (final_terms fixed (before ++ e ∷ later))) before later e first_tale
+        (subst (λ l. IsTestedFrom (setup_of fixed) (plan_in (final_terms fixed l)) first_tale l) (sym is) tests)) our.0),
     sends_from (before ++ e ∷ []) later log (append_assoc before (e ∷ []) later ∙ is) (lawful-more Fits before e so_far fits.0) fits.1
-    (begun_then fixed before e fits.0 begun) tests our.1,
+        (begun_then fixed before e fits.0 begun) tests our.1,
   )
 
   pub sends_kept : (log : Log) → LawfulAfter (IsOurs fixed) [] log → LawfulAfter Fits [] log → LawfulAfter (SendsSo (final_terms fixed log)) [] log
