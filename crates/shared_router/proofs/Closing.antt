@@ -81,7 +81,7 @@ module _ (fixed : Fixed) (log : Log) (now : Now) (v last : World More) (alike : 
         ]
       ]
 
-  drops_so : (is_open link log
+  pub drops_so : (is_open link log
       && (is_spoilt other log now link
       || (was_amiss (setup_of fixed) link now.tale.story
       || ((was_refused (setup_of fixed) link now.tale.story && not (is_joined (link_now (setup_of fixed) now link).carries))
@@ -119,7 +119,7 @@ mapped f (Some a) b is = (a, (refl, some_is (f a) b is))
 
 module _ (fixed : Fixed) (numbered : IsNumbered fixed) where
   -- by the world's own tests it is one that is to be closed, and no client's
-  closed_so : (before : Log) (link : LinkId) → LawfulAfter Fits [] before → close_by (known fixed (world_at fixed before)) ≡ Some link
+  pub closed_so : (before : Log) (link : LinkId) → LawfulAfter Fits [] before → close_by (known fixed (world_at fixed before)) ≡ Some link
       → is_to_server (world_at fixed before).tale link ≡ true → is_to_close (known fixed (world_at fixed before)) link ≡ true
   closed_so before link fits is there =
       let k : Known = known fixed (world_at fixed before) in

@@ -50,3 +50,5 @@ pub mod Calming
 pub mod Distinct
 pub mod Parted
 pub mod Lending
+pub mod Wished
+pub mod Sending

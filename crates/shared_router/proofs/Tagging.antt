@@ -213,7 +213,7 @@ module _ (fixed : Fixed) (numbered : IsNumbered fixed) where
         (usable_of (is_open link w.more.log) (is_spoilt (terms_of fixed w) w.more.log (now_of fixed w) link) (was_amiss (setup_of fixed) link w.tale.story) _ kept
         (subst (λ l. is_open link l ≡ true) (sym (log_at fixed before)) opened))
 
-    step_is : Begins fixed w link e → is_to_server w.tale link ≡ true → may_begin (setup_of fixed) link (w.tale.wires link) w.tale ≡ true
+    pub step_is : Begins fixed w link e → is_to_server w.tale link ≡ true → may_begin (setup_of fixed) link (w.tale.wires link) w.tale ≡ true
         → plan.steps link (w.tale.wires link).begun ≡ step_by k link
     step_is is there begins =
         here.told.steps link (w.tale.wires link).begun (step_by k link)

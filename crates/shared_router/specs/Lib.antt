@@ -13,3 +13,4 @@ pub mod Ours
 pub mod Judged
 pub mod Rests
 pub mod Lent
+pub mod Sends

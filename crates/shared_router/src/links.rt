@@ -9,6 +9,7 @@ ghost use Rattle.router_promises.specs.Terms.{AreWhoTheySay};
 ghost use Rattle.shared_router.specs.Fixed.{Fixed, IsNumbered};
 ghost use Rattle.shared_router.specs.More.{now_of};
 ghost use Rattle.shared_router.specs.Ours.{IsOurLog};
+ghost use Rattle.shared_router.specs.Sends.{SendsSo};
 ghost use Rattle.shared_router.specs.Shared.{final_terms, world_at};
 
 /// By what was decided in the end, all that is known at a moment of the log is what the world knows then: the clock, the tale, servers'
@@ -29,4 +30,10 @@ pub fn opens_for_those_who_wait()
 pub fn closes_for_a_cause()
     ensures { (fixed : Fixed) (log : Log) → IsNumbered fixed → IsOurLog fixed log
         → AllLawful (ClosesSo (final_terms fixed log)) log }
+{}
+
+/// Statements are sent while they are due, and no reset behind a statement of which none takes back what it does; a QUIT is said on a link
+/// that may be closed, and a STMT_RESET names a statement with long data.
+pub fn sends_what_is_due()
+    ensures { (fixed : Fixed) (log : Log) → IsNumbered fixed → IsOurLog fixed log → AllLawful (SendsSo (final_terms fixed log)) log }
 {}
