@@ -30,3 +30,7 @@ pub mod Seated
 pub mod Users
 pub mod Spelling
 pub mod Standing
+pub mod Beginning
+pub mod Speaking
+pub mod Voicing
+pub mod Saying
