@@ -2,6 +2,7 @@
 #![tactic(auto)]
 
 mod links;
+mod words;
 
 ghost use Rattle.std.specs.Prelude.{◌≡◌, ◌++◌, ℕ, Bool, Some};
 ghost use Rattle.mx_base.specs.declared.names.LinkId.{LinkId};
