@@ -1,40 +1,20 @@
 -- What begins on a link to a server is the question that is wished there, and its first bytes are those of its spelling.
-use Rattle.std.specs.Prelude.{◌≡◌, ℕ, Bool, true, false, not, ◌&&◌, ◌||◌, is_some, nat_eq, if◌then◌else◌, length, nat_le, slice_get, List, [], ◌∷◌, Option, Some, None}
+use Rattle.std.specs.Prelude.{◌≡◌, ℕ, Bool, true, false, not, ◌&&◌, ◌||◌, is_some, nat_eq, if◌then◌else◌, length, nat_le, slice_get, List, Option, Some, None}
 use Rattle.std.specs.List.{list_any}
 use Rattle.std.specs.Option.{option_map, option_map_or}
-use Rattle.std.proofs.Common.{refl, sym, ap, ◌∙◌, subst}
-use Rattle.mx_base.specs.declared.names.LinkId.{LinkId}
-use Rattle.mx_base.specs.declared.tag.Tag.{Tag}
-use Rattle.mx_base.specs.declared.tag.Tag.TheVariants as tags
-use Rattle.packet_frame.specs.Packets.{spelling}
-use Rattle.private_model.proofs.Maps.{name_of as named}
+use Rattle.std.proofs.Common.{refl, sym, ap, subst}
 use Rattle.private_model.specs.Commands.{Command, FieldList, InitDb, Number, Prepare, Query, Quit, ReadId, Reset, Run, SetId}
-use Rattle.private_model.specs.Names.{MessageName, SessionName}
-use Rattle.private_model.specs.Story.{Broke, Capture, Due, End, Happening, Own, Prep, Question, Sent, Statement, Story, Sync}
-use Rattle.private_model.specs.Story.{command_of, is_name, message_of}
-use Rattle.private_model.specs.View.{Carried, Held, Joined, Lent, Link, Nobody, Setup, View, present, session_in}
+use Rattle.private_model.specs.Names.{SessionName}
+use Rattle.private_model.specs.Story.{Capture, Due, End, Own, Prep, Question, Statement, Sync}
+use Rattle.private_model.specs.Story.{is_name}
+use Rattle.private_model.specs.View.{Carried, Held, Joined, Lent, Link, Nobody, Setup, View, present}
 use Rattle.session_state.specs.Pins.{is_pinned, needs_reset}
-use Rattle.log_story.specs.Honest.{IsFront, number_for}
-use Rattle.log_story.specs.Plan.{Asks, Closes, Plan, Resets, Route, StepText, own_at, step_payload, text_payload}
-use Rattle.log_story.specs.Servers.{begun_by, begun_on, due_in, ended_by, is_quiet, of_due, or_broke, quits_by, quits_for, step_for, stepped}
-use Rattle.log_story.specs.Tale.{Tale, Wire, view_of}
-use Rattle.tale_world.specs.Decided.{Agrees}
-use Rattle.tale_world.specs.Deciding.{World}
+use Rattle.log_story.specs.Plan.{Closes, Resets, StepText}
+use Rattle.log_story.specs.Servers.{is_quiet}
 use Rattle.tale_world.specs.Policy.{Readied, for_session, id_step, is_unprepared, key_place, next_question, or_else, place_step, question_for}
-use Rattle.tale_world.specs.Tests.{begins_there, goes_on_there, is_joined, is_lent_to, may_begin_question, may_lend, may_tell}
-use Rattle.tale_world.specs.Wishes.{Says, Sends, Standing, Wish, before_command, before_prepare, before_question, if_long, next_wish, wish_for}
-use Rattle.shared_router.specs.Fixed.{Fixed, setup_of}
-use Rattle.shared_router.specs.Known.{Known, known}
-use Rattle.shared_router.specs.Lends.{readied_now}
-use Rattle.shared_router.specs.More.{More}
-use Rattle.shared_router.specs.Spelt.{spelt}
-use Rattle.shared_router.specs.Waits.{Waits}
-use Rattle.shared_router.specs.Wishes.{standing_on, tag_of, texts, wish_on, wish_spelt, wish_step, wish_tag}
-use Rattle.shared_router.proofs.Decidedly.{AreDecided, GoesTo}
-use Rattle.shared_router.proofs.Readying.{readied_waits}
-use Rattle.shared_router.proofs.Spelling.{is_mute, text_if_quits}
-use Rattle.shared_router.proofs.Standing as starts
-use Rattle.shared_router.proofs.Standing.{Starts}
+use Rattle.tale_world.specs.Wishes.{Standing, before_command, before_prepare, before_question, if_long}
+use Rattle.shared_router.specs.Wishes.{texts}
+use Rattle.shared_router.proofs.Spelling.{is_mute}
 
 pub isnt : {A : Type 0} → false ≡ true → A
 isnt is = absurd (cc)

@@ -1,5 +1,5 @@
 -- What is so of each statement that became due is so of each that is due.
-use Rattle.std.specs.Prelude.{◌≡◌, Bool, true, false, if◌then◌else◌, List, [], ◌∷◌, Option, Some, None}
+use Rattle.std.specs.Prelude.{◌≡◌, Bool, true, false, if◌then◌else◌, [], ◌∷◌, Option, Some, None}
 use Rattle.std.proofs.Common.{refl, sym, subst}
 use Rattle.private_model.proofs.Maps.{name_of as named}
 use Rattle.private_model.specs.Commands.{Reply}

@@ -8,12 +8,11 @@ use Rattle.mx_wire.specs.Log.{Log}
 use Rattle.mx_wire.specs.declared.entry.Entry.{Entry}
 use Rattle.mx_wire.specs.declared.entry.Entry.TheVariants as entry
 use Rattle.packet_frame.specs.Packets.{Framed}
-use Rattle.private_model.proofs.Maps.{name_of as named, same_message}
-use Rattle.private_model.specs.Commands.{Reply}
+use Rattle.private_model.proofs.Maps.{same_message}
 use Rattle.private_model.specs.Names.{Hostgroup, MessageName, SessionName}
-use Rattle.private_model.specs.Story.{BecameDue, Broke, Capture, Dropped, Due, End, Freed, Gone, Happening, Heard, Left, LoggedIn, Mirrored, Own, Prep, Question, Ran, Sent, Statement, Story, Sync, Unprepared}
-use Rattle.private_model.specs.Story.{for_statement, is_message, is_name, message_of, put}
-use Rattle.private_model.specs.View.{Answered, Asked, Quiet, Setup, Stage, View, present, view_after, view_heard}
+use Rattle.private_model.specs.Story.{BecameDue, Due, Freed, Left, Story}
+use Rattle.private_model.specs.Story.{is_message, message_of}
+use Rattle.private_model.specs.View.{Setup, View}
 use Rattle.log_story.specs.Clients.{due_by, ended_if_now, next_taken, taken_by}
 use Rattle.log_story.specs.Clients as clients
 use Rattle.log_story.specs.Executes.{Request, requested}

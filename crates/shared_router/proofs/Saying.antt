@@ -8,18 +8,18 @@ use Rattle.mx_base.specs.declared.tag.Tag.{Tag}
 use Rattle.mx_base.specs.declared.tag.Tag.TheVariants as tags
 use Rattle.mx_wire.specs.Log.{Log}
 use Rattle.mx_wire.specs.Moments.{AtEachMoment, LawfulAfter}
-use Rattle.mx_wire.specs.Tells.{Fits, MayWrite}
+use Rattle.mx_wire.specs.Tells.{Fits}
 use Rattle.mx_wire.specs.declared.entry.Entry.{Entry}
 use Rattle.mx_wire.specs.declared.entry.Entry.TheVariants as entry
 use Rattle.packet_frame.specs.Packets.{spelling}
 use Rattle.private_model.specs.Commands.{Command, FieldList, InitDb, Prepare, Query, Quit, ReadId, Reset, Run, SetId}
-use Rattle.private_model.specs.Story.{Happening, command_of, is_link_id}
-use Rattle.private_model.specs.View.{Answered, Asked, Link, Quiet, Setup, Stage, View}
+use Rattle.private_model.specs.Story.{command_of, is_link_id}
+use Rattle.private_model.specs.View.{Answered, Asked, Link, Quiet, Setup, Stage}
 use Rattle.server_side.specs.Account.{Account as Login}
 use Rattle.server_side.specs.Login.{opening, said_of}
 use Rattle.log_story.specs.Honest.{IsFront, IsWritten, number_for}
-use Rattle.log_story.specs.Plan.{Asks, Closes, Plan, Resets, StepText, step_payload, text_payload}
-use Rattle.log_story.specs.Said.{Begins, IsNothing, IsQuestion, IsSaid, IsStepText, SaysSo, SaysThere}
+use Rattle.log_story.specs.Plan.{Asks, Closes, Plan, Resets, StepText, text_payload}
+use Rattle.log_story.specs.Said.{Begins, IsNothing, IsQuestion, IsSaid, IsStepText, SaysSo}
 use Rattle.log_story.specs.Servers.{begun_on, is_quiet, may_begin, quits_for, step_for}
 use Rattle.log_story.specs.Tale.{Client, Tale, Wire, is_to_server, link_in, view_of}
 use Rattle.log_story.specs.Telling.{tale_step}
@@ -34,12 +34,12 @@ use Rattle.router_promises.specs.Headline as headline
 use Rattle.router_promises.specs.Now.{was_lost}
 use Rattle.router_promises.specs.Running.{is_entering, opening_on}
 use Rattle.router_promises.specs.Tags.{last_tag}
-use Rattle.router_promises.specs.Terms.{Terms, tale_at}
+use Rattle.router_promises.specs.Terms.{tale_at}
 use Rattle.shared_router.specs.Fixed.{Fixed, IsNumbered, setup_of}
-use Rattle.shared_router.specs.Known.{Known, known, link_by}
-use Rattle.shared_router.specs.More.{More, terms_of}
+use Rattle.shared_router.specs.Known.{Known, known}
+use Rattle.shared_router.specs.More.{More}
 use Rattle.shared_router.specs.Ours.{IsOurs, Writes}
-use Rattle.shared_router.specs.Owed.{Owed, begun_there, closes, farewell, is_whole_step, nothing_owed, owed_in_login, owed_next, owed_on, owed_on_client, owed_rest, owed_there, step_by}
+use Rattle.shared_router.specs.Owed.{Owed, begun_there, closes, is_whole_step, nothing_owed, owed_next, owed_on_client, owed_there, step_by}
 use Rattle.shared_router.specs.Shared.{final_terms, shared, world_at}
 use Rattle.shared_router.specs.Spelt.{ReadsAsked, ReadsRun, RunsRead, RunsReadSo, spelt}
 use Rattle.shared_router.specs.Wishes.{wish_on, wish_step, wish_tag}
@@ -50,7 +50,7 @@ use Rattle.shared_router.proofs.Parting.{agrees_then, even_at, tale_then, world_
 use Rattle.shared_router.proofs.Prompting.{Held, first_held, step_held}
 use Rattle.shared_router.proofs.Routing.{agrees_behind}
 use Rattle.shared_router.proofs.Speaking.{Right, quit_starts, tells, tells_same}
-use Rattle.shared_router.proofs.Spelling.{IsClean, IsEntering, IsStanding, Stood, is_mute, text_on}
+use Rattle.shared_router.proofs.Spelling.{IsClean, IsEntering, IsStanding, is_mute, text_on}
 use Rattle.shared_router.proofs.Standing.{On, Starts, WritesThere, WritesWell, first_stands, step_stands}
 use Rattle.shared_router.proofs.Stepping.{AreBegun, begun_then, first_begun, none_begun}
 use Rattle.shared_router.proofs.Tagging.{no_front, step_told}
@@ -339,8 +339,8 @@ module _ (fixed : Fixed) (numbered : IsNumbered fixed) where
       let one = step_held fixed n w e (omega arith) held ours.0 in
       let same = same_step before later whole e is in
       let well : WritesWell setup (last_plan whole) w.tale e = subst (λ (l : Log). WritesWell setup (last_plan l) w.tale e) is
-          (well_so before later e begun ours.0 fits (subst (λ (l : Log). Passes setup (last_plan l) w.tale e) (sym is) tested.0) held.decided
-          (subst (λ (l : Log). On setup (last_plan l) w.tale) (sym is) on)) in
+      (well_so before later e begun ours.0 fits (subst (λ (l : Log). Passes setup (last_plan l) w.tale e) (sym is) tested.0) held.decided
+      (subst (λ (l : Log). On setup (last_plan l) w.tale) (sym is) on)) in
       subst (λ (l : Log). On setup (last_plan whole) (world_at fixed l).tale) (append_assoc before (e ∷ []) (take j later))
       (stands_from (before ++ e ∷ []) later whole (suc n) j (append_assoc before (e ∷ []) later ∙ is) (omega arith)
       (subst (λ (v : World More). Held fixed (suc n) v) (sym (world_more fixed before (e ∷ []))) one.held) (begun_then fixed before e fits.0 begun) ours.1 fits.1

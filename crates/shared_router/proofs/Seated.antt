@@ -1,5 +1,5 @@
 -- Behind an entry a tale has the clients that it had, with what was read of them, and one that came; and whose messages became due.
-use Rattle.std.specs.Prelude.{◌≡◌, ◌⊎◌, ◌+◌, ◌≤◌, ◌<◌, ℕ, zero, suc, Bool, true, false, ◌&&◌, ◌||◌, not, fold, length, map, nat_eq, if◌then◌else◌, slice_get, slice_index_or, List, [], ◌∷◌, ◌++◌, Option, Some, None}
+use Rattle.std.specs.Prelude.{◌≡◌, ◌+◌, ◌≤◌, ◌<◌, ℕ, zero, suc, Bool, true, false, ◌&&◌, ◌||◌, not, fold, length, map, nat_eq, if◌then◌else◌, slice_get, slice_index_or, List, [], ◌∷◌, ◌++◌, Option, Some, None}
 use Rattle.std.specs.Option.{option_map_or}
 use Rattle.std.proofs.Common.{refl, sym, ap, ◌∙◌, subst, inl, inr, arith}
 use Rattle.mx_base.specs.declared.names.LinkId.{LinkId}
@@ -9,7 +9,7 @@ use Rattle.packet_frame.specs.Packets.{Framed}
 use Rattle.private_model.proofs.Maps.{client_of}
 use Rattle.private_model.specs.Commands.{Command}
 use Rattle.private_model.specs.Names.{ClientNo, Hostgroup, MessageName}
-use Rattle.private_model.specs.Story.{BecameDue, Dropped, Freed, Gone, Left, Ran, Story, is_client, is_link_id}
+use Rattle.private_model.specs.Story.{BecameDue, Dropped, Freed, Gone, Left, Ran, is_client, is_link_id}
 use Rattle.private_model.specs.View.{Setup, View}
 use Rattle.log_story.proofs.Moving.{says-moved, writes-moved}
 use Rattle.log_story.specs.Clients.{client_goes_on, client_leaves, clients_are_ended, clients_go_on, copied, due_by, ended_if_now, is_event_of, is_up, next_taken, taken_by, taken_up}
@@ -77,7 +77,7 @@ of_numbered from (x ∷ xs) y are (inl same) = (
 )
 of_numbered from (x ∷ xs) y are (inr there) = (
   λ is. absurd (let same : x.number.0 ≡ y.number.0 = ap (λ (n : ClientNo). n.0) (client_of x.number y.number is) in let first : x.number.0 ≡ from = are.0 in
-  let later : suc from ≤ y.number.0 = number_from (suc from) xs y are.1 there in omega arith),
+      let later : suc from ≤ y.number.0 = number_from (suc from) xs y are.1 there in omega arith),
   of_numbered (suc from) xs y are.1 there,
 )
 

@@ -1,37 +1,29 @@
 -- As something begins on a link, its first bytes are those of its spelling.
 use Rattle.std.specs.Prelude.{◌≡◌, ℕ, Bool, true, false, not, ◌&&◌, ◌||◌, is_some, nat_eq, if◌then◌else◌, unwrap_or, List, [], ◌∷◌, Option, Some, None}
-use Rattle.std.specs.Option.{option_map, option_map_or}
 use Rattle.std.proofs.Common.{refl, sym, ap, ◌∙◌, subst}
 use Rattle.mx_base.specs.declared.names.LinkId.{LinkId}
 use Rattle.mx_base.specs.declared.tag.Tag.{Tag}
 use Rattle.mx_base.specs.declared.tag.Tag.TheVariants as tags
 use Rattle.packet_frame.specs.Packets.{spelling}
-use Rattle.private_model.proofs.Maps.{name_of as named, same_name}
 use Rattle.private_model.specs.Commands.{Command, FieldList, InitDb, Prepare, Query, Quit, ReadId, Reset, Run, SetId}
-use Rattle.private_model.specs.Names.{Hostgroup, MessageName, SessionName}
-use Rattle.private_model.specs.Story.{Broke, Capture, Due, End, Happening, Own, Prep, Question, Sent, Statement, Story, Sync}
-use Rattle.private_model.specs.Story.{command_of, is_name, message_of}
-use Rattle.private_model.specs.View.{Carried, Joined, Lent, Link, Nobody, Setup, View, present, session_in}
+use Rattle.private_model.specs.Names.{Hostgroup, SessionName}
+use Rattle.private_model.specs.Story.{Broke, Due, Happening, Own, Prep, Question, Sent, Statement, Sync}
+use Rattle.private_model.specs.Story.{command_of, message_of}
+use Rattle.private_model.specs.View.{Link, Setup, View, present, session_in}
 use Rattle.server_rule.specs.Servers.{is_some_of}
 use Rattle.log_story.specs.Honest.{IsFront, number_for}
 use Rattle.log_story.specs.Plan.{Asks, Closes, Plan, Resets, Route, StepText, own_at, step_payload, text_payload}
-use Rattle.log_story.specs.Servers.{begun_by, begun_on, due_in, ended_by, is_quiet, of_due, or_broke, quits_by, quits_for, step_for, stepped}
+use Rattle.log_story.specs.Servers.{begun_by, begun_on, due_in, ended_by, of_due, or_broke, quits_by, quits_for, step_for, stepped}
 use Rattle.log_story.specs.Tale.{Wire, view_of}
 use Rattle.tale_world.specs.Decided.{Agrees}
 use Rattle.tale_world.specs.Deciding.{World}
-use Rattle.tale_world.specs.Policy.{Readied, next_question}
 use Rattle.tale_world.specs.Tests.{may_begin_question, may_tell}
-use Rattle.tale_world.specs.Wishes.{Says, Sends, Wish, before_question, wish_for}
 use Rattle.shared_router.specs.Fixed.{Fixed, setup_of}
 use Rattle.shared_router.specs.Known.{Known, known}
-use Rattle.shared_router.specs.Lends.{readied_now}
 use Rattle.shared_router.specs.More.{More}
 use Rattle.shared_router.specs.Spelt.{spelt}
-use Rattle.shared_router.specs.Waits.{Waits}
-use Rattle.shared_router.specs.Wishes.{standing_on, tag_of, texts, wish_on, wish_spelt, wish_step, wish_tag}
-use Rattle.shared_router.proofs.Beginning.{Captures, Ends, ForJoined, ForLent, ForWaiter, IsForm, Preparing, Stating, Stepping, Wished, and_no, carried_wished, first_of, isnt, left_of, no_some, or_yes, right_of, says_mute, some_of}
-use Rattle.shared_router.proofs.Decidedly.{AreDecided, GoesTo}
-use Rattle.shared_router.proofs.Readying.{readied_waits}
+use Rattle.shared_router.proofs.Beginning.{and_no, isnt, no_some, or_yes, some_of}
+use Rattle.shared_router.proofs.Decidedly.{GoesTo}
 use Rattle.shared_router.proofs.Spelling.{is_mute, text_if_quits}
 use Rattle.shared_router.proofs.Standing as starts
 use Rattle.shared_router.proofs.Standing.{Starts}

@@ -1,5 +1,5 @@
 -- Those of whom a statement is due are users: their accounts are those that they say in their logins.
-use Rattle.std.specs.Prelude.{◌≡◌, ◌+◌, ◌≤◌, All, ℕ, zero, suc, Bool, true, false, bytes_eq, cond, find, length, map, slice_get, take, if◌then◌else◌, List, [], ◌∷◌, ◌++◌, Option, Some, None}
+use Rattle.std.specs.Prelude.{◌≡◌, All, ℕ, suc, Bool, true, false, bytes_eq, cond, find, length, map, slice_get, take, if◌then◌else◌, List, [], ◌∷◌, ◌++◌, Option, Some, None}
 use Rattle.std.specs.Option.{option_map_or}
 use Rattle.std.proofs.Common.{refl, sym, ap, ◌∙◌, subst, append_assoc, arith}
 use Rattle.std.proofs.lemmas.List.{take-append-le, take_all}
@@ -16,10 +16,9 @@ use Rattle.mx_wire.specs.declared.entry.Entry.{Entry}
 use Rattle.packet_frame.specs.Laws.{first_message-empty, split-nothing}
 use Rattle.packet_frame.specs.Packets.{Framed, split}
 use Rattle.private_model.specs.Commands.{Account}
-use Rattle.private_model.specs.Names.{ClientNo, MessageName, SessionName}
-use Rattle.private_model.specs.Story.{Due}
+use Rattle.private_model.specs.Names.{ClientNo, MessageName}
 use Rattle.server_side.specs.Account.{Account as Login}
-use Rattle.log_story.specs.Owed.{messages, talk_of}
+use Rattle.log_story.specs.Owed.{talk_of}
 use Rattle.log_story.specs.Plan.{Plan}
 use Rattle.log_story.specs.Tale.{Client, Tale}
 use Rattle.log_story.specs.Telling.{tale_step, told}
@@ -27,12 +26,12 @@ use Rattle.tale_world.specs.Decided.{plan_of}
 use Rattle.tale_world.specs.Deciding.{World}
 use Rattle.tale_world.proofs.Agreeing.{agrees-itself}
 use Rattle.tale_world.proofs.Following.{stepped}
-use Rattle.router_promises.specs.Router.{Router, service_of, user_named, user_of}
+use Rattle.router_promises.specs.Router.{service_of, user_named, user_of}
 use Rattle.router_promises.specs.Terms.{AreWhoTheySay, IsWhoItSays, Terms, login_as, plan_in, tale_at}
 use Rattle.shared_router.specs.Fixed.{Fixed, setup_of}
 use Rattle.shared_router.specs.More.{More}
 use Rattle.shared_router.specs.Shared.{final_terms, shared, world_at}
-use Rattle.shared_router.proofs.Accounts.{AreUsers, IsUser, UsersSo}
+use Rattle.shared_router.proofs.Accounts.{IsUser, UsersSo}
 use Rattle.shared_router.specs.Wishes.{login_for}
 use Rattle.shared_router.proofs.Dues.{AllDue, due_is}
 use Rattle.shared_router.proofs.Numbered.{AreNumbered}

@@ -8,7 +8,7 @@ use Rattle.private_model.proofs.Maps.{name_of as named}
 use Rattle.private_model.specs.Lawful.{is_statement}
 use Rattle.private_model.specs.Names.{SessionName}
 use Rattle.private_model.specs.Story.{Capture, Due, End, Own, Prep, Question, Statement, Sync, command_of, is_name, message_of}
-use Rattle.private_model.specs.View.{Carried, Joined, Lent, Link, Nobody, Setup, View, present, session_in}
+use Rattle.private_model.specs.View.{Carried, Lent, Link, Setup, View, present, session_in}
 use Rattle.log_story.specs.Honest.{IsFront}
 use Rattle.log_story.specs.Plan.{Asks, Plan, StepText}
 use Rattle.log_story.specs.Servers.{is_quiet}
@@ -16,8 +16,8 @@ use Rattle.log_story.specs.Tale.{view_of}
 use Rattle.session_state.specs.Pins.{is_pinned}
 use Rattle.tale_world.specs.Decided.{Agrees}
 use Rattle.tale_world.specs.Deciding.{World}
-use Rattle.tale_world.specs.Policy.{Readied, next_question}
-use Rattle.tale_world.specs.Tests.{begins_there, goes_on_there, has_due, is_joined, is_keyed, is_lent_to, is_nobody, is_told_key, may_begin_question, may_lend, may_prepare, may_state}
+use Rattle.tale_world.specs.Policy.{next_question}
+use Rattle.tale_world.specs.Tests.{begins_there, goes_on_there, has_due, is_joined, is_keyed, is_lent_to, is_nobody, is_told_key, may_lend, may_prepare, may_state}
 use Rattle.tale_world.specs.Wishes.{Says, Sends, Wish, before_question, wish_for}
 use Rattle.shared_router.specs.Fixed.{Fixed, setup_of}
 use Rattle.shared_router.specs.Known.{Known, known}
@@ -70,7 +70,7 @@ module _ (fixed : Fixed) (w : World More) (plan : Plan) (link : LinkId) (bytes :
     states = λ due may.
         let stated : may_state setup view now due there ≡ true = right_of (is_quiet there.stage) _ (right_of there.usable _ may) in
         let keyed = right_of (is_name now (present view now.client now.hostgroup)) _
-            (right_of (not (is_some (view.carriers (message_of now due)))) _ (right_of (has_due view now due) _ stated)) in
+        (right_of (not (is_some (view.carriers (message_of now due)))) _ (right_of (has_due view now due) _ stated)) in
         let begun : (begins_there setup now due there (view.held now) || goes_on_there setup now due there (view.held now)) ≡ true =
         right_of (is_keyed setup due.command due.key there.told there.live) _ (right_of (is_statement due.command) _ keyed) in
         either_case (begins_there setup now due there (view.held now)) (goes_on_there setup now due there (view.held now)) begun
