@@ -52,3 +52,7 @@ pub mod Parted
 pub mod Lending
 pub mod Wished
 pub mod Sending
+pub mod Beginning
+pub mod Speaking
+pub mod Voicing
+pub mod Saying

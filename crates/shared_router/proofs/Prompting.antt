@@ -362,11 +362,11 @@ module _ (fixed : Fixed) where
       are_freed_held fixed (suc n) (is_counted by told_then e)
       (counted_held fixed (suc n) told_then e (λ m given. old_told w e m (work_old fixed (known_before fixed told_then) told_then.more.servers e m given)) (told_held n w e held ours))
 
-  record IsStepHeld (n : ℕ) (w : World More) (e : Entry) : Type 0 where
+  pub record IsStepHeld (n : ℕ) (w : World More) (e : Entry) : Type 0 where
     pub held : Held (suc n) (next fixed w e)
     pub prompt : IsPromptAt fixed w e
 
-  step_held : (n : ℕ) (w : World More) (e : Entry) → suc n < 18446744073709551616 → Held n w → OursBy fixed w e → IsStepHeld n w e
+  pub step_held : (n : ℕ) (w : World More) (e : Entry) → suc n < 18446744073709551616 → Held n w → OursBy fixed w e → IsStepHeld n w e
   step_held n w e small held ours =
       let c : World More = heard fixed w e in
       let on_c = heard_held n w e held ours in

@@ -3,9 +3,6 @@ use Rattle.std.specs.Prelude.{◌≡◌, ℕ, ◌-◌, Bool, true, false, not, f
 use Rattle.std.specs.List.{list_any}
 use Rattle.std.proofs.Common.{refl, sym, ap, ◌∙◌, subst, append_assoc}
 use Rattle.mx_base.specs.declared.names.LinkId.{LinkId}
-use Rattle.mx_base.specs.declared.tag.Tag.{Tag}
-use Rattle.mx_wire.specs.declared.entry.Entry.{Entry}
-use Rattle.mx_wire.specs.declared.entry.Entry.TheVariants as entry
 use Rattle.packet_frame.specs.Packets.{spelling}
 use Rattle.private_model.proofs.Maps.{link_of, same_link}
 use Rattle.private_model.specs.Commands.{Quit, Reply, is_prepare}
@@ -23,8 +20,8 @@ use Rattle.log_story.specs.Clients.{client_leaves, clients_are_ended, ended_if_n
 use Rattle.log_story.specs.Honest.{IsFront, number_for}
 use Rattle.log_story.specs.Plan.{Asks, Closes, Plan, Resets, StepText, is_now, step_payload, text_payload}
 use Rattle.log_story.specs.Servers.{entered_by, freed_if_done, heard_by, hears, is_done, is_quiet, kind_by, links_are_freed, logged_in_as, read_as, reply_id, reads_on, reset_by, runs_first, with_run}
-use Rattle.log_story.specs.Tale.{Client, Tale, Wire, is_reset_step, is_to_server, link_in, new_wire, tell, view_of, with_wire}
-use Rattle.log_story.specs.Telling.{is_lost_or_left, server_says, told, wire_with}
+use Rattle.log_story.specs.Tale.{Client, Tale, Wire, is_reset_step, is_to_server, link_in, tell, view_of}
+use Rattle.log_story.specs.Telling.{is_lost_or_left, server_says, wire_with}
 use Rattle.shared_router.specs.Spelt.{spelt}
 
 -- a STMT_CLOSE or a STMT_RESET stands there

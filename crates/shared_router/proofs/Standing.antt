@@ -11,7 +11,7 @@ use Rattle.packet_frame.specs.Packets.{Framed}
 use Rattle.private_model.proofs.Maps.{link_of}
 use Rattle.private_model.specs.Commands.{Command}
 use Rattle.private_model.specs.Names.{Hostgroup, MessageName}
-use Rattle.private_model.specs.Story.{BecameDue, Broke, Dropped, Happening, Left, Mirrored, Question, Sent, Story, Unprepared}
+use Rattle.private_model.specs.Story.{BecameDue, Broke, Dropped, Happening, Left, Mirrored, Question, Sent, Unprepared}
 use Rattle.private_model.specs.Story.{command_of, is_link_id, put}
 use Rattle.private_model.specs.View.{Answered, Asked, Link, Quiet, Setup, Stage, View, asked, closed_number}
 use Rattle.log_story.specs.Clients.{client_goes_on, clients_are_ended, clients_go_on, copied, due_by, is_event_of, is_up, next_taken, taken_by, taken_up}

@@ -136,7 +136,7 @@ module _ (fixed : Fixed) (numbered : IsNumbered fixed) where
   session_by w (Says text) tag step is asks = subst (λ t. IsForSession t step) (sym is) tt
 
   -- the step that began is the one that was decided then
-  step_told : (w : World More) (link : LinkId) (tag : Tag) (bytes : List ℕ) (there begins : Bool)
+  pub step_told : (w : World More) (link : LinkId) (tag : Tag) (bytes : List ℕ) (there begins : Bool)
       → there ≡ true → begins ≡ true → w.decided.steps link (w.tale.wires link).begun ≡ None
       → (if there && begins then with_step (shared fixed) w link tag bytes else w.decided).steps link (w.tale.wires link).begun ≡ Some (step_by (known fixed w) link)
   step_told w link tag bytes true true to_server begin fresh =

@@ -1,5 +1,5 @@
 -- The entries of a log that this router makes, by its world.
-use Rattle.std.specs.Prelude.{◌≡◌, ◌<◌, ℕ, Bool, true, false, not, ◌||◌, length, List, Some, None}
+use Rattle.std.specs.Prelude.{◌≡◌, ◌<◌, ℕ, Bool, true, false, is_some, not, ◌&&◌, ◌||◌, length, List, Some, None}
 use Rattle.std.specs.List.{list_any}
 use Rattle.mx_base.specs.Fields.{AreBytes}
 use Rattle.mx_base.specs.declared.names.Address.{Address}
@@ -13,9 +13,10 @@ use Rattle.mx_wire.specs.Tells.{Fits}
 use Rattle.mx_wire.specs.declared.entry.Entry.{Entry}
 use Rattle.mx_wire.specs.declared.entry.Entry.TheVariants as entry
 use Rattle.ready_loop.specs.Drained.{all_accepted, all_named, read_dry, write_dry}
+use Rattle.private_model.specs.Story.{is_link_id}
 use Rattle.log_story.specs.Honest.{IsFront}
 use Rattle.log_story.specs.Servers.{may_begin}
-use Rattle.log_story.specs.Tale.{is_to_server}
+use Rattle.log_story.specs.Tale.{Client, is_to_server}
 use Rattle.tale_world.specs.Deciding.{World}
 use Rattle.tale_world.specs.Policy.{Wanted}
 use Rattle.tale_world.specs.Tested.{PassesBy}
@@ -23,6 +24,7 @@ use Rattle.tale_world.specs.World.{world_step}
 use Rattle.router_promises.specs.Closes.{has_bytes}
 use Rattle.router_promises.specs.Rest.{is_spared_for}
 use Rattle.router_promises.specs.Tags.{StandsRight}
+use Rattle.router_promises.specs.Terms.{plan_in}
 use Rattle.router_promises.specs.Wakes.{wakes_at}
 use Rattle.shared_router.specs.Fixed.{Fixed, setup_of}
 use Rattle.shared_router.specs.Known.{Known, known, link_by}
@@ -54,6 +56,11 @@ BeginsIf fixed w link e _ _ = Unit {0}
 abbrev pub reads : Known → LinkId → Bool
 reads k link = not (list_any (is_spared_for k.terms k.now link) k.now.tale.clients)
 
+-- who has its last word isn't heard any more: where that stands hangs on what was read
+abbrev pub has_word : Known → LinkId → Bool
+has_word k link =
+    list_any (λ (client : Client). is_link_id client.link link && is_some ((plan_in k.terms).words client.number)) k.now.tale.clients
+
 -- The loop waits where nothing is left to do.
 pub record MayWait (k : Known) : Type 0 where
   pub acted : asks k ≡ false
@@ -73,7 +80,7 @@ pub record OpensThere (k : Known) (server : ServerId) (address : Address) : Type
 -- The router is told of what comes once all that it asked for is done, and does what it asks for.
 abbrev pub OursBy : Fixed → World More → Entry → Type 0
 OursBy fixed w (entry.Accepted port link salt) = asks (known fixed w) ≡ false
-OursBy fixed w (entry.Got link bytes) = (asks (known fixed w) ≡ false) × AreBytes bytes
+OursBy fixed w (entry.Got link bytes) = (asks (known fixed w) ≡ false) × AreBytes bytes × (has_word (known fixed w) link ≡ false)
 OursBy fixed w (entry.Ended link) = asks (known fixed w) ≡ false
 OursBy fixed w (entry.ReadFailed link) = asks (known fixed w) ≡ false
 OursBy fixed w (entry.WriteFailed link) = (not (asks (known fixed w)) || closes (known fixed w) link) ≡ true

@@ -1,14 +1,18 @@
 -- The one way in which the router spells a command: an execute with each parameter's long data in one piece before it, and its types always
 -- (client/server protocol, "COM_STMT_SEND_LONG_DATA", "COM_STMT_EXECUTE").
-use Rattle.std.specs.Prelude.{ℕ, ◌/◌, ◌%◌, List, [], ◌∷◌, ◌++◌, Option, Some, None}
+use Rattle.std.specs.Prelude.{◌≡◌, ℕ, ◌/◌, ◌%◌, true, List, [], ◌∷◌, ◌++◌, Option, Some, None}
 use Rattle.std.specs.List.{flat_map}
+use Rattle.mx_wire.specs.Log.{Log}
 use Rattle.packet_frame.specs.Packets.{spelling}
 use Rattle.session_vars.specs.declared.long_part.LongPart.{LongPart}
 use Rattle.private_model.specs.Commands.{Args, Command, Run}
+use Rattle.private_model.specs.Names.{LinkId}
 use Rattle.private_model.specs.Story.{Question, command_of}
-use Rattle.private_model.specs.View.{Link}
-use Rattle.log_story.specs.Honest.{number_for}
+use Rattle.private_model.specs.View.{Answered, Asked, Link, Quiet, Setup, Stage}
+use Rattle.log_story.specs.Honest.{IsExecute, number_for}
 use Rattle.log_story.specs.Plan.{com_execute, com_long_data, text_payload, with_number}
+use Rattle.log_story.specs.Tale.{Tale, is_to_server, link_in}
+use Rattle.router_promises.specs.Terms.{Terms, setup_in, tale_at}
 
 abbrev pub long_payload : (number : ℕ) → LongPart → List ℕ
 long_payload number part = with_number com_long_data number ++ (part.parameter % 256 ∷ part.parameter / 256 % 256 ∷ part.bytes)
@@ -37,3 +41,21 @@ spelt command number = spelling 0 (text_payload command)
 
 abbrev pub question_spelt : Question → Link → List ℕ
 question_spelt question link = spelt (command_of question) (number_for question link.live)
+
+-- Executes read as they are spelt: as bytes of a statement with some number of parameters, these are its own arguments.
+
+abbrev pub ReadsRun : Command → (number : Option ℕ) → Type 0
+ReadsRun (Run text schema settings args) number = IsExecute number args (execute_spelt number args)
+ReadsRun command number = Unit {0}
+
+abbrev pub ReadsAsked : Stage → (live : ℕ → Option ℕ) → Type 0
+ReadsAsked Quiet live = Unit {0}
+ReadsAsked (Asked question) live = ReadsRun (command_of question) (number_for question live)
+ReadsAsked (Answered question) live = ReadsRun (command_of question) (number_for question live)
+
+-- each that stands on a link to a server
+abbrev pub RunsRead : Setup → Tale → Type 0
+RunsRead setup tale = (link : LinkId) → is_to_server tale link ≡ true → ReadsAsked (link_in setup tale link).stage (link_in setup tale link).live
+
+abbrev pub RunsReadSo : Terms → Log → Type 0
+RunsReadSo terms log = RunsRead (setup_in terms) (tale_at terms log)

@@ -5,6 +5,7 @@ mod clients;
 pub mod departing;
 mod links;
 mod rests;
+mod words;
 
 ghost use Rattle.std.specs.Prelude.{◌≡◌, ◌++◌, ℕ, Bool, Some, true};
 ghost use Rattle.mx_base.specs.declared.names.LinkId.{LinkId};
