@@ -44,7 +44,7 @@ pub mod Ended
 pub mod Coming
 pub mod Said
 pub mod Among
-pub mod Words
+pub mod LastWords
 pub mod Owes
 pub mod Calming
 pub mod Distinct

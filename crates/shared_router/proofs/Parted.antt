@@ -40,7 +40,7 @@ use Rattle.shared_router.proofs.Parting.{agrees_then}
 use Rattle.shared_router.proofs.Same.{now_is, now_same}
 use Rattle.shared_router.proofs.Single.{both-each}
 use Rattle.shared_router.proofs.Staying.{log_at}
-use Rattle.shared_router.proofs.Words.{words-there}
+use Rattle.shared_router.proofs.LastWords.{words-there}
 
 isnt : {A : Type 0} → false ≡ true → A
 isnt is = absurd (cc)

@@ -1,4 +1,4 @@
-use Rattle.shared_router.proofs.Words.{words-along}
+use Rattle.shared_router.proofs.LastWords.{words-along}
 use Rattle.shared_router.proofs.departing.words_right.Goals as goal
 
 pub returns : goal.returns
