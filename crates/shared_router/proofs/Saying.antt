@@ -47,7 +47,8 @@ use Rattle.shared_router.proofs.Decidedly.{AreDecided}
 use Rattle.shared_router.proofs.Keeping.{tested}
 use Rattle.shared_router.proofs.Lasting.{alike_at}
 use Rattle.shared_router.proofs.Parting.{agrees_then, even_at, tale_then, world_more}
-use Rattle.shared_router.proofs.Prompting.{Held, first_held, step_held}
+use Rattle.shared_router.proofs.Holding.{IsHeld}
+use Rattle.shared_router.proofs.Prompting.{first_held, step_held}
 use Rattle.shared_router.proofs.Routing.{agrees_behind}
 use Rattle.shared_router.proofs.Speaking.{Right, quit_starts, tells, tells_same}
 use Rattle.shared_router.proofs.Spelling.{IsClean, IsEntering, IsStanding, is_mute, text_on}
@@ -326,7 +327,10 @@ module _ (fixed : Fixed) (numbered : IsNumbered fixed) where
       ap (λ (v : World More). v.tale) (world_more fixed before (e ∷ []))
       ∙ (stepped setup (shared fixed) (world_at fixed before) e (last_plan whole) (even_at fixed before) (agrees_behind fixed numbered before later e whole is)).same
 
-  stands_from : (before later whole : Log) (n j : ℕ) → before ++ later ≡ whole → n + length later < 18446744073709551616 → Held fixed n (world_at fixed before)
+  abbrev HeldAt : ℕ → Log → Type 0
+  HeldAt n before = IsHeld setup n (world_at fixed before).decided (world_at fixed before).tale.clients (world_at fixed before).tale.story
+
+  stands_from : (before later whole : Log) (n j : ℕ) → before ++ later ≡ whole → n + length later < 18446744073709551616 → HeldAt n before
       → AreBegun fixed (world_at fixed before) → LawfulAfter (IsOurs fixed) before later → LawfulAfter Fits before later
       → IsTestedFrom setup (last_plan whole) (world_at fixed before).tale later → On setup (last_plan whole) (world_at fixed before).tale
       → On setup (last_plan whole) (world_at fixed (before ++ take j later)).tale
@@ -343,7 +347,7 @@ module _ (fixed : Fixed) (numbered : IsNumbered fixed) where
       (subst (λ (l : Log). On setup (last_plan l) w.tale) (sym is) on)) in
       subst (λ (l : Log). On setup (last_plan whole) (world_at fixed l).tale) (append_assoc before (e ∷ []) (take j later))
       (stands_from (before ++ e ∷ []) later whole (suc n) j (append_assoc before (e ∷ []) later ∙ is) (omega arith)
-      (subst (λ (v : World More). Held fixed (suc n) v) (sym (world_more fixed before (e ∷ []))) one.held) (begun_then fixed before e fits.0 begun) ours.1 fits.1
+      (subst (λ (v : World More). IsHeld setup (suc n) v.decided v.tale.clients v.tale.story) (sym (world_more fixed before (e ∷ []))) one.held) (begun_then fixed before e fits.0 begun) ours.1 fits.1
       (subst (λ (t : Tale). IsTestedFrom setup (last_plan whole) t later) (sym same) tested.1)
       (subst (λ (t : Tale). On setup (last_plan whole) t) (sym same) (step_stands setup (last_plan whole) w.tale e well on)))
 

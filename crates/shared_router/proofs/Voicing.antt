@@ -25,7 +25,7 @@ use Rattle.shared_router.specs.Lends.{readied_now}
 use Rattle.shared_router.specs.More.{More}
 use Rattle.shared_router.specs.Spelt.{question_spelt}
 use Rattle.shared_router.specs.Waits.{Waits}
-use Rattle.shared_router.specs.Wishes.{ordinal_due, standing_on, tag_of, texts, wish_on, wish_spelt, wish_step, wish_tag}
+use Rattle.shared_router.specs.Wishes.{kept_due, ordinal_due, standing_on, tag_of, texts, wish_on, wish_spelt, wish_step, wish_tag}
 use Rattle.shared_router.proofs.Beginning.{Captures, Ends, ForJoined, ForLent, ForWaiter, IsForm, Preparing, Stating, Stepping, Wished, carried_wished, isnt, left_of, no_some, right_of, says_mute, some_of}
 use Rattle.shared_router.proofs.Decidedly.{AreDecided}
 use Rattle.shared_router.proofs.Readying.{readied_waits}
@@ -111,39 +111,46 @@ module _ (fixed : Fixed) (w : World More) (plan : Plan) (link : LinkId) (bytes :
   sync_fine n due at own question Preparing = prep_fine n due at own
   sync_fine n due at own question Stating = state_fine n due at own
 
-  wished_fine : (c : Carried) (question : Question) → there.carries ≡ c → Wished setup view (readied_now k link) c question → Fine question
+  kept_by : (b : Bool) (o : Option Due) (due : Due) → (if b then o else None) ≡ Some due → o ≡ Some due
+  kept_by true o due at = at
+  kept_by false o due at = no_some due at
+
+  kept_at : (n : SessionName) (due : Due) → (kept_due k).dues n ≡ Some due → view.dues n ≡ Some due
+  kept_at n due at = kept_by _ (view.dues n) due at
+
+  wished_fine : (c : Carried) (question : Question) → there.carries ≡ c → Wished setup (kept_due k) (readied_now k link) c question → Fine question
   wished_fine c question carried (ForWaiter r q is form) =
       let waits : Waits k r = readied_waits k link r is in own_fine r.name r.due waits.due (own_present fixed w plan link bytes r.name waits.present) q form
-  wished_fine c question carried (ForLent n due q at form) = own_fine n due at (own_lent n carried) q form
+  wished_fine c question carried (ForLent n due q at form) = own_fine n due (kept_at n due at) (own_lent n carried) q form
   wished_fine c question carried (ForJoined n due q here at form) =
-      sync_fine n due at (own_present fixed w plan link bytes n (sym (named n (present view n.client n.hostgroup) here))) q form
+      sync_fine n due (kept_at n due at) (own_present fixed w plan link bytes n (sym (named n (present view n.client n.hostgroup) here))) q form
   wished_fine c question carried (Captures n here) =
       ended_starts fixed w plan link bytes n (Capture n) (Asks (command_of (Capture n))) stays (ap session_in carried) (ap (λ b. if b then Capture n else End n) here)
   wished_fine c question carried (Ends n left) =
       ended_starts fixed w plan link bytes n (End n) (Asks (command_of (End n))) stays (ap session_in carried) (ap (λ b. if b then Capture n else End n) left)
 
-  question_fine : (question : Question) → next_question texts fixed.ids setup view there (readied_now k link) ≡ Some question → Fine question
-  question_fine question is = wished_fine there.carries question refl (carried_wished fixed.ids setup view (readied_now k link) question there there.carries is)
+  question_fine : (question : Question) → next_question texts fixed.ids setup (kept_due k) there (readied_now k link) ≡ Some question → Fine question
+  question_fine question is = wished_fine there.carries question refl (carried_wished fixed.ids setup (kept_due k) (readied_now k link) question there there.carries is)
 
   abbrev Well : Wish → Type 0
   Well wish =
       IsFront bytes (wish_spelt k link wish) → Passes fixed w plan link bytes (tells fixed w plan link bytes (wish_tag k wish) (wish_step wish))
       → Right fixed w plan link bytes (wish_tag k wish) (wish_step wish)
 
-  asked_well : (question : Question) → next_question texts fixed.ids setup view there (readied_now k link) ≡ Some question → Well (wish_for there (standing_on k link) question)
+  asked_well : (question : Question) → next_question texts fixed.ids setup (kept_due k) there (readied_now k link) ≡ Some question → Well (wish_for there (standing_on k link) question)
   asked_well question is = by_before (before_question there (standing_on k link) question) refl where
     by_before : (o : Option StepText) → before_question there (standing_on k link) question ≡ o → Well (option_map_or (λ text. Says text) o (Sends question))
     by_before None before = question_fine question is
     by_before (Some text) before = text_starts fixed w plan link bytes text stays (says_mute there (standing_on k link) question text before)
 
-  next_well : (o : Option Question) (wish : Wish) → next_question texts fixed.ids setup view there (readied_now k link) ≡ o
+  next_well : (o : Option Question) (wish : Wish) → next_question texts fixed.ids setup (kept_due k) there (readied_now k link) ≡ o
       → option_map (wish_for there (standing_on k link)) o ≡ Some wish → Well wish
   next_well None wish at is = no_some wish is
   next_well (Some question) wish at is = subst Well (some_of _ wish is) (asked_well question at)
 
   pub wish_well : (wish : Wish) → wish_on k link ≡ Some wish → Well wish
   wish_well wish is = by_quits (w.tale.wires link).quits is where
-    by_quits : (b : Bool) → (if b then None else option_map (wish_for there (standing_on k link)) (next_question texts fixed.ids setup view there (readied_now k link))) ≡ Some wish
+    by_quits : (b : Bool) → (if b then None else option_map (wish_for there (standing_on k link)) (next_question texts fixed.ids setup (kept_due k) there (readied_now k link))) ≡ Some wish
         → Well wish
     by_quits true is = no_some wish is
-    by_quits false is = next_well (next_question texts fixed.ids setup view there (readied_now k link)) wish refl is
+    by_quits false is = next_well (next_question texts fixed.ids setup (kept_due k) there (readied_now k link)) wish refl is
