@@ -1,5 +1,5 @@
 -- Where the loop waits, no link is to be closed or opened.
-use Rattle.std.specs.Prelude.{◌≡◌, ◌⊎◌, ◌+◌, ◌<◌, ◌≤◌, ℕ, zero, suc, Bool, true, false, not, ◌&&◌, ◌||◌, cond, filter, find, is_some, length, nat_le, List, [], ◌∷◌, ◌++◌, Option, Some, None}
+use Rattle.std.specs.Prelude.{All, ◌≡◌, ◌⊎◌, ◌+◌, ◌<◌, ◌≤◌, ℕ, zero, suc, Bool, true, false, not, ◌&&◌, ◌||◌, cond, filter, find, is_some, length, nat_le, List, [], ◌∷◌, ◌++◌, Option, Some, None}
 use Rattle.std.specs.List.{list_any}
 use Rattle.std.specs.Option.{option_map, option_or}
 use Rattle.std.proofs.Common.{refl, sym, ap, ◌∙◌, subst, append_assoc, arith, inl, inr}
@@ -34,13 +34,15 @@ use Rattle.shared_router.specs.Lends.{as_key, settled}
 use Rattle.shared_router.specs.More.{More, now_of, terms_of}
 use Rattle.shared_router.specs.Ours.{IsOurs, MayWait}
 use Rattle.shared_router.specs.Owed.{asks, close_by, is_to_close, parts}
-use Rattle.shared_router.specs.Rests.{CalmSo, HasEnough, IsCalm, IsKept}
+use Rattle.shared_router.specs.Rests.{LeavesInTime, CalmSo, HasEnough, IsCalm, IsKept}
 use Rattle.shared_router.specs.Shared.{final_terms, world_at}
 use Rattle.shared_router.specs.Wishes.{pick, wanted_by}
 use Rattle.shared_router.proofs.Closing.{spoilt_same}
 use Rattle.shared_router.proofs.Counting.{settled_free, settled_opening, settled_unsent}
 use Rattle.shared_router.proofs.Lasting.{alike_at}
 use Rattle.shared_router.proofs.Later.{AreAlike, free_count, opening_count, waiters_same}
+use Rattle.shared_router.proofs.Leaving.{all_leave}
+use Rattle.shared_router.proofs.Parting.{agrees_then, even_at}
 use Rattle.shared_router.proofs.Same.{now_is, now_same}
 use Rattle.shared_router.proofs.Staying.{log_at}
 
@@ -69,6 +71,10 @@ none_before : {A : Type 0} (a b : Option A) → option_or a b ≡ None → a ≡
 none_before None b is = refl
 none_before (Some a) b is = absurd (cc)
 
+none_mapped : (o : Option Client) → option_map (λ (client : Client). client.link) o ≡ None → o ≡ None
+none_mapped None is = refl
+none_mapped (Some client) is = absurd (cc)
+
 -- what isn't found isn't there
 pub none_there : (test : LinkId → Bool) (links : List LinkId) (link : LinkId) → find test links ≡ None → list_any (is_link_id link) links ≡ true → test link ≡ false
 none_there test [] link none there = absurd (cc)
@@ -94,6 +100,10 @@ module _ (k : Known) where
 
   pub nothing_opens : asks k ≡ false → wanted_by k ≡ None
   nothing_opens is = none_if (wanted_by k) (right_false (is_some (close_by k)) (is_some (wanted_by k)) is)
+
+  pub nobody_parts : asks k ≡ false → find (parts k) k.now.tale.clients ≡ None
+  nobody_parts is = none_mapped (find (parts k) k.now.tale.clients)
+      (none_before (option_map (λ (client : Client). client.link) (find (parts k) k.now.tale.clients)) (find (is_to_close k) k.now.tale.links) (nothing_closes is))
 
   pub stays_open : asks k ≡ false → (link : LinkId) → is_to_server k.now.tale link ≡ true → is_to_close k link ≡ false
   stays_open is link there =
@@ -247,6 +257,8 @@ module _ (fixed : Fixed) (numbered : IsNumbered fixed) where
       subst (λ (n : Now). IsCalm t before n) (sym (now_is fixed t before (now_same fixed numbered before (e ∷ later)))) (record {
         accepted = λ port. subst (λ (l : Log). all_accepted port l ≡ true) same (may.accepted port);
         named = subst (λ (l : Log). all_named l ≡ true) same may.named;
+        leaving = subst (λ (l : Log). All (LeavesInTime t l now) w.tale.clients) same
+            (all_leave fixed w (world_at fixed (before ++ e ∷ later)) (agrees_then fixed before (e ∷ later)) (even_at fixed before) w.tale.clients (nobody_parts k may.acted));
         kept = λ link there opened.
             subst (λ (l : Log). is_open link l ≡ true → IsKept t l now link) same
             (kept_so fixed w.more.log now w (world_at fixed (before ++ e ∷ later)) (alike_at fixed numbered before (e ∷ later) fits) link there (stays_open k may.acted link there)) opened;

@@ -33,5 +33,6 @@ pub mod Users
 pub mod Growing
 pub mod Fitting
 pub mod Spelling
+pub mod Leaving
 pub mod Calming
 pub mod Lending

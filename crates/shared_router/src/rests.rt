@@ -13,7 +13,8 @@ ghost use Rattle.shared_router.specs.Ours.{IsOurLog};
 ghost use Rattle.shared_router.specs.Rests.{CalmSo};
 ghost use Rattle.shared_router.specs.Shared.{final_terms};
 
-/// Where the loop waits, nobody waits at a port, and each ready link was named. Each open link to a server can be used, and none that
+/// Where the loop waits, nobody waits at a port, and each ready link was named. The link of a client that ended, where it is open, wasn't
+/// lost, and the client has time yet to take what it is told. Each open link to a server can be used, and none that
 /// rests and carries nobody was idle for as long as the configuration allows. And for the statements of a key that wait as many links are
 /// free or opening, or no server of their hostgroup has room for one more.
 pub fn waits_when_calm()
