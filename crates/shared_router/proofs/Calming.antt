@@ -13,18 +13,16 @@ use Rattle.mx_wire.specs.Tells.{Fits}
 use Rattle.mx_wire.specs.declared.entry.Entry.{Entry}
 use Rattle.mx_wire.specs.declared.entry.Entry.TheVariants as entry
 use Rattle.ready_loop.specs.Drained.{all_accepted, all_named}
-use Rattle.private_model.proofs.Maps.{hostgroup_of, link_of}
-use Rattle.private_model.specs.Story.{is_hostgroup, is_link_id}
+use Rattle.private_model.proofs.Maps.{link_of}
+use Rattle.private_model.specs.Story.{is_link_id}
 use Rattle.log_story.specs.Tale.{Client, is_to_server}
 use Rattle.tale_world.specs.Deciding.{World}
 use Rattle.tale_world.specs.Policy as policy
 use Rattle.tale_world.specs.Policy.{Rest, Waiter, wants_link}
 use Rattle.tale_world.specs.Served.{AreServed}
-use Rattle.tale_world.specs.Tests.{is_account, is_flag}
 use Rattle.tale_world.proofs.Policies.{none_opened}
-use Rattle.tale_world.proofs.Testing.{same_account}
 use Rattle.router_promises.specs.Closes.{is_full, is_in_the_way, is_joined, is_past_reset, is_spoilt, is_unlent, was_amiss, was_refused}
-use Rattle.router_promises.specs.Keys.{LinkKey, has_room, how_many, is_at_work, is_free, is_in, is_nobodys, is_opening, is_resting, key_of, numbered_from, waiting}
+use Rattle.router_promises.specs.Keys.{LinkKey, has_room, has_room_in, how_many, is_at_work, is_free, is_in, is_nobodys, is_opening, is_resting, key_of, numbered_from, waiting}
 use Rattle.router_promises.specs.Now.{Now, is_here, link_now, now_at, wire_now}
 use Rattle.router_promises.specs.Running.{is_soft, status_in}
 use Rattle.router_promises.specs.Terms.{Terms}
@@ -40,9 +38,10 @@ use Rattle.shared_router.specs.Wishes.{pick, wanted_by}
 use Rattle.shared_router.proofs.Closing.{spoilt_same}
 use Rattle.shared_router.proofs.Counting.{settled_free, settled_opening, settled_unsent}
 use Rattle.shared_router.proofs.Lasting.{alike_at}
-use Rattle.shared_router.proofs.Later.{AreAlike, free_count, opening_count, waiters_same}
+use Rattle.shared_router.proofs.Later.{AreAlike, free_count, of_key_same, opening_count, waiters_same}
 use Rattle.shared_router.proofs.Leaving.{all_leave}
 use Rattle.shared_router.proofs.Parting.{agrees_then, even_at}
+use Rattle.shared_router.proofs.Room.{key_is_one, none_in_the_way}
 use Rattle.shared_router.proofs.Same.{now_is, now_same}
 use Rattle.shared_router.proofs.Staying.{log_at}
 
@@ -172,21 +171,6 @@ module _ (fixed : Fixed) (log : Log) (now : Now) (v last : World More) (alike : 
 
 -- Enough links.
 
-flag_of : (a b : Bool) → is_flag a b ≡ true → a ≡ b
-flag_of true true is = refl
-flag_of false false is = refl
-flag_of true false is = absurd (cc)
-flag_of false true is = absurd (cc)
-
-pub key_is_one : (a b : policy.Key) → policy.is_key a b ≡ true → a ≡ b
-key_is_one a b is =
-    let first = and_parts (is_hostgroup a.hostgroup b.hostgroup) (is_account a.account b.account && is_flag a.bare b.bare) is in
-    let second = and_parts (is_account a.account b.account) (is_flag a.bare b.bare) first.1 in
-    let group = hostgroup_of a.hostgroup b.hostgroup first.0 in
-    let account = same_account a.account b.account second.0 in
-    let bare = flag_of a.bare b.bare second.1 in
-    λ i. record { hostgroup = group i; account = account i; bare = bare i }
-
 -- of each key that someone waits for
 abbrev Enough : Rest → (Hostgroup → Option ServerId) → policy.Key → List Waiter → Type 0
 Enough rest picks key ws =
@@ -211,8 +195,8 @@ module _ (k : Known) (key : LinkKey) where
   abbrev opens : ℕ
   opens = how_many is_opening k.terms k.log k.now key
 
-  pub enough_now : asks k ≡ false → HasEnough k.terms k.log k.now key
-  enough_now is =
+  enough_then_room : asks k ≡ false → (waits ≤ frees + opens) ⊎ (has_room_in k.terms.router k.log k.now key.hostgroup ≡ false)
+  enough_then_room is =
       let unsent : policy.unsent (settled k) (as_key key) ≡ waits = settled_unsent k (as_key key) in
       let free : policy.free (settled k) (as_key key) ≡ frees = settled_free k (as_key key) in
       let opening : policy.opening (settled k) (as_key key) ≡ opens = settled_opening k (as_key key) in
@@ -225,6 +209,16 @@ module _ (k : Known) (key : LinkKey) where
           | inr full ↦ inr (none_any (λ server. is_in k.terms.router server key.hostgroup && has_room k.log k.now server) (numbered_from 1 k.terms.router.servers) full)
         ]
       ]
+
+  pub enough_now : asks k ≡ false → HasEnough k.terms k.log k.now key
+  enough_now is = by_waits waits refl where
+    by_room : 0 < waits → (waits ≤ frees + opens) ⊎ (has_room_in k.terms.router k.log k.now key.hostgroup ≡ false) → HasEnough k.terms k.log k.now key
+    by_room some (inl few) = inl few
+    by_room some (inr full) = inr (full, λ link there idle lies. none_in_the_way k key some full link (stays_open k is link there) idle lies)
+
+    by_waits : (n : ℕ) → waits ≡ n → HasEnough k.terms k.log k.now key
+    by_waits zero none = inl (omega (arith, none))
+    by_waits (suc n) some = by_room (omega (arith, some)) (enough_then_room is)
 
 -- By the last terms, at each entry.
 
@@ -243,7 +237,7 @@ module _ (fixed : Fixed) (numbered : IsNumbered fixed) where
       elim enough [
         | inl few ↦ inl (let fewer : waiting (terms_of fixed w) now key ≤ how_many is_free (terms_of fixed w) before now key + how_many is_opening (terms_of fixed w) before now key = few in
             omega (arith, fewer, free, opening, waits))
-        | inr full ↦ inr full
+        | inr full ↦ inr (full.0, λ link there idle lies. of_key_same fixed before now w last alike key link there ∙ full.1 link there idle lies)
       ]
 
   calm_at : (before later : Log) (e : Entry) → LawfulAfter Fits before (e ∷ later) → MayWait (known fixed (world_at fixed before))

@@ -34,5 +34,6 @@ pub mod Growing
 pub mod Fitting
 pub mod Spelling
 pub mod Leaving
+pub mod Room
 pub mod Calming
 pub mod Lending

@@ -9,8 +9,8 @@ use Rattle.ready_loop.specs.Drained.{all_accepted, all_named}
 use Rattle.log_story.specs.Tale.{Client, is_to_server}
 use Rattle.router_promises.specs.Closes.{is_usable}
 use Rattle.router_promises.specs.Ends.{moment_in}
-use Rattle.router_promises.specs.Keys.{LinkKey, has_room_in, how_many, is_free, is_opening, is_resting, waiting}
-use Rattle.router_promises.specs.Now.{Now, now_at, was_lost}
+use Rattle.router_promises.specs.Keys.{LinkKey, has_room_in, how_many, is_free, is_idle, is_in, is_of_key, is_opening, is_resting, waiting}
+use Rattle.router_promises.specs.Now.{Now, now_at, was_lost, wire_now}
 use Rattle.router_promises.specs.Terms.{Terms, plan_in}
 use Rattle.router_promises.specs.Wakes.{has_ended}
 
@@ -27,11 +27,18 @@ pub record IsLeaving (terms : Terms) (log : Log) (now : Now) (client : Client) :
 abbrev pub LeavesInTime : Terms → Log → Now → Client → Type 0
 LeavesInTime terms log now client = has_ended terms now client ≡ true → is_open client.link log ≡ true → IsLeaving terms log now client
 
--- for the statements of a key as many links are free or opening, or no server of its hostgroup has room for one more
+-- no idle link of another key lies in its hostgroup, that could be closed to make room
+abbrev pub NoneInTheWay : Terms → Log → Now → LinkKey → Type 0
+NoneInTheWay terms log now key =
+    (link : LinkId) → is_to_server now.tale link ≡ true → is_idle terms log now link ≡ true
+    → is_in terms.router (wire_now now link).server key.hostgroup ≡ true → is_of_key terms now key link ≡ true
+
+-- For the statements of a key as many links are free or opening; or no server of its hostgroup has room for one more, and no link can make
+-- room.
 abbrev pub HasEnough : Terms → Log → Now → LinkKey → Type 0
 HasEnough terms log now key =
     (waiting terms now key ≤ how_many is_free terms log now key + how_many is_opening terms log now key)
-    ⊎ (has_room_in terms.router log now key.hostgroup ≡ false)
+    ⊎ ((has_room_in terms.router log now key.hostgroup ≡ false) × NoneInTheWay terms log now key)
 
 -- Nobody waits at a port, and each ready link was named; clients that ended have time; each link to a server is kept; and each key has
 -- enough.
