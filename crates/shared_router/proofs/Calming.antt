@@ -1,5 +1,5 @@
 -- Where the loop waits, no link is to be closed or opened.
-use Rattle.std.specs.Prelude.{◌≡◌, ◌⊎◌, ◌+◌, ◌<◌, ◌≤◌, ℕ, zero, suc, Bool, true, false, not, ◌&&◌, ◌||◌, cond, filter, find, is_some, length, nat_le, List, [], ◌∷◌, ◌++◌, Option, Some, None}
+use Rattle.std.specs.Prelude.{All, ◌≡◌, ◌⊎◌, ◌+◌, ◌<◌, ◌≤◌, ℕ, zero, suc, Bool, true, false, not, ◌&&◌, ◌||◌, cond, filter, find, is_some, length, nat_le, List, [], ◌∷◌, ◌++◌, Option, Some, None}
 use Rattle.std.specs.List.{list_any}
 use Rattle.std.specs.Option.{option_map, option_or}
 use Rattle.std.proofs.Common.{refl, sym, ap, ◌∙◌, subst, append_assoc, arith, inl, inr}
@@ -13,18 +13,16 @@ use Rattle.mx_wire.specs.Tells.{Fits}
 use Rattle.mx_wire.specs.declared.entry.Entry.{Entry}
 use Rattle.mx_wire.specs.declared.entry.Entry.TheVariants as entry
 use Rattle.ready_loop.specs.Drained.{all_accepted, all_named}
-use Rattle.private_model.proofs.Maps.{hostgroup_of, link_of}
-use Rattle.private_model.specs.Story.{is_hostgroup, is_link_id}
+use Rattle.private_model.proofs.Maps.{link_of}
+use Rattle.private_model.specs.Story.{is_link_id}
 use Rattle.log_story.specs.Tale.{Client, is_to_server}
 use Rattle.tale_world.specs.Deciding.{World}
 use Rattle.tale_world.specs.Policy as policy
 use Rattle.tale_world.specs.Policy.{Rest, Waiter, wants_link}
 use Rattle.tale_world.specs.Served.{AreServed}
-use Rattle.tale_world.specs.Tests.{is_account, is_flag}
 use Rattle.tale_world.proofs.Policies.{none_opened}
-use Rattle.tale_world.proofs.Testing.{same_account}
 use Rattle.router_promises.specs.Closes.{is_full, is_in_the_way, is_joined, is_past_reset, is_spoilt, is_unlent, was_amiss, was_refused}
-use Rattle.router_promises.specs.Keys.{LinkKey, has_room, how_many, is_at_work, is_free, is_in, is_nobodys, is_opening, is_resting, key_of, numbered_from, waiting}
+use Rattle.router_promises.specs.Keys.{LinkKey, has_room, has_room_in, how_many, is_at_work, is_free, is_in, is_nobodys, is_opening, is_resting, key_of, numbered_from, waiting}
 use Rattle.router_promises.specs.Now.{Now, is_here, link_now, now_at, wire_now}
 use Rattle.router_promises.specs.Running.{is_soft, status_in}
 use Rattle.router_promises.specs.Terms.{Terms}
@@ -34,13 +32,16 @@ use Rattle.shared_router.specs.Lends.{as_key, settled}
 use Rattle.shared_router.specs.More.{More, now_of, terms_of}
 use Rattle.shared_router.specs.Ours.{IsOurs, MayWait}
 use Rattle.shared_router.specs.Owed.{asks, close_by, is_to_close, parts}
-use Rattle.shared_router.specs.Rests.{CalmSo, HasEnough, IsCalm, IsKept}
+use Rattle.shared_router.specs.Rests.{LeavesInTime, CalmSo, HasEnough, IsCalm, IsKept}
 use Rattle.shared_router.specs.Shared.{final_terms, world_at}
 use Rattle.shared_router.specs.Wishes.{pick, wanted_by}
 use Rattle.shared_router.proofs.Closing.{spoilt_same}
 use Rattle.shared_router.proofs.Counting.{settled_free, settled_opening, settled_unsent}
 use Rattle.shared_router.proofs.Lasting.{alike_at}
-use Rattle.shared_router.proofs.Later.{AreAlike, free_count, opening_count, waiters_same}
+use Rattle.shared_router.proofs.Later.{AreAlike, free_count, of_key_same, opening_count, waiters_same}
+use Rattle.shared_router.proofs.Leaving.{all_leave}
+use Rattle.shared_router.proofs.Parting.{agrees_then, even_at}
+use Rattle.shared_router.proofs.Room.{key_is_one, none_in_the_way}
 use Rattle.shared_router.proofs.Same.{now_is, now_same}
 use Rattle.shared_router.proofs.Staying.{log_at}
 
@@ -69,6 +70,10 @@ none_before : {A : Type 0} (a b : Option A) → option_or a b ≡ None → a ≡
 none_before None b is = refl
 none_before (Some a) b is = absurd (cc)
 
+none_mapped : (o : Option Client) → option_map (λ (client : Client). client.link) o ≡ None → o ≡ None
+none_mapped None is = refl
+none_mapped (Some client) is = absurd (cc)
+
 -- what isn't found isn't there
 pub none_there : (test : LinkId → Bool) (links : List LinkId) (link : LinkId) → find test links ≡ None → list_any (is_link_id link) links ≡ true → test link ≡ false
 none_there test [] link none there = absurd (cc)
@@ -94,6 +99,10 @@ module _ (k : Known) where
 
   pub nothing_opens : asks k ≡ false → wanted_by k ≡ None
   nothing_opens is = none_if (wanted_by k) (right_false (is_some (close_by k)) (is_some (wanted_by k)) is)
+
+  pub nobody_parts : asks k ≡ false → find (parts k) k.now.tale.clients ≡ None
+  nobody_parts is = none_mapped (find (parts k) k.now.tale.clients)
+      (none_before (option_map (λ (client : Client). client.link) (find (parts k) k.now.tale.clients)) (find (is_to_close k) k.now.tale.links) (nothing_closes is))
 
   pub stays_open : asks k ≡ false → (link : LinkId) → is_to_server k.now.tale link ≡ true → is_to_close k link ≡ false
   stays_open is link there =
@@ -162,21 +171,6 @@ module _ (fixed : Fixed) (log : Log) (now : Now) (v last : World More) (alike : 
 
 -- Enough links.
 
-flag_of : (a b : Bool) → is_flag a b ≡ true → a ≡ b
-flag_of true true is = refl
-flag_of false false is = refl
-flag_of true false is = absurd (cc)
-flag_of false true is = absurd (cc)
-
-pub key_is_one : (a b : policy.Key) → policy.is_key a b ≡ true → a ≡ b
-key_is_one a b is =
-    let first = and_parts (is_hostgroup a.hostgroup b.hostgroup) (is_account a.account b.account && is_flag a.bare b.bare) is in
-    let second = and_parts (is_account a.account b.account) (is_flag a.bare b.bare) first.1 in
-    let group = hostgroup_of a.hostgroup b.hostgroup first.0 in
-    let account = same_account a.account b.account second.0 in
-    let bare = flag_of a.bare b.bare second.1 in
-    λ i. record { hostgroup = group i; account = account i; bare = bare i }
-
 -- of each key that someone waits for
 abbrev Enough : Rest → (Hostgroup → Option ServerId) → policy.Key → List Waiter → Type 0
 Enough rest picks key ws =
@@ -201,8 +195,8 @@ module _ (k : Known) (key : LinkKey) where
   abbrev opens : ℕ
   opens = how_many is_opening k.terms k.log k.now key
 
-  pub enough_now : asks k ≡ false → HasEnough k.terms k.log k.now key
-  enough_now is =
+  enough_then_room : asks k ≡ false → (waits ≤ frees + opens) ⊎ (has_room_in k.terms.router k.log k.now key.hostgroup ≡ false)
+  enough_then_room is =
       let unsent : policy.unsent (settled k) (as_key key) ≡ waits = settled_unsent k (as_key key) in
       let free : policy.free (settled k) (as_key key) ≡ frees = settled_free k (as_key key) in
       let opening : policy.opening (settled k) (as_key key) ≡ opens = settled_opening k (as_key key) in
@@ -215,6 +209,16 @@ module _ (k : Known) (key : LinkKey) where
           | inr full ↦ inr (none_any (λ server. is_in k.terms.router server key.hostgroup && has_room k.log k.now server) (numbered_from 1 k.terms.router.servers) full)
         ]
       ]
+
+  pub enough_now : asks k ≡ false → HasEnough k.terms k.log k.now key
+  enough_now is = by_waits waits refl where
+    by_room : 0 < waits → (waits ≤ frees + opens) ⊎ (has_room_in k.terms.router k.log k.now key.hostgroup ≡ false) → HasEnough k.terms k.log k.now key
+    by_room some (inl few) = inl few
+    by_room some (inr full) = inr (full, λ link there idle lies. none_in_the_way k key some full link (stays_open k is link there) idle lies)
+
+    by_waits : (n : ℕ) → waits ≡ n → HasEnough k.terms k.log k.now key
+    by_waits zero none = inl (omega (arith, none))
+    by_waits (suc n) some = by_room (omega (arith, some)) (enough_then_room is)
 
 -- By the last terms, at each entry.
 
@@ -233,7 +237,7 @@ module _ (fixed : Fixed) (numbered : IsNumbered fixed) where
       elim enough [
         | inl few ↦ inl (let fewer : waiting (terms_of fixed w) now key ≤ how_many is_free (terms_of fixed w) before now key + how_many is_opening (terms_of fixed w) before now key = few in
             omega (arith, fewer, free, opening, waits))
-        | inr full ↦ inr full
+        | inr full ↦ inr (full.0, λ link there idle lies. of_key_same fixed before now w last alike key link there ∙ full.1 link there idle lies)
       ]
 
   calm_at : (before later : Log) (e : Entry) → LawfulAfter Fits before (e ∷ later) → MayWait (known fixed (world_at fixed before))
@@ -247,6 +251,8 @@ module _ (fixed : Fixed) (numbered : IsNumbered fixed) where
       subst (λ (n : Now). IsCalm t before n) (sym (now_is fixed t before (now_same fixed numbered before (e ∷ later)))) (record {
         accepted = λ port. subst (λ (l : Log). all_accepted port l ≡ true) same (may.accepted port);
         named = subst (λ (l : Log). all_named l ≡ true) same may.named;
+        leaving = subst (λ (l : Log). All (LeavesInTime t l now) w.tale.clients) same
+            (all_leave fixed w (world_at fixed (before ++ e ∷ later)) (agrees_then fixed before (e ∷ later)) (even_at fixed before) w.tale.clients (nobody_parts k may.acted));
         kept = λ link there opened.
             subst (λ (l : Log). is_open link l ≡ true → IsKept t l now link) same
             (kept_so fixed w.more.log now w (world_at fixed (before ++ e ∷ later)) (alike_at fixed numbered before (e ∷ later) fits) link there (stays_open k may.acted link there)) opened;

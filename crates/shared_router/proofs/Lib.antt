@@ -46,6 +46,8 @@ pub mod Said
 pub mod Among
 pub mod LastWords
 pub mod Owes
+pub mod Leaving
+pub mod Room
 pub mod Calming
 pub mod Distinct
 pub mod Parted

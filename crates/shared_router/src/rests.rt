@@ -13,9 +13,10 @@ ghost use Rattle.shared_router.specs.Ours.{IsOurLog};
 ghost use Rattle.shared_router.specs.Rests.{CalmSo};
 ghost use Rattle.shared_router.specs.Shared.{final_terms};
 
-/// Where the loop waits, nobody waits at a port, and each ready link was named. Each open link to a server can be used, and none that
+/// Where the loop waits, nobody waits at a port, and each ready link was named. The link of a client that ended, where it is open, wasn't
+/// lost, and the client has time yet to take what it is told. Each open link to a server can be used, and none that
 /// rests and carries nobody was idle for as long as the configuration allows. And for the statements of a key that wait as many links are
-/// free or opening, or no server of their hostgroup has room for one more.
+/// free or opening; or no server of their hostgroup has room for one more, and no idle link of another key lies there.
 pub fn waits_when_calm()
     ensures { (fixed : Fixed) (log : Log) → IsNumbered fixed → IsOurLog fixed log
         → AllLawful (CalmSo (final_terms fixed log)) log }
