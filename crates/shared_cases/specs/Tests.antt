@@ -34,7 +34,7 @@ use Rattle.shared_router.specs.Ends.{Ending, ends_by, words_by}
 use Rattle.shared_router.specs.Fixed.{Fixed}
 use Rattle.shared_router.specs.Known.{Known, setup_by}
 use Rattle.shared_router.specs.Lends.{readied_now}
-use Rattle.shared_router.specs.Ours.{reads}
+use Rattle.shared_router.specs.Ours.{has_word, reads}
 use Rattle.shared_router.specs.Owed.{asks, close_by, closes, owed_on, step_by}
 use Rattle.shared_router.specs.Wishes.{address_in, tried_by, wanted_by}
 
@@ -61,7 +61,7 @@ may_wait k =
 
 abbrev pub is_ours : Known → Entry → Bool
 is_ours k (entry.Accepted port link salt) = not (asks k)
-is_ours k (entry.Got link bytes) = not (asks k)
+is_ours k (entry.Got link bytes) = not (asks k) && not (has_word k link)
 is_ours k (entry.Ended link) = not (asks k)
 is_ours k (entry.ReadFailed link) = not (asks k)
 is_ours k (entry.WriteFailed link) = not (asks k) || closes k link

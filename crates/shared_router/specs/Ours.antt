@@ -15,6 +15,7 @@ use Rattle.mx_wire.specs.declared.entry.Entry.TheVariants as entry
 use Rattle.ready_loop.specs.Drained.{all_accepted, all_named, read_dry, write_dry}
 use Rattle.private_model.specs.Story.{is_link_id}
 use Rattle.log_story.specs.Honest.{IsFront}
+use Rattle.log_story.specs.Plan.{word_at}
 use Rattle.log_story.specs.Servers.{may_begin}
 use Rattle.log_story.specs.Tale.{Client, is_to_server}
 use Rattle.tale_world.specs.Deciding.{World}
@@ -59,7 +60,7 @@ reads k link = not (list_any (is_spared_for k.terms k.now link) k.now.tale.clien
 -- who has its last word isn't heard any more: where that stands hangs on what was read
 abbrev pub has_word : Known → LinkId → Bool
 has_word k link =
-    list_any (λ (client : Client). is_link_id client.link link && is_some ((plan_in k.terms).words client.number)) k.now.tale.clients
+    list_any (λ (client : Client). is_link_id client.link link && is_some (word_at (plan_in k.terms) k.now.tale.moment client.number)) k.now.tale.clients
 
 -- The loop waits where nothing is left to do.
 pub record MayWait (k : Known) : Type 0 where

@@ -7,9 +7,10 @@ ghost use Rattle.shared_router.specs.Ours.{IsOurLog};
 ghost use Rattle.shared_router.specs.Shared.{final_terms};
 ghost use Rattle.shared_router.specs.Spelt.{RunsReadSo};
 
-/// At each moment what was written of a question on a link to a server, of a login, of a STMT_CLOSE or a STMT_RESET and of the QUIT is a front
-/// of its one spelling, where each execute reads as it is spelt.
+/// At each moment what was written of a question on a link to a server, of a login, of a STMT_CLOSE or
+/// a STMT_RESET and of the QUIT is a front of its one spelling, where each execute reads as it is spelt.
 pub fn says_what_it_spells()
     ensures { (fixed : Fixed) (log : Log) → IsNumbered fixed → IsOurLog fixed log
-        → AtEachMoment (RunsReadSo (final_terms fixed log)) log → AtEachMoment (SaysSo (final_terms fixed log)) log }
+        → AtEachMoment (RunsReadSo (final_terms fixed log)) log
+        → AtEachMoment (SaysSo (final_terms fixed log)) log }
 {}
