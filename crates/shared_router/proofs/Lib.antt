@@ -37,3 +37,4 @@ pub mod Leaving
 pub mod Room
 pub mod Calming
 pub mod Lending
+pub mod Greeting
