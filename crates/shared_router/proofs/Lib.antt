@@ -38,3 +38,4 @@ pub mod Room
 pub mod Calming
 pub mod Lending
 pub mod Greeting
+pub mod Vacant

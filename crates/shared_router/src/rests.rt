@@ -5,7 +5,8 @@ ghost use Rattle.mx_wire.specs.Log.{Log};
 ghost use Rattle.mx_wire.specs.Moments.{AllLawful, AtEachMoment};
 ghost use Rattle.log_story.specs.Tale.{is_to_server};
 ghost use Rattle.router_promises.specs.Headline.{SaysSo};
-ghost use Rattle.router_promises.specs.Keys.{LinkKey, is_free, key_of};
+ghost use Rattle.router_promises.specs.Keys.{LinkKey, is_free, is_vacant, key_of};
+ghost use Rattle.tale_world.specs.Policy.{Readied};
 ghost use Rattle.shared_router.specs.Fixed.{Fixed, IsNumbered};
 ghost use Rattle.shared_router.specs.Known.{Known};
 ghost use Rattle.shared_router.specs.Lends.{readied_now, waiters_by};
@@ -35,4 +36,10 @@ pub fn lends_to_all()
 pub fn logs_in_whole()
     ensures { (fixed : Fixed) (log : Log) → IsNumbered fixed → IsOurLog fixed log
         → AtEachMoment (SaysSo (final_terms fixed log)) log → AllLawful (LogsInSo (final_terms fixed log)) log }
+{}
+
+/// A link that is readied is logged in, open and not lost, was told no QUIT, and carries nobody.
+pub fn readied_vacant()
+    ensures { (k : Known) (link : LinkId) (r : Readied)
+        → readied_now k link ≡ Some r → is_vacant k.terms k.log k.now link ≡ true }
 {}
