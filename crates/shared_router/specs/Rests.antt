@@ -5,12 +5,14 @@ use Rattle.mx_base.specs.declared.names.Port.{Port}
 use Rattle.mx_wire.specs.Log.{Log, is_open}
 use Rattle.mx_wire.specs.declared.entry.Entry.{Entry}
 use Rattle.mx_wire.specs.declared.entry.Entry.TheVariants.{Over, WaitFailed, Woke}
-use Rattle.ready_loop.specs.Drained.{all_accepted, all_named}
+use Rattle.ready_loop.specs.Drained.{all_accepted, all_named, write_dry}
+use Rattle.server_side.specs.Login.{said_of}
 use Rattle.log_story.specs.Tale.{Client, is_to_server}
 use Rattle.router_promises.specs.Closes.{is_usable}
 use Rattle.router_promises.specs.Ends.{moment_in}
 use Rattle.router_promises.specs.Keys.{LinkKey, has_room_in, how_many, is_free, is_idle, is_in, is_of_key, is_opening, is_resting, waiting}
 use Rattle.router_promises.specs.Now.{Now, now_at, was_lost, wire_now}
+use Rattle.router_promises.specs.Running.{is_entering, opening_on}
 use Rattle.router_promises.specs.Terms.{Terms, plan_in}
 use Rattle.router_promises.specs.Wakes.{has_ended}
 
@@ -57,3 +59,19 @@ CalmBy terms log now _ = Unit {0}
 
 abbrev pub CalmSo : Terms → Log → Entry → Type 0
 CalmSo terms log e = CalmBy terms log (now_at terms log) e
+
+-- In a login all is written that there is to say, or the link takes no more.
+
+abbrev pub SaysLogin : Terms → Log → Now → LinkId → Type 0
+SaysLogin terms log now link =
+    is_open link log ≡ true → is_entering terms now.tale link ≡ true → write_dry link log ≡ false
+    → (wire_now now link).written ≡ said_of (opening_on terms now.tale link)
+
+abbrev pub LogsInBy : Terms → Log → Now → Entry → Type 0
+LogsInBy terms log now (Woke until_ms now_ms) = (link : LinkId) → SaysLogin terms log now link
+LogsInBy terms log now WaitFailed = (link : LinkId) → SaysLogin terms log now link
+LogsInBy terms log now Over = (link : LinkId) → SaysLogin terms log now link
+LogsInBy terms log now _ = Unit {0}
+
+abbrev pub LogsInSo : Terms → Log → Entry → Type 0
+LogsInSo terms log e = LogsInBy terms log (now_at terms log) e

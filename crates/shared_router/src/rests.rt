@@ -2,15 +2,17 @@
 ghost use Rattle.std.specs.Prelude.{◌≡◌, None, Some, true};
 ghost use Rattle.mx_base.specs.declared.names.LinkId.{LinkId};
 ghost use Rattle.mx_wire.specs.Log.{Log};
-ghost use Rattle.mx_wire.specs.Moments.{AllLawful};
+ghost use Rattle.mx_wire.specs.Moments.{AllLawful, AtEachMoment};
 ghost use Rattle.log_story.specs.Tale.{is_to_server};
-ghost use Rattle.router_promises.specs.Keys.{LinkKey, is_free, key_of};
+ghost use Rattle.router_promises.specs.Headline.{SaysSo};
+ghost use Rattle.router_promises.specs.Keys.{LinkKey, is_free, is_vacant, key_of};
+ghost use Rattle.tale_world.specs.Policy.{Readied};
 ghost use Rattle.shared_router.specs.Fixed.{Fixed, IsNumbered};
 ghost use Rattle.shared_router.specs.Known.{Known};
 ghost use Rattle.shared_router.specs.Lends.{readied_now, waiters_by};
 ghost use Rattle.shared_router.specs.Lent.{HaveLinks};
 ghost use Rattle.shared_router.specs.Ours.{IsOurLog};
-ghost use Rattle.shared_router.specs.Rests.{CalmSo};
+ghost use Rattle.shared_router.specs.Rests.{CalmSo, LogsInSo};
 ghost use Rattle.shared_router.specs.Shared.{final_terms};
 
 /// Where the loop waits, nobody waits at a port, and each ready link was named. The link of a client that ended, where it is open, wasn't
@@ -27,4 +29,17 @@ pub fn lends_to_all()
     ensures { (k : Known) (link : LinkId) (key : LinkKey) → is_to_server k.now.tale link ≡ true
         → is_free k.terms k.log k.now link ≡ true → key_of k.terms k.now link ≡ Some key → readied_now k link ≡ None
         → HaveLinks k key (waiters_by k k.now.tale.story) }
+{}
+
+/// Where what is written on links to servers is a front of its spelling: where the loop waits, all is written on each open link that
+/// there is to say in its login, or the link takes no more.
+pub fn logs_in_whole()
+    ensures { (fixed : Fixed) (log : Log) → IsNumbered fixed → IsOurLog fixed log
+        → AtEachMoment (SaysSo (final_terms fixed log)) log → AllLawful (LogsInSo (final_terms fixed log)) log }
+{}
+
+/// A link that is readied is logged in, open and not lost, was told no QUIT, and carries nobody.
+pub fn readied_vacant()
+    ensures { (k : Known) (link : LinkId) (r : Readied)
+        → readied_now k link ≡ Some r → is_vacant k.terms k.log k.now link ≡ true }
 {}
