@@ -25,7 +25,7 @@ use Rattle.shared_router.proofs.Parting as parting
 use Rattle.shared_router.proofs.Parting.{even_at, next, world_more}
 use Rattle.shared_router.proofs.Since.{IsWithin, all-since, freeing-since, going-on, log-since, step-moment, told-since}
 
-decided_so : {A : Type 0} (o : Option (Option A)) (a : A) → unwrap_or o None ≡ Some a → o ≡ Some (Some a)
+pub decided_so : {A : Type 0} (o : Option (Option A)) (a : A) → unwrap_or o None ≡ Some a → o ≡ Some (Some a)
 decided_so None a is = absurd (cc)
 decided_so (Some o) a is = ap (λ x. Some x) is
 
