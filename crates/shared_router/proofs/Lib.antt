@@ -60,3 +60,6 @@ pub mod Voicing
 pub mod Saying
 pub mod Greeting
 pub mod Vacant
+pub mod Giving
+pub mod Caused
+pub mod Reasons

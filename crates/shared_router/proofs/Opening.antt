@@ -248,7 +248,7 @@ module _ (fixed : Fixed) (numbered : IsNumbered fixed) where
       moment_from log (next fixed w e) (step_even (setup_of fixed) (shared fixed) w e) in
       omega (arith, one, rest)
 
-  moment_at : (log : Log) → entry_now (now_of fixed (world_at fixed log)) ≡ entry_behind log
+  pub moment_at : (log : Log) → entry_now (now_of fixed (world_at fixed log)) ≡ entry_behind log
   moment_at log =
       let all : (world_at fixed log).tale.moment ≡ 0 + length log = moment_from log (first fixed) refl in omega (arith, all)
 

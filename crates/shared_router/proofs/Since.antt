@@ -162,7 +162,7 @@ module _ (fixed : Fixed) where
       since-on k k w.decided looked (with_step by w link for bytes) (looked-since k w (is_asked (tagged for)))
       (same-tables k k looked (with_step by w link for bytes) refl refl refl)
 
-  told-since : (k : ℕ) (w : World More) (e : Entry) → Since k k w.decided (decided_told setup by w e)
+  pub told-since : (k : ℕ) (w : World More) (e : Entry) → Since k k w.decided (decided_told setup by w e)
   told-since k w (entry.Opened server address link) = same-tables k k w.decided (with_login by w link) refl refl refl
   told-since k w (entry.Got link bytes) = same-tables k k w.decided (with_login by w link) refl refl refl
   told-since k w (entry.Wrote link for bytes) =
@@ -179,7 +179,7 @@ module _ (fixed : Fixed) where
     said = λ c word is. is;
   }
 
-  freeing-since : (k : ℕ) (xs : List LinkId) (w : World More) → Since k k w.decided (fold (freed_there setup by) w xs).decided
+  pub freeing-since : (k : ℕ) (xs : List LinkId) (w : World More) → Since k k w.decided (fold (freed_there setup by) w xs).decided
   freeing-since k [] w = since-itself k k w.decided
   freeing-since k (x ∷ xs) w =
       since-on k k _ (freed_there setup by w x).decided _
@@ -237,7 +237,7 @@ module _ (fixed : Fixed) where
     by_test true = since-on k k _ v.decided _ first (taking-since k (length (messages (plan_of v.decided) client)) client v)
     by_test false = first
 
-  all-since : (k : ℕ) (view : View) (e : Entry) (xs : List Client) (w : World More) → Since k k w.decided (fold (goes_on setup by view e) w xs).decided
+  pub all-since : (k : ℕ) (view : View) (e : Entry) (xs : List Client) (w : World More) → Since k k w.decided (fold (goes_on setup by view e) w xs).decided
   all-since k view e [] w = since-itself k k w.decided
   all-since k view e (x ∷ xs) w = since-on k k _ (goes_on setup by view e w x).decided _ (going-since k view e w x) (all-since k view e xs (goes_on setup by view e w x))
 

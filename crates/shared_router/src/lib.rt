@@ -3,6 +3,7 @@
 
 mod clients;
 pub mod departing;
+mod gives_up;
 mod links;
 mod rests;
 mod words;
