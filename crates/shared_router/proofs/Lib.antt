@@ -59,3 +59,5 @@ pub mod Speaking
 pub mod Voicing
 pub mod Saying
 pub mod Leading
+pub mod Listed
+pub mod Needing
