@@ -19,7 +19,7 @@ use Rattle.private_model.specs.View.{Carried, Held, Joined, Lent, Link, Nobody, 
 use Rattle.log_story.specs.Servers.{is_quiet}
 use Rattle.tale_world.specs.Policy.{Readied, for_session, id_step, is_unprepared, key_place, next_question, numbered, or_else, place_step, question_for}
 use Rattle.tale_world.specs.Tests.{are_settings, is_id, is_schema}
-use Rattle.router_promises.specs.Wants.{is_number, is_text, leads_to, places_of, prepares_first, sets_id, wants, with_autocommit}
+use Rattle.router_promises.specs.Wants.{is_number, is_text, leads_to, places_of, prepares_first, wants, with_autocommit}
 use Rattle.shared_router.specs.Wishes.{leads_by, texts}
 
 isnt : {A : Type 0} → false ≡ true → A

@@ -1,13 +1,13 @@
 -- Links are readied for statements that the promise counts among those that wait.
-use Rattle.std.specs.Prelude.{◌≡◌, ℕ, Bool, true, false, ◌&&◌, ◌||◌, if◌then◌else◌, List, [], ◌∷◌, ◌++◌, Option, Some, None}
+use Rattle.std.specs.Prelude.{◌≡◌, Bool, true, false, ◌&&◌, ◌||◌, if◌then◌else◌, List, [], ◌∷◌, ◌++◌, Option, Some, None}
 use Rattle.std.specs.List.{list_any}
 use Rattle.std.specs.Option.{option_map_or}
-use Rattle.std.proofs.Common.{refl, sym, ap, ◌∙◌}
+use Rattle.std.proofs.Common.{refl, ap, ◌∙◌}
 use Rattle.mx_base.specs.declared.names.LinkId.{LinkId}
-use Rattle.private_model.specs.Names.{ClientNo, Hostgroup, MessageName, SessionName}
+use Rattle.private_model.specs.Names.{MessageName, SessionName}
 use Rattle.private_model.specs.Story.{BecameDue, Broke, Dropped, Due, Freed, Gone, Heard, Left, LoggedIn, Mirrored, Ran, Sent, Story, Unprepared}
 use Rattle.tale_world.specs.Policy.{Readied, Waiter}
-use Rattle.router_promises.specs.Keys.{LinkKey, is_key, is_waiting, key_for, waiters, waiters_in}
+use Rattle.router_promises.specs.Keys.{LinkKey, is_key, is_waiting, key_for, waiters_in}
 use Rattle.shared_router.specs.Known.{Known, present_by, setup_by, view_by}
 use Rattle.shared_router.specs.Lends.{as_readied, readied_now, waiter_of, waiters_by}
 use Rattle.shared_router.proofs.Readying.{AllReady, all_on, readied_all}

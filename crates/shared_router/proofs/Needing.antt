@@ -15,26 +15,27 @@ use Rattle.mx_wire.specs.declared.entry.Entry.TheVariants as entry
 use Rattle.private_model.proofs.Maps.{name_of as named, same_number}
 use Rattle.private_model.specs.Commands.{Command, FieldList, InitDb, Prepare, Query, Quit, ReadId, Reset, Run, SetId}
 use Rattle.private_model.specs.Names.{Hostgroup, MessageName, SessionName}
-use Rattle.private_model.specs.Story.{Broke, Capture, Due, End, Happening, Own, Prep, Question, Sent, Statement, Sync, command_of, message_of}
+use Rattle.private_model.specs.Story.{Broke, Due, Happening, Own, Prep, Question, Sent, Sync, command_of, message_of}
 use Rattle.private_model.specs.View.{Carried, Joined, Lent, Link, Nobody, Setup, View, present}
 use Rattle.server_rule.specs.Classes.{Reads}
 use Rattle.server_rule.specs.Servers.{is_some_of}
 use Rattle.session_state.specs.Pins.{is_pinned}
 use Rattle.log_story.specs.Plan.{Asks, Closes, Plan, Resets, Route, StepText, own_at}
-use Rattle.log_story.specs.Servers.{begun_on, due_in, is_quiet, may_begin, of_due, or_broke, quits_for}
+use Rattle.log_story.specs.Servers.{begun_on, due_in, is_quiet, may_begin, of_due, or_broke}
 use Rattle.log_story.specs.Tale.{Tale, is_to_server, view_of}
+use Rattle.log_story.specs.Telling.{tale_step}
 use Rattle.tale_world.specs.Decided.{Agrees, plan_of}
 use Rattle.tale_world.specs.Deciding.{World}
 use Rattle.tale_world.specs.Policy.{Readied, next_question}
 use Rattle.tale_world.specs.Tested.{IsTestedFrom, Passes as PassesAt}
-use Rattle.tale_world.specs.Tests.{is_joined, is_lent, is_nobody, is_own_step, is_set, is_step_of, may_begin_question, may_tell}
+use Rattle.tale_world.specs.Tests.{is_joined, is_lent, is_nobody, is_own_step, is_set, is_step_of, may_tell}
 use Rattle.tale_world.specs.Wishes.{Says, Sends, Wish, before_question, wish_for}
 use Rattle.tale_world.proofs.Following.{stepped}
 use Rattle.router_promises.specs.Dues.{is_due, is_unsent}
-use Rattle.router_promises.specs.Keys.{LinkKey, is_key, is_waiting, key_for, key_of, waiters}
+use Rattle.router_promises.specs.Keys.{LinkKey, is_key, key_for, key_of}
 use Rattle.router_promises.specs.Now.{Now, now_at, present_now, wire_now}
 use Rattle.router_promises.specs.Steps.{is_prep_wanted, is_wanted, some_wants, wants_prepared, wants_there}
-use Rattle.router_promises.specs.Terms.{Terms, plan_in, setup_in, tale_at}
+use Rattle.router_promises.specs.Terms.{Terms, plan_in}
 use Rattle.router_promises.specs.Wants.{prepares_first, wants}
 use Rattle.shared_router.specs.Fixed.{Fixed, IsNumbered, setup_of}
 use Rattle.shared_router.specs.Known.{Known, known}
@@ -53,7 +54,7 @@ use Rattle.shared_router.proofs.Lasting.{alike_at}
 use Rattle.shared_router.proofs.Later.{AreAlike, due_same, key_same, waiters_same}
 use Rattle.shared_router.proofs.Leading.{Asked, Captures, Ends, ForJoined, ForLent, ForWaiter, MayLead, Prepares, Source, States, Steps, carrying, source_of}
 use Rattle.shared_router.proofs.Listed.{readied_listed}
-use Rattle.shared_router.proofs.Parting.{agrees_then, even_at, tale_then, world_more}
+use Rattle.shared_router.proofs.Parting.{agrees_then, even_at, world_more}
 use Rattle.shared_router.proofs.Prompting.{first_held, step_held}
 use Rattle.shared_router.proofs.Readying.{readied_near, readied_waits}
 use Rattle.shared_router.proofs.Room.{link_key_is}
@@ -272,11 +273,11 @@ module _ (fixed : Fixed) (ids : SpellsIds fixed) (nothing : ReadsNothing fixed.r
 
   joined_good : (n : SessionName) (due : Due) (q : Question) → (kept_due k).dues n ≡ Some due → present view n.client n.hostgroup ≡ n → there.carries ≡ Joined n
       → Asked setup (carrying (Joined n) there) (view.held n) n due (Sync n) q → Good q
-  joined_good n due q at here carried (Steps c each) told =
+  joined_good n due q at stands carried (Steps c each) told =
       step_good c (λ may. carried_so c (Joined n) carried (wants_so n due c (kept_at n due at).0 (kept_at n due at).1 (each may))) (sync_leads n c told)
-  joined_good n due q at here carried (Prepares first) told =
-      prep_good n due (kept_at n due at).1 (kept_at n due at).0 (own_present fixed w plan link bytes n here) first told
-  joined_good n due q at here carried States told = tt
+  joined_good n due q at stands carried (Prepares first) told =
+      prep_good n due (kept_at n due at).1 (kept_at n due at).0 (own_present fixed w plan link bytes n stands) first told
+  joined_good n due q at stands carried States told = tt
 
   source_good : (c : Carried) (q : Question) → there.carries ≡ c → Source setup (kept_due k) there (readied_now k link) c q → Good q
   source_good c q carried (ForWaiter r x is asked) = waiter_good r q is carried asked
@@ -313,3 +314,97 @@ module _ (fixed : Fixed) (ids : SpellsIds fixed) (nothing : ReadsNothing fixed.r
         → GoodWish wish
     by_quits true now_is = no_some wish now_is
     by_quits false now_is = next_good (next_question texts fixed.ids setup (kept_due k) there (readied_now k link)) wish refl now_is
+
+-- Along a log.
+
+stays_of : (b : Bool) (o : Option Wish) (wish : Wish) → (if b then None else o) ≡ Some wish → b ≡ false
+stays_of false o wish is = refl
+stays_of true o wish is = absurd (cc)
+
+module _ (fixed : Fixed) (numbered : IsNumbered fixed) (ids : SpellsIds fixed) (nothing : ReadsNothing fixed.router.reads) where
+  module _ (before later : Log) (link : LinkId) (tag : Tag) (bytes : List ℕ) (begun : AreBegun fixed (world_at fixed before))
+      (decided : AreDecided (world_at fixed before).decided (view_of (setup_of fixed) (world_at fixed before).tale)) where
+    abbrev e : Entry
+    e = entry.Wrote link tag bytes
+
+    abbrev w : World More
+    w = world_at fixed before
+
+    abbrev last : World More
+    last = world_at fixed (before ++ e ∷ later)
+
+    abbrev last_terms : Terms
+    last_terms = final_terms fixed (before ++ e ∷ later)
+
+    abbrev begins_there : Bool
+    begins_there = may_begin (setup_of fixed) link (wire_now (now_at last_terms before) link) (now_at last_terms before).tale
+
+    same_now : now_at last_terms before ≡ now_of fixed w
+    same_now = now_is fixed last_terms before (now_same fixed numbered before (e ∷ later))
+
+    module _ (fits : LawfulAfter Fits before (e ∷ later)) (passes : PassesAt (setup_of fixed) (plan_of last.decided) w.tale e) (our : IsOurs fixed before e) where
+      abbrev step : StepText
+      step = (plan_of last.decided).steps link (w.tale.wires link).begun
+
+      by_begun : is_to_server w.tale link ≡ true → may_begin (setup_of fixed) link (w.tale.wires link) w.tale ≡ true
+          → Begun (known fixed w) link tag step → LeadsFor last_terms (now_of fixed w) link step tag
+      by_begun to_server begins (Parts closing asks own) =
+          subst (λ s. LeadsFor last_terms (now_of fixed w) link s tag) (sym asks)
+          (subst (λ x. LeadsFor last_terms (now_of fixed w) link (Asks Quit) x) (sym own) tt)
+      by_begun to_server begins (Wishes wish wished tagged asks) =
+          let told : begun_on (setup_of fixed) (plan_of last.decided) w.tale.moment (view_of (setup_of fixed) w.tale) link (w.tale.wires link) tag
+          ≡ tells fixed w (plan_of last.decided) link bytes (wish_tag (known fixed w) wish) (wish_step wish) =
+          sym (tells_same fixed w (plan_of last.decided) link bytes tag) ∙ ap (tells fixed w (plan_of last.decided) link bytes tag) asks
+          ∙ ap (λ x. tells fixed w (plan_of last.decided) link bytes x (wish_step wish)) tagged in
+          subst (λ s. LeadsFor last_terms (now_of fixed w) link s tag) (sym asks) (subst (λ x. LeadsFor last_terms (now_of fixed w) link (wish_step wish) x) (sym tagged)
+          (wish_good fixed ids nothing w last (alike_at fixed numbered before (e ∷ later) fits) link bytes decided (agrees_then fixed before (e ∷ later)) to_server
+          (stays_of (w.tale.wires link).quits _ wish wished) wish wished
+          (subst (λ es. may_tell (setup_of fixed) es w.tale.story ≡ true) told (passes to_server begins))))
+
+      here_so : is_to_server w.tale link ≡ true → may_begin (setup_of fixed) link (w.tale.wires link) w.tale ≡ true → LeadsFor last_terms (now_of fixed w) link step tag
+      here_so there begins =
+          by_begun there begins
+          (begun_so (known fixed w) link tag bytes step fits.0.some
+          (step_is fixed numbered before later link tag bytes begun (begins_at fixed w link e there begins our.1) there begins) our.0 there begins)
+
+      by_begins : is_to_server (now_at last_terms before).tale link ≡ true → (b : Bool) → begins_there ≡ b → LeadsAs last_terms (now_at last_terms before) link tag b
+      by_begins to_server false at = tt
+      by_begins to_server true at =
+          subst (λ (n : Now). LeadsFor last_terms n link ((plan_in last_terms).steps link (wire_now n link).begun) tag) (sym same_now)
+          (here_so (ap (λ (n : Now). is_to_server n.tale link) (sym same_now) ∙ to_server)
+          (ap (λ (n : Now). may_begin (setup_of fixed) link (wire_now n link) n.tale) (sym same_now) ∙ at))
+
+  leads_by : (before later : Log) (e : Entry) → AreBegun fixed (world_at fixed before)
+      → AreDecided (world_at fixed before).decided (view_of (setup_of fixed) (world_at fixed before).tale) → LawfulAfter Fits before (e ∷ later)
+      → PassesAt (setup_of fixed) (plan_of (world_at fixed (before ++ e ∷ later)).decided) (world_at fixed before).tale e
+      → IsOurs fixed before e → LeadsSo (final_terms fixed (before ++ e ∷ later)) before e
+  leads_by before later (entry.Wrote link tag bytes) begun decided fits passes our = λ there.
+      by_begins before later link tag bytes begun decided fits passes our there (begins_there before later link tag bytes begun decided) refl
+  leads_by before later _ begun decided fits passes our = tt
+
+  abbrev HeldAt : ℕ → Log → Type 0
+  HeldAt n before = IsHeld (setup_of fixed) n (world_at fixed before).decided (world_at fixed before).tale.clients (world_at fixed before).tale.story
+
+  leads_from : (before later log : Log) (n : ℕ) → before ++ later ≡ log → n + length later < 18446744073709551616 → HeldAt n before → AreBegun fixed (world_at fixed before)
+      → LawfulAfter Fits before later → IsTestedFrom (setup_of fixed) (plan_of (world_at fixed log).decided) (world_at fixed before).tale later
+      → LawfulAfter (IsOurs fixed) before later → LawfulAfter (LeadsSo (final_terms fixed log)) before later
+  leads_from before [] log n is small held begun fits tests our = tt
+  leads_from before (e ∷ later) log n is small held begun fits tests our =
+      let v : World More = world_at fixed before in
+      let one = step_held fixed n v e (omega arith) held our.0 in
+      let plan : Plan = plan_of (world_at fixed log).decided in
+      let moved : (world_at fixed (before ++ e ∷ [])).tale ≡ tale_step (setup_of fixed) plan v.tale e =
+      ap (λ (x : World More). x.tale) (world_more fixed before (e ∷ []))
+      ∙ (stepped (setup_of fixed) (shared fixed) v e plan (even_at fixed before) (agrees_behind fixed numbered before later e log is)).same in (
+        subst (λ l. LeadsSo (final_terms fixed l) before e) is
+            (leads_by before later e begun held.decided fits
+            (subst (λ (l : Log). PassesAt (setup_of fixed) (plan_of (world_at fixed l).decided) v.tale e) (sym is) tests.0) our.0),
+        leads_from (before ++ e ∷ []) later log (suc n) (append_assoc before (e ∷ []) later ∙ is) (omega arith)
+            (subst (λ (x : World More). IsHeld (setup_of fixed) (suc n) x.decided x.tale.clients x.tale.story) (sym (world_more fixed before (e ∷ []))) one.held)
+            (begun_then fixed before e fits.0 begun) fits.1
+            (subst (λ (x : Tale). IsTestedFrom (setup_of fixed) plan x later) (sym moved) tests.1) our.1,
+      )
+
+  pub leads_kept : (log : Log) → length log < 18446744073709551616 → LawfulAfter (IsOurs fixed) [] log → LawfulAfter Fits [] log
+      → LawfulAfter (LeadsSo (final_terms fixed log)) [] log
+  leads_kept log small our fits = leads_from [] log log 0 refl (omega arith) (first_held fixed) (first_begun fixed) fits (tested fixed log our fits) our

@@ -1,16 +1,15 @@
 -- Links are readied for statements that wait.
-use Rattle.std.specs.Prelude.{◌≡◌, ◌&&◌, ℕ, zero, suc, Bool, true, false, cond, find, length, nat_eq, nat_le, if◌then◌else◌, List, [], ◌∷◌, ◌++◌, Option, Some, None}
+use Rattle.std.specs.Prelude.{◌≡◌, ℕ, zero, suc, Bool, true, false, cond, find, length, nat_eq, nat_le, if◌then◌else◌, List, [], ◌∷◌, ◌++◌, Option, Some, None}
 use Rattle.std.specs.List.{cons_option, filter_map}
 use Rattle.std.specs.Option.{option_and_then, option_map, option_map_or}
 use Rattle.std.proofs.Common.{refl, sym, ap, ◌∙◌, subst}
-use Rattle.std.proofs.lemmas.Bool.{and_from, and_parts}
+use Rattle.std.proofs.lemmas.Bool.{and_parts}
 use Rattle.mx_base.specs.declared.names.LinkId.{LinkId}
 use Rattle.private_model.proofs.Maps.{link_of, number_of}
 use Rattle.private_model.specs.Names.{SessionName}
-use Rattle.private_model.specs.Story.{BecameDue, Due, Story, is_hostgroup, is_link_id}
+use Rattle.private_model.specs.Story.{BecameDue, Due, Story, is_link_id}
 use Rattle.session_state.specs.declared.place.Place.{Place}
 use Rattle.tale_world.specs.Policy as policy
-use Rattle.tale_world.specs.Tests.{is_account}
 use Rattle.tale_world.specs.Policy.{Idle, Lends, Readied, Rest, Waiter, best, better, is_open_to, next_lend, steps_left}
 use Rattle.router_promises.specs.Dues.{is_unsent}
 use Rattle.router_promises.specs.Keys as keys

@@ -3,8 +3,7 @@ use Rattle.std.specs.Prelude.{ℕ, zero, suc, Bool, false, ◌&&◌, nat_eq, Lis
 use Rattle.std.specs.List.{filter_map, list_any}
 use Rattle.std.specs.Option.{option_and_then, option_map, option_map_or}
 use Rattle.private_model.specs.Names.{LinkId, SessionName}
-use Rattle.private_model.specs.Story.{BecameDue, Due, Story, is_hostgroup, is_link_id, is_name}
-use Rattle.tale_world.specs.Tests.{is_account}
+use Rattle.private_model.specs.Story.{BecameDue, Due, Story, is_link_id, is_name}
 use Rattle.tale_world.specs.Policy as policy
 use Rattle.tale_world.specs.Policy.{Idle, Lends, Opening, Readied, Rest, Waiter, next_lend}
 use Rattle.router_promises.specs.Keys.{LinkKey, is_free, is_of_key, is_opening, is_vacant, is_waiting, key_for, key_of}
