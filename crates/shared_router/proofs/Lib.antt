@@ -63,3 +63,6 @@ pub mod Vacant
 pub mod Giving
 pub mod Caused
 pub mod Reasons
+pub mod Leading
+pub mod Listed
+pub mod Needing

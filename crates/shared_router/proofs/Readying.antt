@@ -1,22 +1,23 @@
 -- Links are readied for statements that wait.
-use Rattle.std.specs.Prelude.{◌≡◌, ◌&&◌, ℕ, zero, suc, Bool, true, false, cond, find, length, nat_eq, nat_le, if◌then◌else◌, List, [], ◌∷◌, ◌++◌, Option, Some, None}
+use Rattle.std.specs.Prelude.{◌≡◌, ℕ, zero, suc, Bool, true, false, cond, find, length, nat_eq, nat_le, if◌then◌else◌, List, [], ◌∷◌, ◌++◌, Option, Some, None}
 use Rattle.std.specs.List.{cons_option, filter_map}
 use Rattle.std.specs.Option.{option_and_then, option_map, option_map_or}
 use Rattle.std.proofs.Common.{refl, sym, ap, ◌∙◌, subst}
-use Rattle.std.proofs.lemmas.Bool.{and_from, and_parts}
+use Rattle.std.proofs.lemmas.Bool.{and_parts}
 use Rattle.mx_base.specs.declared.names.LinkId.{LinkId}
 use Rattle.private_model.proofs.Maps.{link_of, number_of}
 use Rattle.private_model.specs.Names.{SessionName}
-use Rattle.private_model.specs.Story.{BecameDue, Due, Story, is_hostgroup, is_link_id}
+use Rattle.private_model.specs.Story.{BecameDue, Due, Story, is_link_id}
 use Rattle.session_state.specs.declared.place.Place.{Place}
 use Rattle.tale_world.specs.Policy as policy
-use Rattle.tale_world.specs.Tests.{is_account}
 use Rattle.tale_world.specs.Policy.{Idle, Lends, Readied, Rest, Waiter, best, better, is_open_to, next_lend, steps_left}
 use Rattle.router_promises.specs.Dues.{is_unsent}
-use Rattle.router_promises.specs.Keys.{LinkKey, is_free, is_vacant, is_waiting, key_of}
+use Rattle.router_promises.specs.Keys as keys
+use Rattle.router_promises.specs.Keys.{LinkKey, is_free, is_vacant, is_waiting, key_for, key_of}
 use Rattle.shared_router.specs.Known.{Known, link_by, present_by, setup_by, view_by}
 use Rattle.shared_router.specs.Lends.{as_key, as_readied, idle_at, if_near, is_near, is_readied_for, is_waiter, kept, lending, lent, readied_now, rest_of, still_waits, waiter_of, waiters_by}
 use Rattle.shared_router.specs.Waits.{Waits}
+use Rattle.shared_router.proofs.Counting.{key_is}
 
 no_some : {A B : Type 0} (a : A) → None ≡ Some a → B
 no_some a is = absurd (cc)
@@ -28,13 +29,16 @@ isnt : {A : Type 0} → false ≡ true → A
 isnt is = absurd (cc)
 
 module _ (k : Known) where
-  abbrev AllWait : List Waiter → Type 0
-  AllWait [] = Unit {0}
-  AllWait (one ∷ more) = Waits k (as_readied one) × AllWait more
+  abbrev pub AllReady : (Readied → Type 0) → List Waiter → Type 0
+  AllReady P [] = Unit {0}
+  AllReady P (one ∷ more) = P (as_readied one) × AllReady P more
 
-  all_on : (a b : List Waiter) → AllWait a → AllWait b → AllWait (a ++ b)
-  all_on [] b first second = second
-  all_on (one ∷ a) b first second = (first.0, all_on a b first.1 second)
+  pub all_on : (P : Readied → Type 0) (a b : List Waiter) → AllReady P a → AllReady P b → AllReady P (a ++ b)
+  all_on P [] b first second = second
+  all_on P (one ∷ a) b first second = (first.0, all_on P a b first.1 second)
+
+  abbrev AllWait : List Waiter → Type 0
+  AllWait ws = AllReady (Waits k) ws
 
   due_waits : (n : SessionName) (ordinal : ℕ) (o : Option Due) → (view_by k).dues n ≡ o → present_by k n.client n.hostgroup ≡ n
       → is_waiting k.terms k.now n.client n.hostgroup ordinal ≡ true → AllWait (option_map_or (λ due. waiter_of k n due ∷ []) o [])
@@ -55,7 +59,7 @@ module _ (k : Known) where
   all_wait : (story : Story) → AllWait (waiters_by k story)
   all_wait [] = tt
   all_wait (BecameDue client hostgroup ordinal at command multiplex ∷ past) =
-      all_on (waiters_by k past) _ (all_wait past) (by_test (is_waiting k.terms k.now client hostgroup ordinal) refl)
+      all_on (Waits k) (waiters_by k past) _ (all_wait past) (by_test (is_waiting k.terms k.now client hostgroup ordinal) refl)
     where
       n : SessionName
       n = present_by k client hostgroup
@@ -66,72 +70,76 @@ module _ (k : Known) where
       by_test false waits = tt
   all_wait (e ∷ past) = all_wait past
 
-  -- of each readied link
+  -- What is so of all that wait is so of each for which a link is readied.
 
-  abbrev AreWaiting : (LinkId → Option Readied) → Type 0
-  AreWaiting readied = (link : LinkId) (r : Readied) → readied link ≡ Some r → Waits k r
+  module _ (P : Readied → Type 0) where
+    abbrev AreReady : (LinkId → Option Readied) → Type 0
+    AreReady readied = (link : LinkId) (r : Readied) → readied link ≡ Some r → P r
 
-  found_waits : (test : Waiter → Bool) (ws : List Waiter) (r : Readied) → AllWait ws → option_map as_readied (find test ws) ≡ Some r → Waits k r
-  found_waits test [] r all is = no_some r is
-  found_waits test (one ∷ ws) r all is = by_test (test one) is (found_waits test ws r all.1) where
-    by_test : (b : Bool) → option_map as_readied (cond b (Some one) (find test ws)) ≡ Some r → (option_map as_readied (find test ws) ≡ Some r → Waits k r) → Waits k r
-    by_test true is later = subst (Waits k) (some_of (as_readied one) r is) all.0
-    by_test false is later = later is
+    found_so : (test : Waiter → Bool) (ws : List Waiter) (r : Readied) → AllReady P ws → option_map as_readied (find test ws) ≡ Some r → P r
+    found_so test [] r all is = no_some r is
+    found_so test (one ∷ ws) r all is = by_test (test one) is (found_so test ws r all.1) where
+      by_test : (b : Bool) → option_map as_readied (cond b (Some one) (find test ws)) ≡ Some r → (option_map as_readied (find test ws) ≡ Some r → P r) → P r
+      by_test true is later = subst (P) (some_of (as_readied one) r is) all.0
+      by_test false is later = later is
 
-  kept_waits : (rest : Rest) → AllWait rest.waiters → AreWaiting (kept k rest)
-  kept_waits rest all link r is = by_readied (k.readied link) is where
-    by_near : (o : Option Readied) → ((one : Readied) → o ≡ Some one → Waits k one) → option_and_then (if_near k link) o ≡ Some r → Waits k r
-    by_near None waits is = no_some r is
-    by_near (Some one) waits is = by_test (is_near k link one) is where
-      by_test : (b : Bool) → (if b then Some one else None) ≡ Some r → Waits k r
-      by_test true is = waits r is
-      by_test false is = no_some r is
+    kept_so : (rest : Rest) → AllReady P rest.waiters → AreReady (kept k rest)
+    kept_so rest all link r is = by_readied (k.readied link) is where
+      by_near : (o : Option Readied) → ((one : Readied) → o ≡ Some one → P one) → option_and_then (if_near k link) o ≡ Some r → P r
+      by_near None waits is = no_some r is
+      by_near (Some one) waits is = by_test (is_near k link one) is where
+        by_test : (b : Bool) → (if b then Some one else None) ≡ Some r → P r
+        by_test true is = waits r is
+        by_test false is = no_some r is
 
-    by_vacant : (b : Bool) (was : Readied) → (if b then option_and_then (if_near k link) (still_waits rest was) else None) ≡ Some r → Waits k r
-    by_vacant true was is = by_near (still_waits rest was) (λ one found. found_waits (is_waiter was) rest.waiters one all found) is
-    by_vacant false was is = no_some r is
+      by_vacant : (b : Bool) (was : Readied) → (if b then option_and_then (if_near k link) (still_waits rest was) else None) ≡ Some r → P r
+      by_vacant true was is = by_near (still_waits rest was) (λ one found. found_so (is_waiter was) rest.waiters one all found) is
+      by_vacant false was is = no_some r is
 
-    by_readied : (o : Option Readied) → option_and_then (λ was. if is_vacant k.terms k.log k.now link then option_and_then (if_near k link) (still_waits rest was) else None) o ≡ Some r → Waits k r
-    by_readied None is = no_some r is
-    by_readied (Some was) is = by_vacant (is_vacant k.terms k.log k.now link) was is
+      by_readied : (o : Option Readied) → option_and_then (λ was. if is_vacant k.terms k.log k.now link then option_and_then (if_near k link) (still_waits rest was) else None) o ≡ Some r → P r
+      by_readied None is = no_some r is
+      by_readied (Some was) is = by_vacant (is_vacant k.terms k.log k.now link) was is
 
-  lends_wait : (rest : Rest) (is_served : SessionName → Bool) (ws : List Waiter) (lends : Lends) → AllWait ws → next_lend rest is_served ws ≡ Some lends → Waits k lends.to
-  lends_wait rest is_served [] lends all is = no_some lends is
-  lends_wait rest is_served (w ∷ ws) lends all is = by_served (is_served w.name) is (lends_wait rest is_served ws lends all.1) where
-    by_best : (o : Option Idle) → option_map_or (λ (one : Idle). Some (record { link = one.link; to = record { name = w.name; due = w.due } })) o (next_lend rest is_served ws) ≡ Some lends
-        → (next_lend rest is_served ws ≡ Some lends → Waits k lends.to) → Waits k lends.to
-    by_best None is later = later is
-    by_best (Some one) is later = subst (λ (x : Lends). Waits k x.to) (some_of _ lends is) all.0
+    lends_so : (rest : Rest) (is_served : SessionName → Bool) (ws : List Waiter) (lends : Lends) → AllReady P ws → next_lend rest is_served ws ≡ Some lends → P lends.to
+    lends_so rest is_served [] lends all is = no_some lends is
+    lends_so rest is_served (w ∷ ws) lends all is = by_served (is_served w.name) is (lends_so rest is_served ws lends all.1) where
+      by_best : (o : Option Idle) → option_map_or (λ (one : Idle). Some (record { link = one.link; to = record { name = w.name; due = w.due } })) o (next_lend rest is_served ws) ≡ Some lends
+          → (next_lend rest is_served ws ≡ Some lends → P lends.to) → P lends.to
+      by_best None is later = later is
+      by_best (Some one) is later = subst (λ (x : Lends). P x.to) (some_of _ lends is) all.0
 
-    by_served : (b : Bool) → (if b then next_lend rest is_served ws
-        else option_map_or (λ (one : Idle). Some (record { link = one.link; to = record { name = w.name; due = w.due } })) (best rest w.key w.due.place rest.idle) (next_lend rest is_served ws)) ≡ Some lends
-        → (next_lend rest is_served ws ≡ Some lends → Waits k lends.to) → Waits k lends.to
-    by_served true is later = later is
-    by_served false is later = by_best (best rest w.key w.due.place rest.idle) is later
+      by_served : (b : Bool) → (if b then next_lend rest is_served ws
+          else option_map_or (λ (one : Idle). Some (record { link = one.link; to = record { name = w.name; due = w.due } })) (best rest w.key w.due.place rest.idle) (next_lend rest is_served ws)) ≡ Some lends
+          → (next_lend rest is_served ws ≡ Some lends → P lends.to) → P lends.to
+      by_served true is later = later is
+      by_served false is later = by_best (best rest w.key w.due.place rest.idle) is later
 
-  lent_waits : (lends : Lends) (readied : LinkId → Option Readied) → Waits k lends.to → AreWaiting readied → AreWaiting (lent lends readied)
-  lent_waits lends readied waits are link r is = by_test (is_link_id lends.link link) is where
-    by_test : (b : Bool) → (if b then Some lends.to else readied link) ≡ Some r → Waits k r
-    by_test true is = subst (Waits k) (some_of lends.to r is) waits
-    by_test false is = are link r is
+    lent_so : (lends : Lends) (readied : LinkId → Option Readied) → P lends.to → AreReady readied → AreReady (lent lends readied)
+    lent_so lends readied waits are link r is = by_test (is_link_id lends.link link) is where
+      by_test : (b : Bool) → (if b then Some lends.to else readied link) ≡ Some r → P r
+      by_test true is = subst (P) (some_of lends.to r is) waits
+      by_test false is = are link r is
 
-  lending_waits : (most : ℕ) (links : List LinkId) (rest : Rest) → AllWait rest.waiters → AreWaiting rest.readied → AreWaiting (lending most links rest).readied
-  lending_waits zero links rest all are = are
-  lending_waits (suc most) links rest all are = by_next (next_lend rest (is_readied_for links rest.readied) rest.waiters) refl (lending_waits most links) where
-    by_next : (o : Option Lends) → next_lend rest (is_readied_for links rest.readied) rest.waiters ≡ o
-        → ((other : Rest) → AllWait other.waiters → AreWaiting other.readied → AreWaiting (lending most links other).readied)
-        → AreWaiting (option_map_or (λ lends. lending most links (record rest { readied = lent lends rest.readied })) o rest).readied
-    by_next None is later = are
-    by_next (Some lends) is later =
-        later (record rest { readied = lent lends rest.readied }) all
-        (lent_waits lends rest.readied (lends_wait rest (is_readied_for links rest.readied) rest.waiters lends all is) are)
+    lending_so : (most : ℕ) (links : List LinkId) (rest : Rest) → AllReady P rest.waiters → AreReady rest.readied → AreReady (lending most links rest).readied
+    lending_so zero links rest all are = are
+    lending_so (suc most) links rest all are = by_next (next_lend rest (is_readied_for links rest.readied) rest.waiters) refl (lending_so most links) where
+      by_next : (o : Option Lends) → next_lend rest (is_readied_for links rest.readied) rest.waiters ≡ o
+          → ((other : Rest) → AllReady P other.waiters → AreReady other.readied → AreReady (lending most links other).readied)
+          → AreReady (option_map_or (λ lends. lending most links (record rest { readied = lent lends rest.readied })) o rest).readied
+      by_next None is later = are
+      by_next (Some lends) is later =
+          later (record rest { readied = lent lends rest.readied }) all
+          (lent_so lends rest.readied (lends_so rest (is_readied_for links rest.readied) rest.waiters lends all is) are)
+
+    pub readied_all : AllReady P (waiters_by k k.now.tale.story) → (link : LinkId) (r : Readied) → readied_now k link ≡ Some r → P r
+    readied_all all link r is =
+        let rest : Rest = rest_of k (λ l. None) in
+        lending_so (length rest.waiters) k.now.tale.links (record rest { readied = kept k rest }) all (kept_so rest all) link r is
 
   pub readied_waits : (link : LinkId) (r : Readied) → readied_now k link ≡ Some r → Waits k r
-  readied_waits link r is =
-      let rest : Rest = rest_of k (λ l. None) in
-      lending_waits (length rest.waiters) k.now.tale.links (record rest { readied = kept k rest }) (all_wait k.now.tale.story) (kept_waits rest (all_wait k.now.tale.story)) link r is
+  readied_waits link r is = readied_all (Waits k) (all_wait k.now.tale.story) link r is
 
-  -- They are of its hostgroup and account.
+  -- They are of the key of what is due of it.
 
   record IsIdle (one : Idle) : Type 0 where
     pub key : LinkKey
@@ -184,9 +192,9 @@ module _ (k : Known) where
     by_open true opened is later = by_better (best rest key place idle) refl later opened is
     by_open false opened is later = later one all.1 is
 
-  -- a waiter's key is of its session
+  -- a waiter's key is of what is due in its session
   abbrev IsKeyed : Waiter → Type 0
-  IsKeyed w = (w.key.hostgroup ≡ w.name.hostgroup) × (w.key.account ≡ (setup_by k).accounts w.name.client)
+  IsKeyed w = w.key ≡ as_key (key_for (setup_by k) k.now w.name.client w.name.hostgroup)
 
   abbrev AllKeyed : List Waiter → Type 0
   AllKeyed [] = Unit {0}
@@ -206,7 +214,7 @@ module _ (k : Known) where
 
       by_due : (o : Option Due) → AllKeyed (option_map_or (λ due. waiter_of k n due ∷ []) o [])
       by_due None = tt
-      by_due (Some due) = ((refl, refl), tt)
+      by_due (Some due) = (refl, tt)
 
       by_test : (b : Bool) → AllKeyed (if b then option_map_or (λ due. waiter_of k n due ∷ []) ((view_by k).dues n) [] else [])
       by_test true = by_due ((view_by k).dues n)
@@ -218,12 +226,11 @@ module _ (k : Known) where
 
   best_near : (w : Waiter) (one : Idle) → IsKeyed w → IsBest w.key one → IsNear one.link (as_readied w)
   best_near w one keyed is =
-      let parts = and_parts (is_hostgroup one.key.hostgroup w.key.hostgroup) _ is.fits in
-      let accounts = and_parts (is_account one.key.account w.key.account) _ parts.1 in
-      ap (λ (o : Option LinkKey). option_map_or (λ (key : LinkKey). is_hostgroup key.hostgroup w.name.hostgroup && is_account key.account ((setup_by k).accounts w.name.client)) o false) is.idle.keyed
-      ∙ and_from _ _
-      (ap (is_hostgroup is.idle.key.hostgroup) (sym keyed.0) ∙ ap (λ (x : policy.Key). is_hostgroup x.hostgroup w.key.hostgroup) (sym is.idle.same) ∙ parts.0)
-      (ap (is_account is.idle.key.account) (sym keyed.1) ∙ ap (λ (x : policy.Key). is_account x.account w.key.account) (sym is.idle.same) ∙ accounts.0)
+      let wanted : LinkKey = key_for (setup_by k) k.now w.name.client w.name.hostgroup in
+      ap (λ (o : Option LinkKey). option_map_or (λ (key : LinkKey). keys.is_key key wanted) o false) is.idle.keyed
+      ∙ sym (key_is is.idle.key (as_key wanted))
+      ∙ ap (λ (x : policy.Key). policy.is_key x (as_key wanted)) (sym is.idle.same)
+      ∙ ap (λ (x : policy.Key). policy.is_key one.key x) (sym keyed) ∙ is.fits
 
   lends_near : (rest : Rest) (is_served : SessionName → Bool) (ws : List Waiter) (lends : Lends) → AllKeyed ws → AllIdle rest.idle → next_lend rest is_served ws ≡ Some lends
       → IsNear lends.link lends.to

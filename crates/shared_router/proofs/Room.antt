@@ -37,7 +37,7 @@ key_is_one a b is =
     let bare = flag_of a.bare b.bare second.1 in
     λ i. record { hostgroup = group i; account = account i; bare = bare i }
 
-link_key_is : (a b : LinkKey) → is_key a b ≡ true → a ≡ b
+pub link_key_is : (a b : LinkKey) → is_key a b ≡ true → a ≡ b
 link_key_is a b is = ap from_key (key_is_one (as_key a) (as_key b) (key_is a (as_key b) ∙ is))
 
 turned : (a b : LinkKey) → is_key a b ≡ false → is_key b a ≡ false

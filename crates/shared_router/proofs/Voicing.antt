@@ -65,7 +65,7 @@ module _ (fixed : Fixed) (w : World More) (plan : Plan) (link : LinkId) (bytes :
   not_joined : {A : Type 0} (n m : SessionName) → there.carries ≡ Lent n → is_joined m there.carries ≡ true → A
   not_joined n m carried is = isnt (ap (is_joined m) (sym carried) ∙ is)
 
-  own_lent : (n : SessionName) → there.carries ≡ Lent n → IsOwn fixed w plan link bytes n
+  pub own_lent : (n : SessionName) → there.carries ≡ Lent n → IsOwn fixed w plan link bytes n
   own_lent n carried = record {
     states = λ due may.
         let stated : may_state setup view now due there ≡ true = right_of (is_quiet there.stage) _ (right_of there.usable _ may) in

@@ -3,11 +3,10 @@ use Rattle.std.specs.Prelude.{ℕ, zero, suc, Bool, false, ◌&&◌, nat_eq, Lis
 use Rattle.std.specs.List.{filter_map, list_any}
 use Rattle.std.specs.Option.{option_and_then, option_map, option_map_or}
 use Rattle.private_model.specs.Names.{LinkId, SessionName}
-use Rattle.private_model.specs.Story.{BecameDue, Due, Story, is_hostgroup, is_link_id, is_name}
-use Rattle.tale_world.specs.Tests.{is_account}
+use Rattle.private_model.specs.Story.{BecameDue, Due, Story, is_link_id, is_name}
 use Rattle.tale_world.specs.Policy as policy
 use Rattle.tale_world.specs.Policy.{Idle, Lends, Opening, Readied, Rest, Waiter, next_lend}
-use Rattle.router_promises.specs.Keys.{LinkKey, is_free, is_opening, is_vacant, is_waiting, key_for, key_of}
+use Rattle.router_promises.specs.Keys.{LinkKey, is_free, is_of_key, is_opening, is_vacant, is_waiting, key_for, key_of}
 use Rattle.router_promises.specs.Now.{wire_now}
 use Rattle.shared_router.specs.Known.{Known, link_by, present_by, setup_by, view_by}
 
@@ -68,11 +67,9 @@ as_readied one = record { name = one.name; due = one.due }
 abbrev pub still_waits : Rest → Readied → Option Readied
 still_waits rest readied = option_map as_readied (find (is_waiter readied) rest.waiters)
 
--- the link is of its hostgroup and account
+-- the link is of the key of what is due of it
 abbrev pub is_near : Known → LinkId → Readied → Bool
-is_near k link readied = option_map_or
-    (λ (key : LinkKey). is_hostgroup key.hostgroup readied.name.hostgroup && is_account key.account ((setup_by k).accounts readied.name.client))
-    (key_of k.terms k.now link) false
+is_near k link readied = is_of_key k.terms k.now (key_for (setup_by k) k.now readied.name.client readied.name.hostgroup) link
 
 abbrev pub if_near : Known → LinkId → Readied → Option Readied
 if_near k link readied = if is_near k link readied then Some readied else None

@@ -15,3 +15,4 @@ pub mod Rests
 pub mod Lent
 pub mod Sends
 pub mod Given
+pub mod Leads

@@ -79,7 +79,7 @@ pub fn readied_waits()
     ensures { (k : Known) (link : LinkId) (r : Readied) → readied_now k link ≡ Some r → Waits k r }
 {}
 
-/// And the link is of that statement's hostgroup and account.
+/// And the link is of the key of what is due there: of its hostgroup and account, and kept for those in no schema where it stands in none.
 pub fn readied_near()
     ensures { (k : Known) (link : LinkId) (r : Readied) → readied_now k link ≡ Some r → is_near k link r ≡ true }
 {}

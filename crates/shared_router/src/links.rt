@@ -7,6 +7,7 @@ ghost use Rattle.router_promises.specs.Now.{now_at};
 ghost use Rattle.router_promises.specs.Opens.{OpensSo};
 ghost use Rattle.router_promises.specs.Terms.{AreWhoTheySay};
 ghost use Rattle.shared_router.specs.Fixed.{Fixed, IsNumbered};
+ghost use Rattle.shared_router.specs.Leads.{LeadsSo, ReadsNothing, SpellsIds};
 ghost use Rattle.shared_router.specs.More.{now_of};
 ghost use Rattle.shared_router.specs.Ours.{IsOurLog};
 ghost use Rattle.shared_router.specs.Sends.{SendsSo};
@@ -36,4 +37,12 @@ pub fn closes_for_a_cause()
 /// that may be closed, and a STMT_RESET names a statement with long data.
 pub fn sends_what_is_due()
     ensures { (fixed : Fixed) (log : Log) → IsNumbered fixed → IsOurLog fixed log → AllLawful (SendsSo (final_terms fixed log)) log }
+{}
+
+/// Each step is wanted by the statement whose link it is, or by one that waits for a link of its key: it leads to a schema or to settings that
+/// the link wasn't told, or sets the session's insert id. Each preparation is for a statement that is due, and its text doesn't stand there.
+/// Where insert ids are spelt as they are, and an empty text isn't read as a SET.
+pub fn takes_steps_that_are_wanted()
+    ensures { (fixed : Fixed) (log : Log) → IsNumbered fixed → SpellsIds fixed → ReadsNothing fixed.router.reads → IsOurLog fixed log
+        → AllLawful (LeadsSo (final_terms fixed log)) log }
 {}

@@ -1,0 +1,410 @@
+-- The steps and preparations of our router are wanted.
+use Rattle.std.specs.Prelude.{◌≡◌, ◌+◌, ◌<◌, ℕ, suc, Bool, true, false, not, ◌&&◌, ◌||◌, bytes_eq, is_some, length, nat_eq, if◌then◌else◌, List, [], ◌∷◌, ◌++◌, Option, Some, None}
+use Rattle.std.specs.List.{list_any}
+use Rattle.std.specs.Option.{option_map, option_map_or}
+use Rattle.std.proofs.Common.{refl, sym, ap, ◌∙◌, subst, append_assoc, arith}
+use Rattle.std.proofs.lemmas.Bool.{and_from}
+use Rattle.mx_base.specs.declared.names.LinkId.{LinkId}
+use Rattle.mx_base.specs.declared.tag.Tag.{Tag}
+use Rattle.mx_base.specs.declared.tag.Tag.TheVariants as tags
+use Rattle.mx_wire.specs.Log.{Log}
+use Rattle.mx_wire.specs.Moments.{LawfulAfter}
+use Rattle.mx_wire.specs.Tells.{Fits}
+use Rattle.mx_wire.specs.declared.entry.Entry.{Entry}
+use Rattle.mx_wire.specs.declared.entry.Entry.TheVariants as entry
+use Rattle.private_model.proofs.Maps.{name_of as named, same_number}
+use Rattle.private_model.specs.Commands.{Command, FieldList, InitDb, Prepare, Query, Quit, ReadId, Reset, Run, SetId}
+use Rattle.private_model.specs.Names.{Hostgroup, MessageName, SessionName}
+use Rattle.private_model.specs.Story.{Broke, Due, Happening, Own, Prep, Question, Sent, Sync, command_of, message_of}
+use Rattle.private_model.specs.View.{Carried, Joined, Lent, Link, Nobody, Setup, View, present}
+use Rattle.server_rule.specs.Classes.{Reads}
+use Rattle.server_rule.specs.Servers.{is_some_of}
+use Rattle.session_state.specs.Pins.{is_pinned}
+use Rattle.log_story.specs.Plan.{Asks, Closes, Plan, Resets, Route, StepText, own_at}
+use Rattle.log_story.specs.Servers.{begun_on, due_in, is_quiet, may_begin, of_due, or_broke}
+use Rattle.log_story.specs.Tale.{Tale, is_to_server, view_of}
+use Rattle.log_story.specs.Telling.{tale_step}
+use Rattle.tale_world.specs.Decided.{Agrees, plan_of}
+use Rattle.tale_world.specs.Deciding.{World}
+use Rattle.tale_world.specs.Policy.{Readied, next_question}
+use Rattle.tale_world.specs.Tested.{IsTestedFrom, Passes as PassesAt}
+use Rattle.tale_world.specs.Tests.{is_joined, is_lent, is_nobody, is_own_step, is_set, is_step_of, may_tell}
+use Rattle.tale_world.specs.Wishes.{Says, Sends, Wish, before_question, wish_for}
+use Rattle.tale_world.proofs.Following.{stepped}
+use Rattle.router_promises.specs.Dues.{is_due, is_unsent}
+use Rattle.router_promises.specs.Keys.{LinkKey, is_key, key_for, key_of}
+use Rattle.router_promises.specs.Now.{Now, now_at, present_now, wire_now}
+use Rattle.router_promises.specs.Steps.{is_prep_wanted, is_wanted, some_wants, wants_prepared, wants_there}
+use Rattle.router_promises.specs.Terms.{Terms, plan_in}
+use Rattle.router_promises.specs.Wants.{prepares_first, wants}
+use Rattle.shared_router.specs.Fixed.{Fixed, IsNumbered, setup_of}
+use Rattle.shared_router.specs.Known.{Known, known}
+use Rattle.shared_router.specs.Leads.{IsWantedThere, LeadsAs, LeadsFor, LeadsSo, ReadsNothing, SpellsIds}
+use Rattle.shared_router.specs.Lends.{readied_now}
+use Rattle.shared_router.specs.More.{More, now_of, terms_of}
+use Rattle.shared_router.specs.Ours.{IsOurs}
+use Rattle.shared_router.specs.Shared.{final_terms, shared, world_at}
+use Rattle.shared_router.specs.Waits.{Waits}
+use Rattle.shared_router.specs.Wishes.{kept_due, ordinal_due, standing_on, tag_of, texts, wish_on, wish_step, wish_tag}
+use Rattle.shared_router.proofs.Beginning.{isnt, left_of, no_some, right_of, says_mute, some_of}
+use Rattle.shared_router.proofs.Decidedly.{AreDecided, GoesTo}
+use Rattle.shared_router.proofs.Holding.{IsHeld}
+use Rattle.shared_router.proofs.Keeping.{begins_at, tested}
+use Rattle.shared_router.proofs.Lasting.{alike_at}
+use Rattle.shared_router.proofs.Later.{AreAlike, due_same, key_same, waiters_same}
+use Rattle.shared_router.proofs.Leading.{Asked, Captures, Ends, ForJoined, ForLent, ForWaiter, MayLead, Prepares, Source, States, Steps, carrying, source_of}
+use Rattle.shared_router.proofs.Listed.{readied_listed}
+use Rattle.shared_router.proofs.Parting.{agrees_then, even_at, world_more}
+use Rattle.shared_router.proofs.Prompting.{first_held, step_held}
+use Rattle.shared_router.proofs.Readying.{readied_near, readied_waits}
+use Rattle.shared_router.proofs.Room.{link_key_is}
+use Rattle.shared_router.proofs.Routing.{agrees_behind}
+use Rattle.shared_router.proofs.Same.{now_is, now_same}
+use Rattle.shared_router.proofs.Sending.{Begun, Parts, Wishes, begun_so}
+use Rattle.shared_router.proofs.Speaking.{IsOwn, Passes, own_present, tells, tells_same}
+use Rattle.shared_router.proofs.Stepping.{AreBegun, begun_then, first_begun}
+use Rattle.shared_router.proofs.Tagging.{step_is}
+use Rattle.shared_router.proofs.Voicing.{own_lent}
+
+-- What the test of a step says of it.
+
+text_there : (reads : Reads) (nothing : ReadsNothing reads) (tx : Bool) (text : List ℕ) → is_set (reads.class text) tx ≡ true → not (bytes_eq text []) ≡ true
+text_there reads nothing tx [] is = isnt (sym (nothing tx) ∙ is)
+text_there reads nothing tx (x ∷ text) is = refl
+
+module _ (fixed : Fixed) (ids : SpellsIds fixed) (nothing : ReadsNothing fixed.router.reads) (w last : World More) (alike : AreAlike fixed w.tale w last) (link : LinkId)
+    (bytes : List ℕ) (decided : AreDecided w.decided (view_of (setup_of fixed) w.tale)) (agrees : Agrees w.decided w.tale.moment (plan_of last.decided))
+    (to_server : is_to_server w.tale link ≡ true) (stays : (w.tale.wires link).quits ≡ false) where
+  abbrev setup : Setup
+  setup = setup_of fixed
+
+  abbrev plan : Plan
+  plan = plan_of last.decided
+
+  abbrev t : Terms
+  t = terms_of fixed last
+
+  abbrev k : Known
+  k = known fixed w
+
+  abbrev now : Now
+  now = now_of fixed w
+
+  abbrev view : View
+  view = view_of setup w.tale
+
+  abbrev there : Link
+  there = view.links link
+
+  abbrev Tells : Tag → StepText → Type 0
+  Tells tag step = Passes fixed w plan link bytes (tells fixed w plan link bytes tag step)
+
+  abbrev Told : List Happening → Type 0
+  Told es = may_tell setup es w.tale.story ≡ true
+
+  unbroken : (b : Bool) (es : List Happening) → Told (if b then Broke ∷ [] else es) → Told es
+  unbroken true es told = isnt told
+  unbroken false es told = told
+
+  -- the test
+
+  own_tested : (c : Command) → Told (Sent link (Own c) ∷ []) → is_own_step setup.reads c ≡ true
+  own_tested c told = right_of (is_nobody there.carries || is_lent there.carries) _ (right_of (is_quiet there.stage) _ (right_of there.usable _ told))
+
+  own_leads : (c : Command) → Tells tags.Own (Asks c) → MayLead c
+  own_leads (InitDb schema) told = own_tested (InitDb schema) (unbroken (is_some_of (w.tale.wires link).unread && true) (Sent link (Own (InitDb schema)) ∷ []) told)
+  own_leads (Query text) told =
+      text_there setup.reads nothing false text (own_tested (Query text) (unbroken (is_some_of (w.tale.wires link).unread && true) (Sent link (Own (Query text)) ∷ []) told))
+  own_leads (FieldList rest) told = tt
+  own_leads (SetId n) told = tt
+  own_leads ReadId told = tt
+  own_leads (Prepare text) told = tt
+  own_leads (Run text schema settings args) told = tt
+  own_leads Reset told = tt
+  own_leads Quit told = tt
+
+  sync_tested : (n : SessionName) (c : Command) → Tells (tags.Sync n.client n.hostgroup) (Asks c)
+      → is_step_of setup.reads c (view.held (present view n.client n.hostgroup)).pin (view.held (present view n.client n.hostgroup)).id ≡ true
+  sync_tested n c told =
+      let m : SessionName = present view n.client n.hostgroup in
+      let begun : Told (Sent link (Sync m c) ∷ []) = unbroken (is_some_of (w.tale.wires link).unread && true) (Sent link (Sync m c) ∷ []) told in
+      right_of (is_pinned (view.held m).pin) _ (right_of (is_joined m there.carries) _ (right_of (is_quiet there.stage) _ (right_of there.usable _ begun)))
+
+  sync_leads : (n : SessionName) (c : Command) → Tells (tags.Sync n.client n.hostgroup) (Asks c) → MayLead c
+  sync_leads n (InitDb schema) told = sync_tested n (InitDb schema) told
+  sync_leads n (Query text) told = text_there setup.reads nothing (view.held (present view n.client n.hostgroup)).pin.tx text (sync_tested n (Query text) told)
+  sync_leads n (FieldList rest) told = tt
+  sync_leads n (SetId id) told = tt
+  sync_leads n ReadId told = tt
+  sync_leads n (Prepare text) told = tt
+  sync_leads n (Run text schema settings args) told = tt
+  sync_leads n Reset told = tt
+  sync_leads n Quit told = tt
+
+  -- what is due by one is due by the other
+
+  due_then : (n : SessionName) → is_due k.terms w.tale n ≡ true → is_due t w.tale n ≡ true
+  due_then n is = due_same fixed w.more.log now w last alike n ∙ is
+
+  kept_by : (b : Bool) (o : Option Due) (due : Due) → (if b then o else None) ≡ Some due → (b ≡ true) × (o ≡ Some due)
+  kept_by true o due at = (refl, at)
+  kept_by false o due at = no_some due at
+
+  kept_at : (n : SessionName) (due : Due) → (kept_due k).dues n ≡ Some due → (is_due k.terms w.tale n ≡ true) × (view.dues n ≡ Some due)
+  kept_at n due at = kept_by (is_due k.terms w.tale n) (view.dues n) due at
+
+  waits_due : (r : Readied) → Waits k r → is_due k.terms w.tale r.name ≡ true
+  waits_due r waits =
+      let m : SessionName = present view r.name.client r.name.hostgroup in
+      let unsent : is_unsent k.terms w.tale m ≡ true = left_of (is_unsent k.terms w.tale m) _ waits.waits in
+      ap (λ n. is_due k.terms w.tale n) (sym waits.present) ∙ left_of (is_due k.terms w.tale m) _ unsent
+
+  -- steps
+
+  wants_so : (n : SessionName) (due : Due) (c : Command) → is_due k.terms w.tale n ≡ true → view.dues n ≡ Some due → wants setup there (view.held n) due c ≡ true
+      → wants_there t now link n c ≡ true
+  wants_so n due c is at wanted =
+      and_from (is_due t w.tale n) _ (due_then n is) (ap (λ o. option_map_or (λ (d : Due). wants setup there (view.held n) d c) o false) at ∙ wanted)
+
+  waiter_wants : (r : Readied) (c : Command) → readied_now k link ≡ Some r → wants setup there (view.held r.name) r.due c ≡ true
+      → some_wants t now link c (key_of t now link) ≡ true
+  waiter_wants r c readied wanted =
+      ap (some_wants t now link c) (key_same fixed w.more.log now w last alike link to_server)
+      ∙ by_key (key_of k.terms now link) (readied_near k link r readied)
+    where
+      waits : Waits k r
+      waits = readied_waits k link r readied
+
+      its : LinkKey
+      its = key_for setup now r.name.client r.name.hostgroup
+
+      by_key : (o : Option LinkKey) → option_map_or (λ other. is_key other its) o false ≡ true → some_wants t now link c o ≡ true
+      by_key None near = isnt near
+      by_key (Some key) near =
+          let same : key ≡ its = link_key_is key its near in
+          let test : MessageName → Bool = λ m. wants_there t now link (present_now setup now m.client key.hostgroup) c in
+          ap (list_any test) (waiters_same fixed w.more.log now w last alike key w.tale.story)
+          ∙ readied_listed k link r readied key (subst (λ (x : LinkKey). is_key its x ≡ true) (sym same) (subst (λ (x : LinkKey). is_key x its ≡ true) same near)) test
+          (λ m client. ap (λ n. wants_there t now link n c)
+          (ap (λ a. present_now setup now a key.hostgroup) client ∙ ap (λ (x : LinkKey). present_now setup now r.name.client x.hostgroup) same ∙ waits.present)
+          ∙ wants_so r.name r.due c (waits_due r waits) waits.due wanted)
+
+  -- preparations
+
+  abbrev prep_of : SessionName → Due → Question
+  prep_of m d = Prep m d.key (setup.keys d.key).text
+
+  abbrev asked_by : SessionName → (ordinal : ℕ) → Option Route → List Happening
+  asked_by n ordinal o =
+      or_broke (λ (route : Route). let m = present view n.client route.hostgroup in of_due plan w.tale.moment view link ordinal m (prep_of m)) o
+
+  module _ (n : SessionName) (due : Due) (own : IsOwn fixed w plan link bytes n) (goes : GoesTo w.decided (message_of n due) n.hostgroup) where
+    abbrev here : SessionName
+    here = present view n.client n.hostgroup
+
+    routed_there : plan.routes (message_of n due) ≡ Some goes.route
+    routed_there = agrees.routes (message_of n due) (Some goes.route) goes.routed
+
+    by_due : (o : Option Due) → Told (or_broke (λ (d : Due). Sent link (prep_of here d) ∷ []) (due_in plan w.tale.moment due.ordinal here o)) → here ≡ n
+    by_due None told = isnt told
+    by_due (Some d) told = by_test (nat_eq d.ordinal due.ordinal && not (is_some (own_at plan w.tale.moment (message_of here d)))) told where
+      by_test : (b : Bool) → Told (or_broke (λ (x : Due). Sent link (prep_of here x) ∷ []) (if b then Some d else None)) → here ≡ n
+      by_test true on = own.prepares d.key (setup.keys d.key).text on
+      by_test false on = isnt on
+
+    prep_present : (c : Command) → Tells (tags.Prep n.client due.ordinal) (Asks c) → here ≡ n
+    prep_present c told =
+        by_due (view.dues here)
+        (subst Told (ap (asked_by n due.ordinal) routed_there
+        ∙ ap (λ (h : Hostgroup). of_due plan w.tale.moment view link due.ordinal (present view n.client h) (prep_of (present view n.client h))) goes.there)
+        (unbroken (is_some_of (w.tale.wires link).unread && true) (asked_by n due.ordinal (plan.routes (message_of n due))) told))
+
+    prep_wanted : (c : Command) → view.dues n ≡ Some due → is_due k.terms w.tale n ≡ true → prepares_first there due.command due.key ≡ true
+        → Tells (tags.Prep n.client due.ordinal) (Asks c) → is_prep_wanted t now link (message_of n due) ≡ true
+    prep_wanted c at is first told =
+        ap (λ o. option_map_or (λ (route : Route). wants_prepared t now link (present_now setup now n.client route.hostgroup) due.ordinal) o false) routed_there
+        ∙ ap (λ (h : Hostgroup). wants_prepared t now link (present_now setup now n.client h) due.ordinal) goes.there
+        ∙ ap (λ m. wants_prepared t now link m due.ordinal) (prep_present c told)
+        ∙ and_from (is_due t w.tale n) _ (due_then n is)
+        (ap (λ o. option_map_or (λ (d : Due). nat_eq d.ordinal due.ordinal && prepares_first there d.command d.key) o false) at
+        ∙ and_from (nat_eq due.ordinal due.ordinal) _ (same_number due.ordinal) first)
+
+  -- Questions.
+
+  abbrev Good : Question → Type 0
+  Good q = Tells (tag_of k q) (Asks (command_of q)) → LeadsFor t now link (Asks (command_of q)) (tag_of k q)
+
+  step_good : (c : Command) → (MayLead c → is_wanted t now link c there.carries ≡ true) → MayLead c → IsWantedThere t now link (Asks c)
+  step_good (InitDb schema) each may = each may
+  step_good (Query text) each may = each may
+  step_good (FieldList rest) each may = each may
+  step_good (SetId n) each may = each may
+  step_good ReadId each may = each may
+  step_good (Prepare text) each may = each may
+  step_good (Run text schema settings args) each may = each may
+  step_good Reset each may = each may
+  step_good Quit each may = tt
+
+  carried_so : (c : Command) (carried : Carried) → there.carries ≡ carried → is_wanted t now link c carried ≡ true → is_wanted t now link c there.carries ≡ true
+  carried_so c carried is wanted = ap (is_wanted t now link c) is ∙ wanted
+
+  prep_good : (n : SessionName) (due : Due) → view.dues n ≡ Some due → is_due k.terms w.tale n ≡ true → IsOwn fixed w plan link bytes n → prepares_first there due.command due.key ≡ true
+      → Good (Prep n due.key (setup.keys due.key).text)
+  prep_good n due at is own first told =
+      let same : ordinal_due (view.dues n) ≡ due.ordinal = ap ordinal_due at in
+      let c : Command = command_of (Prep n due.key (setup.keys due.key).text) in
+      subst (λ i. is_prep_wanted t now link (record { client = n.client; ordinal = i }) ≡ true) (sym same)
+      (prep_wanted n due own (decided.due n due at) c at is first (subst (λ i. Tells (tags.Prep n.client i) (Asks c)) same told))
+
+  waiter_good : (r : Readied) (q : Question) → readied_now k link ≡ Some r → there.carries ≡ Nobody → Asked setup (carrying Nobody there) (view.held r.name) r.name r.due Own q → Good q
+  waiter_good r q readied carried (Steps c each) told = step_good c (λ may. carried_so c Nobody carried (waiter_wants r c readied (each may))) (own_leads c told)
+  waiter_good r q readied carried (Prepares first) told =
+      let waits : Waits k r = readied_waits k link r readied in
+      prep_good r.name r.due waits.due (waits_due r waits) (own_present fixed w plan link bytes r.name waits.present) first told
+  waiter_good r q readied carried States told = tt
+
+  lent_good : (n : SessionName) (due : Due) (q : Question) → (kept_due k).dues n ≡ Some due → there.carries ≡ Lent n
+      → Asked setup (carrying (Lent n) there) (view.held n) n due Own q → Good q
+  lent_good n due q at carried (Steps c each) told =
+      step_good c (λ may. carried_so c (Lent n) carried (wants_so n due c (kept_at n due at).0 (kept_at n due at).1 (each may))) (own_leads c told)
+  lent_good n due q at carried (Prepares first) told =
+      prep_good n due (kept_at n due at).1 (kept_at n due at).0 (own_lent fixed w plan link bytes decided agrees stays n carried) first told
+  lent_good n due q at carried States told = tt
+
+  joined_good : (n : SessionName) (due : Due) (q : Question) → (kept_due k).dues n ≡ Some due → present view n.client n.hostgroup ≡ n → there.carries ≡ Joined n
+      → Asked setup (carrying (Joined n) there) (view.held n) n due (Sync n) q → Good q
+  joined_good n due q at stands carried (Steps c each) told =
+      step_good c (λ may. carried_so c (Joined n) carried (wants_so n due c (kept_at n due at).0 (kept_at n due at).1 (each may))) (sync_leads n c told)
+  joined_good n due q at stands carried (Prepares first) told =
+      prep_good n due (kept_at n due at).1 (kept_at n due at).0 (own_present fixed w plan link bytes n stands) first told
+  joined_good n due q at stands carried States told = tt
+
+  source_good : (c : Carried) (q : Question) → there.carries ≡ c → Source setup (kept_due k) there (readied_now k link) c q → Good q
+  source_good c q carried (ForWaiter r x is asked) = waiter_good r q is carried asked
+  source_good c q carried (ForLent n due x at asked) = lent_good n due q at carried asked
+  source_good c q carried (ForJoined n due x here at asked) = joined_good n due q at (sym (named n (present view n.client n.hostgroup) here)) carried asked
+  source_good c q carried (Captures n) = λ told. tt
+  source_good c q carried (Ends n) = λ told. tt
+
+  question_good : (q : Question) → next_question texts fixed.ids setup (kept_due k) there (readied_now k link) ≡ Some q → Good q
+  question_good q is = source_good there.carries q refl (source_of fixed.ids ids setup (kept_due k) there (readied_now k link) q there.carries is)
+
+  abbrev GoodWish : Wish → Type 0
+  GoodWish wish = Tells (wish_tag k wish) (wish_step wish) → LeadsFor t now link (wish_step wish) (wish_tag k wish)
+
+  text_good : (q : Question) (text : StepText) → before_question there (standing_on k link) q ≡ Some text → IsWantedThere t now link text
+  text_good q (Asks command) is = isnt (says_mute there (standing_on k link) q (Asks command) is)
+  text_good q (Closes number) is = tt
+  text_good q (Resets number) is = tt
+
+  asked_good : (q : Question) → Good q → GoodWish (wish_for there (standing_on k link) q)
+  asked_good q good = by_before (before_question there (standing_on k link) q) refl where
+    by_before : (o : Option StepText) → before_question there (standing_on k link) q ≡ o → GoodWish (option_map_or (λ text. Says text) o (Sends q))
+    by_before None before = good
+    by_before (Some text) before = λ told. text_good q text before
+
+  next_good : (o : Option Question) (wish : Wish) → next_question texts fixed.ids setup (kept_due k) there (readied_now k link) ≡ o
+      → option_map (wish_for there (standing_on k link)) o ≡ Some wish → GoodWish wish
+  next_good None wish at is = no_some wish is
+  next_good (Some q) wish at is = subst GoodWish (some_of _ wish is) (asked_good q (question_good q at))
+
+  pub wish_good : (wish : Wish) → wish_on k link ≡ Some wish → GoodWish wish
+  wish_good wish is = by_quits (w.tale.wires link).quits is where
+    by_quits : (b : Bool) → (if b then None else option_map (wish_for there (standing_on k link)) (next_question texts fixed.ids setup (kept_due k) there (readied_now k link))) ≡ Some wish
+        → GoodWish wish
+    by_quits true now_is = no_some wish now_is
+    by_quits false now_is = next_good (next_question texts fixed.ids setup (kept_due k) there (readied_now k link)) wish refl now_is
+
+-- Along a log.
+
+stays_of : (b : Bool) (o : Option Wish) (wish : Wish) → (if b then None else o) ≡ Some wish → b ≡ false
+stays_of false o wish is = refl
+stays_of true o wish is = absurd (cc)
+
+module _ (fixed : Fixed) (numbered : IsNumbered fixed) (ids : SpellsIds fixed) (nothing : ReadsNothing fixed.router.reads) where
+  module _ (before later : Log) (link : LinkId) (tag : Tag) (bytes : List ℕ) (begun : AreBegun fixed (world_at fixed before))
+      (decided : AreDecided (world_at fixed before).decided (view_of (setup_of fixed) (world_at fixed before).tale)) where
+    abbrev e : Entry
+    e = entry.Wrote link tag bytes
+
+    abbrev w : World More
+    w = world_at fixed before
+
+    abbrev last : World More
+    last = world_at fixed (before ++ e ∷ later)
+
+    abbrev last_terms : Terms
+    last_terms = final_terms fixed (before ++ e ∷ later)
+
+    abbrev begins_there : Bool
+    begins_there = may_begin (setup_of fixed) link (wire_now (now_at last_terms before) link) (now_at last_terms before).tale
+
+    same_now : now_at last_terms before ≡ now_of fixed w
+    same_now = now_is fixed last_terms before (now_same fixed numbered before (e ∷ later))
+
+    module _ (fits : LawfulAfter Fits before (e ∷ later)) (passes : PassesAt (setup_of fixed) (plan_of last.decided) w.tale e) (our : IsOurs fixed before e) where
+      abbrev step : StepText
+      step = (plan_of last.decided).steps link (w.tale.wires link).begun
+
+      by_begun : is_to_server w.tale link ≡ true → may_begin (setup_of fixed) link (w.tale.wires link) w.tale ≡ true
+          → Begun (known fixed w) link tag step → LeadsFor last_terms (now_of fixed w) link step tag
+      by_begun to_server begins (Parts closing asks own) =
+          subst (λ s. LeadsFor last_terms (now_of fixed w) link s tag) (sym asks)
+          (subst (λ x. LeadsFor last_terms (now_of fixed w) link (Asks Quit) x) (sym own) tt)
+      by_begun to_server begins (Wishes wish wished tagged asks) =
+          let told : begun_on (setup_of fixed) (plan_of last.decided) w.tale.moment (view_of (setup_of fixed) w.tale) link (w.tale.wires link) tag
+          ≡ tells fixed w (plan_of last.decided) link bytes (wish_tag (known fixed w) wish) (wish_step wish) =
+          sym (tells_same fixed w (plan_of last.decided) link bytes tag) ∙ ap (tells fixed w (plan_of last.decided) link bytes tag) asks
+          ∙ ap (λ x. tells fixed w (plan_of last.decided) link bytes x (wish_step wish)) tagged in
+          subst (λ s. LeadsFor last_terms (now_of fixed w) link s tag) (sym asks) (subst (λ x. LeadsFor last_terms (now_of fixed w) link (wish_step wish) x) (sym tagged)
+          (wish_good fixed ids nothing w last (alike_at fixed numbered before (e ∷ later) fits) link bytes decided (agrees_then fixed before (e ∷ later)) to_server
+          (stays_of (w.tale.wires link).quits _ wish wished) wish wished
+          (subst (λ es. may_tell (setup_of fixed) es w.tale.story ≡ true) told (passes to_server begins))))
+
+      here_so : is_to_server w.tale link ≡ true → may_begin (setup_of fixed) link (w.tale.wires link) w.tale ≡ true → LeadsFor last_terms (now_of fixed w) link step tag
+      here_so there begins =
+          by_begun there begins
+          (begun_so (known fixed w) link tag bytes step fits.0.some
+          (step_is fixed numbered before later link tag bytes begun (begins_at fixed w link e there begins our.1) there begins) our.0 there begins)
+
+      by_begins : is_to_server (now_at last_terms before).tale link ≡ true → (b : Bool) → begins_there ≡ b → LeadsAs last_terms (now_at last_terms before) link tag b
+      by_begins to_server false at = tt
+      by_begins to_server true at =
+          subst (λ (n : Now). LeadsFor last_terms n link ((plan_in last_terms).steps link (wire_now n link).begun) tag) (sym same_now)
+          (here_so (ap (λ (n : Now). is_to_server n.tale link) (sym same_now) ∙ to_server)
+          (ap (λ (n : Now). may_begin (setup_of fixed) link (wire_now n link) n.tale) (sym same_now) ∙ at))
+
+  leads_by : (before later : Log) (e : Entry) → AreBegun fixed (world_at fixed before)
+      → AreDecided (world_at fixed before).decided (view_of (setup_of fixed) (world_at fixed before).tale) → LawfulAfter Fits before (e ∷ later)
+      → PassesAt (setup_of fixed) (plan_of (world_at fixed (before ++ e ∷ later)).decided) (world_at fixed before).tale e
+      → IsOurs fixed before e → LeadsSo (final_terms fixed (before ++ e ∷ later)) before e
+  leads_by before later (entry.Wrote link tag bytes) begun decided fits passes our = λ there.
+      by_begins before later link tag bytes begun decided fits passes our there (begins_there before later link tag bytes begun decided) refl
+  leads_by before later _ begun decided fits passes our = tt
+
+  abbrev HeldAt : ℕ → Log → Type 0
+  HeldAt n before = IsHeld (setup_of fixed) n (world_at fixed before).decided (world_at fixed before).tale.clients (world_at fixed before).tale.story
+
+  leads_from : (before later log : Log) (n : ℕ) → before ++ later ≡ log → n + length later < 18446744073709551616 → HeldAt n before → AreBegun fixed (world_at fixed before)
+      → LawfulAfter Fits before later → IsTestedFrom (setup_of fixed) (plan_of (world_at fixed log).decided) (world_at fixed before).tale later
+      → LawfulAfter (IsOurs fixed) before later → LawfulAfter (LeadsSo (final_terms fixed log)) before later
+  leads_from before [] log n is small held begun fits tests our = tt
+  leads_from before (e ∷ later) log n is small held begun fits tests our =
+      let v : World More = world_at fixed before in
+      let one = step_held fixed n v e (omega arith) held our.0 in
+      let plan : Plan = plan_of (world_at fixed log).decided in
+      let moved : (world_at fixed (before ++ e ∷ [])).tale ≡ tale_step (setup_of fixed) plan v.tale e =
+      ap (λ (x : World More). x.tale) (world_more fixed before (e ∷ []))
+      ∙ (stepped (setup_of fixed) (shared fixed) v e plan (even_at fixed before) (agrees_behind fixed numbered before later e log is)).same in (
+        subst (λ l. LeadsSo (final_terms fixed l) before e) is
+            (leads_by before later e begun held.decided fits
+            (subst (λ (l : Log). PassesAt (setup_of fixed) (plan_of (world_at fixed l).decided) v.tale e) (sym is) tests.0) our.0),
+        leads_from (before ++ e ∷ []) later log (suc n) (append_assoc before (e ∷ []) later ∙ is) (omega arith)
+            (subst (λ (x : World More). IsHeld (setup_of fixed) (suc n) x.decided x.tale.clients x.tale.story) (sym (world_more fixed before (e ∷ []))) one.held)
+            (begun_then fixed before e fits.0 begun) fits.1
+            (subst (λ (x : Tale). IsTestedFrom (setup_of fixed) plan x later) (sym moved) tests.1) our.1,
+      )
+
+  pub leads_kept : (log : Log) → length log < 18446744073709551616 → LawfulAfter (IsOurs fixed) [] log → LawfulAfter Fits [] log
+      → LawfulAfter (LeadsSo (final_terms fixed log)) [] log
+  leads_kept log small our fits = leads_from [] log log 0 refl (omega arith) (first_held fixed) (first_begun fixed) fits (tested fixed log our fits) our
