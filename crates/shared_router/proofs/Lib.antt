@@ -60,3 +60,5 @@ pub mod Voicing
 pub mod Saying
 pub mod Greeting
 pub mod Vacant
+pub mod Along
+pub mod Sparing

@@ -5,6 +5,7 @@ mod clients;
 pub mod departing;
 mod links;
 mod rests;
+mod waits;
 mod words;
 
 ghost use Rattle.std.specs.Prelude.{◌≡◌, ◌++◌, ℕ, Bool, Some, true};
