@@ -66,3 +66,5 @@ pub mod Reasons
 pub mod Leading
 pub mod Listed
 pub mod Needing
+pub mod Along
+pub mod Sparing

@@ -23,7 +23,7 @@ use Rattle.shared_router.proofs.Parting.{agrees_then, even_at, next, world_more}
 use Rattle.shared_router.proofs.Since.{Since, log-since}
 
 module _ (d : Decided) (moment : ℕ) (plan : Plan) (agrees : Agrees d moment plan) (replies : MessageName → Option Reply) (client : Client) (looked : IsLooked d client) where
-  due-so : (last : List ℕ) (j : ℕ) (xs : List Framed) → j + length xs ≤ client.taken
+  pub due-so : (last : List ℕ) (j : ℕ) (xs : List Framed) → j + length xs ≤ client.taken
       → due_for replies plan moment client last (suc j) xs ≡ due_for replies (plan_of d) moment client last (suc j) xs
   due-so last j [] below = refl
   due-so last j (x ∷ xs) below =

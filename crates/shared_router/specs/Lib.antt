@@ -16,3 +16,4 @@ pub mod Lent
 pub mod Sends
 pub mod Given
 pub mod Leads
+pub mod Waited

@@ -6,6 +6,7 @@ pub mod departing;
 mod gives_up;
 mod links;
 mod rests;
+mod waits;
 mod words;
 
 ghost use Rattle.std.specs.Prelude.{◌≡◌, ◌++◌, ℕ, Bool, Some, true};
