@@ -58,3 +58,5 @@ pub mod Beginning
 pub mod Speaking
 pub mod Voicing
 pub mod Saying
+pub mod Pairing
+pub mod Numbering

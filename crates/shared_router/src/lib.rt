@@ -3,6 +3,7 @@
 
 mod clients;
 pub mod departing;
+mod keys;
 mod links;
 mod rests;
 mod words;
