@@ -68,3 +68,5 @@ pub mod Listed
 pub mod Needing
 pub mod Along
 pub mod Sparing
+pub mod Pairing
+pub mod Numbering

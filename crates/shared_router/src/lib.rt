@@ -4,6 +4,7 @@
 mod clients;
 pub mod departing;
 mod gives_up;
+mod keys;
 mod links;
 mod rests;
 mod waits;
