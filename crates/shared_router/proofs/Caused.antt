@@ -35,7 +35,7 @@ use Rattle.router_promises.specs.Running.{breaks_off, hostgroup_of, if_entering,
 use Rattle.router_promises.specs.Steps.{wants_there}
 use Rattle.router_promises.specs.Terms.{Terms, Tried, login_as}
 use Rattle.router_promises.specs.Wants.{wants}
-use Rattle.shared_router.specs.Causes.{Case, by_answer, by_bytes, by_reading, cause_of, home_in, is_home, is_named, is_nobody, is_on, is_ready, is_step_for, late, late_by, lost, name_in, offline, payload_if, starved, unlinked, was_for}
+use Rattle.shared_router.specs.Causes.{Case, by_answer, by_bytes, by_reading, cause_of, home_in, is_carried, is_home, is_named, is_nobody, is_on, is_ready, is_step_for, late, late_by, lost, name_in, offline, payload_if, starved, unlinked, was_for}
 use Rattle.shared_router.specs.Fixed.{Fixed, setup_of}
 use Rattle.shared_router.specs.Known.{Known, held_by, link_by, view_by}
 use Rattle.shared_router.specs.More.{More, terms_of}
@@ -202,14 +202,14 @@ module _ (fixed : Fixed) (log : Log) (now : Now) (v last : World More) (alike : 
       → IsStepFor t now m route link question carried
   step_so link (Own command) Nobody at is =
       let wanted : Bool = was_for c link && wants_there (terms_of fixed v) now link (name_in c) command in
-      let so : wanted ≡ true = sym (ap (λ x. if is_nobody x then wanted else is_home c link) at) ∙ is in
+      let so : wanted ≡ true = sym (ap (λ x. if is_nobody x then wanted else is_carried c link && is_home c link) at) ∙ is in
       wants_same link (name_in c) command ∙ (and_parts (was_for c link) (wants_there (terms_of fixed v) now link (name_in c) command) so).1
   step_so link (Own command) (Lent n) at is =
       let wanted : Bool = was_for c link && wants_there (terms_of fixed v) now link (name_in c) command in
-      home_so link (sym (ap (λ x. if is_nobody x then wanted else is_home c link) at) ∙ is)
+      home_so link (and_parts (is_carried c link) (is_home c link) (sym (ap (λ x. if is_nobody x then wanted else is_carried c link && is_home c link) at) ∙ is)).1
   step_so link (Own command) (Joined n) at is =
       let wanted : Bool = was_for c link && wants_there (terms_of fixed v) now link (name_in c) command in
-      home_so link (sym (ap (λ x. if is_nobody x then wanted else is_home c link) at) ∙ is)
+      home_so link (and_parts (is_carried c link) (is_home c link) (sym (ap (λ x. if is_nobody x then wanted else is_carried c link && is_home c link) at) ∙ is)).1
   step_so link (Prep n key text) carried at is = name_of n (name_in c) is
   step_so link (Sync n command) carried at is = name_of n (name_in c) is
   step_so link (Statement n due) carried at is = isnt is

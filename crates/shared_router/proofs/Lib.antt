@@ -61,3 +61,4 @@ pub mod Saying
 pub mod Giving
 pub mod Caused
 pub mod Reasons
+pub mod Singled

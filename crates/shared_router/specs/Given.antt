@@ -4,7 +4,7 @@ use Rattle.mx_wire.specs.Log.{Log}
 use Rattle.mx_wire.specs.declared.entry.Entry.{Entry}
 use Rattle.private_model.specs.Names.{MessageName}
 use Rattle.log_story.specs.Plan.{OwnAnswer, Route}
-use Rattle.router_promises.specs.Errors.{out_of_memory}
+use Rattle.router_promises.specs.Errors.{out_of_memory, replay_refused}
 use Rattle.router_promises.specs.GivenUp.{Cause, is_in_work}
 use Rattle.router_promises.specs.Now.{Now, entry_now, next, now_at}
 use Rattle.router_promises.specs.Terms.{Terms, plan_in}
@@ -29,3 +29,14 @@ AreGivenUp fixed terms now e = (m : MessageName) (answer : OwnAnswer) → (plan_
 
 abbrev pub GivenUpSo : Fixed → Terms → Log → Entry → Type 0
 GivenUpSo fixed terms log e = AreGivenUp fixed terms (now_at terms log) e
+
+-- and a step that was refused gives up one
+
+abbrev pub IsRefusedWith : Terms → Now → (code : ℕ) → MessageName → Type 0
+IsRefusedWith terms now code m = (plan_in terms).own m ≡ Some (record { from = entry_now now; payloads = replay_refused code ∷ [] })
+
+abbrev pub RefusesOne : Terms → Now → Type 0
+RefusesOne terms now = (code : ℕ) (m other : MessageName) → IsRefusedWith terms now code m → IsRefusedWith terms now code other → m ≡ other
+
+abbrev pub RefusesOneSo : Terms → Log → Entry → Type 0
+RefusesOneSo terms log e = RefusesOne terms (now_at terms log)
