@@ -62,3 +62,4 @@ pub mod Giving
 pub mod Caused
 pub mod Reasons
 pub mod Singled
+pub mod Overdue
