@@ -1,5 +1,5 @@
 -- A step that was refused gives up one statement.
-use Rattle.std.specs.Prelude.{◌≡◌, ◌+◌, ◌⊎◌, ℕ, suc, Bool, true, false, not, ◌&&◌, ◌||◌, is_some, nat_eq, if◌then◌else◌, slice_index_or, List, [], ◌∷◌, ◌++◌, Option, Some, None}
+use Rattle.std.specs.Prelude.{◌≡◌, ◌+◌, ◌⊎◌, ℕ, suc, Bool, true, false, ◌&&◌, ◌||◌, nat_eq, if◌then◌else◌, slice_index_or, List, [], ◌∷◌, ◌++◌, Option, Some, None}
 use Rattle.std.specs.List.{list_any}
 use Rattle.std.specs.Option.{option_and_then, option_map_or, option_or}
 use Rattle.std.proofs.Common.{refl, sym, ap, ◌∙◌, subst, append_assoc, arith, inl, inr}
@@ -16,27 +16,25 @@ use Rattle.private_model.specs.Names.{MessageName, SessionName}
 use Rattle.private_model.specs.Story.{Capture, End, Own, Prep, Question, Statement, Sync, is_client, is_name}
 use Rattle.private_model.specs.View.{Carried, Joined, Lent, Nobody, session_in}
 use Rattle.client_session.specs.Errors.{bad_server_bytes, connection_lost, connection_refused}
-use Rattle.log_story.specs.Plan.{OwnAnswer, Route, own_at}
-use Rattle.log_story.specs.Tale.{Client, view_of}
+use Rattle.log_story.specs.Plan.{OwnAnswer, Route}
+use Rattle.log_story.specs.Tale.{Client}
 use Rattle.tale_world.specs.Decided.{plan_of}
 use Rattle.tale_world.specs.Deciding.{World}
 use Rattle.tale_world.specs.Policy.{Readied}
 use Rattle.router_promises.specs.Errors.{no_connection, out_of_memory, replay_refused, server_offline}
-use Rattle.router_promises.specs.GivenUp.{is_in_work}
 use Rattle.router_promises.specs.Heard as heard
 use Rattle.router_promises.specs.Heard.{Answer, Reading, is_amiss, is_step, reading_of}
-use Rattle.router_promises.specs.Now.{Now, entry_now, now_at}
+use Rattle.router_promises.specs.Now.{Now, entry_now}
 use Rattle.router_promises.specs.Running.{is_off, status_in}
 use Rattle.router_promises.specs.Steps.{wants_there}
-use Rattle.router_promises.specs.Terms.{plan_in}
 use Rattle.shared_router.specs.Causes.{Case, by_answer, by_bytes, by_reading, cause_of, home_in, is_carried, is_home, is_nobody, is_on, is_step_for, late, late_by, lost, name_in, offline, payload_if, starved, unlinked, was_for}
-use Rattle.shared_router.specs.Fixed.{Fixed, IsNumbered, setup_of}
+use Rattle.shared_router.specs.Fixed.{Fixed, IsNumbered}
 use Rattle.shared_router.specs.Given.{RefusesOne, RefusesOneSo}
 use Rattle.shared_router.specs.Known.{link_by, setup_by}
 use Rattle.shared_router.specs.More.{More, now_of}
 use Rattle.shared_router.specs.Shared.{final_terms, world_at}
 use Rattle.shared_router.proofs.Caused.{mapped_true, payload_so}
-use Rattle.shared_router.proofs.Giving.{IsGiven, case_of, is_given, told_world}
+use Rattle.shared_router.proofs.Giving.{case_of, is_given}
 use Rattle.shared_router.proofs.Looked.{Each}
 use Rattle.shared_router.proofs.Same.{now_is, now_same}
 use Rattle.shared_router.proofs.Single.{IsAlone, counts_at, each-alone}
