@@ -1,5 +1,5 @@
 -- Each cause for which a statement is given up is one of the promise's, by terms that are alike.
-use Rattle.std.specs.Prelude.{◌≡◌, ◌+◌, ◌⊎◌, ℕ, Bool, true, false, not, ◌&&◌, is_some, nat_le, slice_get, if◌then◌else◌, List, [], ◌∷◌, Option, Some, None}
+use Rattle.std.specs.Prelude.{◌≡◌, ◌+◌, ◌⊎◌, ℕ, Bool, true, false, not, ◌&&◌, nat_le, slice_get, if◌then◌else◌, List, Option, Some, None}
 use Rattle.std.specs.Option.{option_and_then, option_map, option_map_or, option_or}
 use Rattle.std.proofs.Common.{refl, sym, ap, ◌∙◌, subst, inl, inr}
 use Rattle.std.proofs.lemmas.Bool.{and_parts, leb-true}
@@ -12,7 +12,7 @@ use Rattle.mx_wire.specs.declared.entry.Entry.TheVariants as entry
 use Rattle.private_model.proofs.Maps.{link_of, message_is, name_of}
 use Rattle.private_model.specs.Commands.{Command, end_of, is_err}
 use Rattle.private_model.specs.Names.{MessageName, SessionName}
-use Rattle.private_model.specs.Story.{Capture, Due, End, Own, Prep, Question, Statement, Sync, is_link_id, is_message, is_name}
+use Rattle.private_model.specs.Story.{Capture, Due, End, Own, Prep, Question, Statement, Sync, is_link_id, is_message}
 use Rattle.private_model.specs.View.{Carried, Joined, Lent, Nobody}
 use Rattle.session_state.specs.Pins.{is_pinned}
 use Rattle.server_side.specs.Account.{Account as Login}
@@ -21,21 +21,20 @@ use Rattle.client_session.specs.Errors.{bad_server_bytes, connection_lost, conne
 use Rattle.log_story.specs.Plan.{Route}
 use Rattle.log_story.specs.Tale.{is_to_server}
 use Rattle.log_story.specs.Telling.{wire_with}
-use Rattle.tale_world.specs.Decided.{plan_of}
 use Rattle.tale_world.specs.Deciding.{World}
 use Rattle.tale_world.specs.Policy.{Readied}
-use Rattle.router_promises.specs.Errors.{no_connection, out_of_memory, replay_refused, server_offline}
+use Rattle.router_promises.specs.Errors.{no_connection, replay_refused, server_offline}
 use Rattle.router_promises.specs.GivenUp as gone
 use Rattle.router_promises.specs.GivenUp.{Cause, IsOnLink, IsStepFor, key_tried}
 use Rattle.router_promises.specs.Heard as heard
 use Rattle.router_promises.specs.Heard.{Answer, Reading, is_amiss, is_step, reading_of}
-use Rattle.router_promises.specs.Keys.{LinkKey, is_waiting, key_of, oldest}
+use Rattle.router_promises.specs.Keys.{is_waiting, key_of, oldest}
 use Rattle.router_promises.specs.Now.{Now, entry_now, is_loss, link_now, wire_now}
 use Rattle.router_promises.specs.Running.{breaks_off, hostgroup_of, if_entering, is_failed, is_off, opening_on, opening_with, status_in}
 use Rattle.router_promises.specs.Steps.{wants_there}
 use Rattle.router_promises.specs.Terms.{Terms, Tried, login_as}
 use Rattle.router_promises.specs.Wants.{wants}
-use Rattle.shared_router.specs.Causes.{Case, by_answer, by_bytes, by_reading, cause_of, home_in, is_home, is_named, is_nobody, is_on, is_ready, is_step_for, late, late_by, lost, name_in, offline, payload_if, starved, unlinked, was_for}
+use Rattle.shared_router.specs.Causes.{Case, by_answer, by_bytes, by_reading, cause_of, home_in, is_carried, is_home, is_named, is_nobody, is_on, is_ready, is_step_for, late, late_by, lost, name_in, offline, payload_if, starved, unlinked, was_for}
 use Rattle.shared_router.specs.Fixed.{Fixed, setup_of}
 use Rattle.shared_router.specs.Known.{Known, held_by, link_by, view_by}
 use Rattle.shared_router.specs.More.{More, terms_of}
@@ -202,14 +201,14 @@ module _ (fixed : Fixed) (log : Log) (now : Now) (v last : World More) (alike : 
       → IsStepFor t now m route link question carried
   step_so link (Own command) Nobody at is =
       let wanted : Bool = was_for c link && wants_there (terms_of fixed v) now link (name_in c) command in
-      let so : wanted ≡ true = sym (ap (λ x. if is_nobody x then wanted else is_home c link) at) ∙ is in
+      let so : wanted ≡ true = sym (ap (λ x. if is_nobody x then wanted else is_carried c link && is_home c link) at) ∙ is in
       wants_same link (name_in c) command ∙ (and_parts (was_for c link) (wants_there (terms_of fixed v) now link (name_in c) command) so).1
   step_so link (Own command) (Lent n) at is =
       let wanted : Bool = was_for c link && wants_there (terms_of fixed v) now link (name_in c) command in
-      home_so link (sym (ap (λ x. if is_nobody x then wanted else is_home c link) at) ∙ is)
+      home_so link (and_parts (is_carried c link) (is_home c link) (sym (ap (λ x. if is_nobody x then wanted else is_carried c link && is_home c link) at) ∙ is)).1
   step_so link (Own command) (Joined n) at is =
       let wanted : Bool = was_for c link && wants_there (terms_of fixed v) now link (name_in c) command in
-      home_so link (sym (ap (λ x. if is_nobody x then wanted else is_home c link) at) ∙ is)
+      home_so link (and_parts (is_carried c link) (is_home c link) (sym (ap (λ x. if is_nobody x then wanted else is_carried c link && is_home c link) at) ∙ is)).1
   step_so link (Prep n key text) carried at is = name_of n (name_in c) is
   step_so link (Sync n command) carried at is = name_of n (name_in c) is
   step_so link (Statement n due) carried at is = isnt is

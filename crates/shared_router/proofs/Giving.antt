@@ -1,7 +1,7 @@
 -- An answer that the router gives at an entry of the log was given by what was known as the entry was told.
-use Rattle.std.specs.Prelude.{◌≡◌, ◌+◌, ◌≤◌, ◌⊎◌, ℕ, suc, Bool, true, false, fold, if◌then◌else◌, unwrap_or, List, [], ◌∷◌, ◌++◌, Option, Some, None}
+use Rattle.std.specs.Prelude.{◌≡◌, ◌+◌, ◌⊎◌, ℕ, suc, Bool, true, false, fold, if◌then◌else◌, unwrap_or, List, [], ◌∷◌, ◌++◌, Option, Some, None}
 use Rattle.std.specs.Option.{option_and_then}
-use Rattle.std.proofs.Common.{refl, sym, ap, ◌∙◌, subst, arith, inl, inr}
+use Rattle.std.proofs.Common.{refl, sym, ap, ◌∙◌, arith, inl, inr}
 use Rattle.mx_wire.specs.Log.{Log}
 use Rattle.mx_wire.specs.declared.entry.Entry.{Entry}
 use Rattle.private_model.specs.Names.{MessageName}
@@ -12,10 +12,9 @@ use Rattle.tale_world.specs.Decided.{plan_of}
 use Rattle.tale_world.specs.Deciding.{Deciding, World}
 use Rattle.tale_world.specs.World.{given_up, is_counted, is_ended, is_told}
 use Rattle.tale_world.proofs.Following.{step_even}
-use Rattle.tale_world.proofs.Telling.{told_moment}
 use Rattle.router_promises.specs.GivenUp.{is_in_work}
 use Rattle.router_promises.specs.Terms.{plan_in}
-use Rattle.shared_router.specs.Causes.{Case, cause_of, given_by, known_before}
+use Rattle.shared_router.specs.Causes.{Case, cause_of, known_before}
 use Rattle.shared_router.specs.Fixed.{Fixed, setup_of}
 use Rattle.shared_router.specs.Judged.{heard}
 use Rattle.shared_router.specs.Known.{Known}

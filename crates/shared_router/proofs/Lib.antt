@@ -70,3 +70,5 @@ pub mod Along
 pub mod Sparing
 pub mod Pairing
 pub mod Numbering
+pub mod Singled
+pub mod Overdue

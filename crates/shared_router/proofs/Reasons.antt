@@ -1,42 +1,40 @@
 -- Each statement that is given up at an entry of a log has its cause.
-use Rattle.std.specs.Prelude.{◌≡◌, ◌+◌, ◌⊎◌, ℕ, suc, Bool, true, false, not, ◌&&◌, is_some, length, nat_eq, nat_le, if◌then◌else◌, List, [], ◌∷◌, ◌++◌, Option, Some, None}
+use Rattle.std.specs.Prelude.{◌≡◌, ◌+◌, ℕ, suc, Bool, true, false, not, ◌&&◌, is_some, length, nat_eq, nat_le, if◌then◌else◌, [], ◌∷◌, ◌++◌, Option, Some, None}
 use Rattle.std.specs.List.{list_any}
 use Rattle.std.specs.Option.{option_and_then}
 use Rattle.std.proofs.Common.{refl, sym, ap, ◌∙◌, subst, append_assoc, arith, inl, inr, length-append}
 use Rattle.std.proofs.lemmas.Bool.{and_from, and_parts, leb-true}
 use Rattle.mx_base.specs.declared.names.LinkId.{LinkId}
 use Rattle.mx_wire.specs.Log.{Log}
-use Rattle.mx_wire.specs.Moments.{LawfulAfter, lawful-more}
+use Rattle.mx_wire.specs.Moments.{LawfulAfter}
 use Rattle.mx_wire.specs.Tells.{Fits}
 use Rattle.mx_wire.specs.declared.entry.Entry.{Entry}
 use Rattle.private_model.specs.Names.{MessageName}
 use Rattle.private_model.specs.Story.{is_client}
 use Rattle.private_model.specs.View.{Setup}
-use Rattle.log_story.specs.Plan.{OwnAnswer, Plan, Route, own_at}
+use Rattle.log_story.specs.Plan.{OwnAnswer, Route, own_at}
 use Rattle.log_story.specs.Tale.{Client, view_of}
 use Rattle.tale_world.specs.Decided.{Agrees, plan_of}
-use Rattle.tale_world.specs.Deciding.{Deciding, World}
-use Rattle.tale_world.specs.World.{decided_told}
+use Rattle.tale_world.specs.Deciding.{World}
 use Rattle.tale_world.proofs.Agreeing.{same_login, same_own}
 use Rattle.tale_world.proofs.Following.{stepped, told-more}
 use Rattle.tale_world.proofs.Telling.{told_moment}
 use Rattle.router_promises.specs.Errors.{out_of_memory}
-use Rattle.router_promises.specs.GivenUp.{Cause, is_in_work}
+use Rattle.router_promises.specs.GivenUp.{is_in_work}
 use Rattle.router_promises.specs.Now as now
 use Rattle.router_promises.specs.Now.{Now, entry_now, now_at}
-use Rattle.router_promises.specs.Terms.{Terms, Tried, entry_behind, plan_in}
-use Rattle.shared_router.specs.Causes.{Case, starved}
+use Rattle.router_promises.specs.Terms.{Terms, Tried}
 use Rattle.shared_router.specs.Fixed.{Fixed, IsNumbered, setup_of}
-use Rattle.shared_router.specs.Given.{AreGivenUp, GivenUpSo, IsGivenUp, IsStarved}
+use Rattle.shared_router.specs.Given.{AreGivenUp, GivenUpSo, IsGivenUp}
 use Rattle.shared_router.specs.More.{More, now_of, terms_of}
-use Rattle.shared_router.specs.Shared.{bare_after, final_terms, shared, world_at}
+use Rattle.shared_router.specs.Shared.{final_terms, shared, world_at}
 use Rattle.shared_router.proofs.Caused.{caused_so, payload_so}
-use Rattle.shared_router.proofs.Giving.{IsGiven, decided_so, is_given, told_world}
+use Rattle.shared_router.proofs.Giving.{decided_so, is_given, told_world}
 use Rattle.shared_router.proofs.Lasting.{alike_at, bare_from, tried_from}
 use Rattle.shared_router.proofs.Later.{AreAlike}
 use Rattle.shared_router.proofs.Opening.{moment_at}
 use Rattle.shared_router.proofs.Owing.{due_seen_at}
-use Rattle.shared_router.proofs.Parting.{agrees_then, even_at, fold_more}
+use Rattle.shared_router.proofs.Parting.{even_at, fold_more}
 use Rattle.shared_router.proofs.Routing.{agrees_behind, logins_at}
 use Rattle.shared_router.proofs.Same.{now_is, now_same, some_of}
 use Rattle.shared_router.proofs.Staying.{step_at}

@@ -9,7 +9,7 @@ use Rattle.mx_wire.specs.declared.entry.Entry.TheVariants.{Woke}
 use Rattle.private_model.specs.Commands.{end_of, is_err}
 use Rattle.private_model.specs.Names.{LinkId, MessageName, SessionName}
 use Rattle.private_model.specs.Story.{Own, Prep, Question, Sync, is_link_id, is_message, is_name}
-use Rattle.private_model.specs.View.{Carried, Nobody}
+use Rattle.private_model.specs.View.{Carried, Nobody, session_in}
 use Rattle.session_state.specs.Pins.{is_pinned}
 use Rattle.log_story.specs.Plan.{Route, is_by_now}
 use Rattle.tale_world.specs.Deciding.{World}
@@ -87,10 +87,14 @@ is_nobody _ = false
 abbrev pub was_for : Case → LinkId → Bool
 was_for c link = option_map_or (λ (r : Readied). is_name r.name (name_in c)) (c.known.readied link) false
 
+-- its session is the one that the link carries
+abbrev pub is_carried : Case → LinkId → Bool
+is_carried c link = option_map_or (λ (n : SessionName). is_name n (name_in c)) (session_in (link_by c.known link).carries) false
+
 abbrev pub is_step_for : Case → LinkId → Question → Bool
 is_step_for c link (Own command) =
     if is_nobody (link_by c.known link).carries then was_for c link && wants_there c.known.terms c.known.now link (name_in c) command
-    else is_home c link
+    else is_carried c link && is_home c link
 is_step_for c link (Prep n key text) = is_name n (name_in c)
 is_step_for c link (Sync n command) = is_name n (name_in c)
 is_step_for c link _ = false

@@ -1,13 +1,33 @@
 // Statements that the router gives up.
+ghost use Rattle.std.specs.Prelude.{◌≡◌, ℕ, List, None, true};
+ghost use Rattle.hostgroups.specs.declared.server.Server.{Server};
 ghost use Rattle.mx_wire.specs.Log.{Log};
 ghost use Rattle.mx_wire.specs.Moments.{AllLawful};
 ghost use Rattle.mx_wire.specs.Tells.{Fits};
+ghost use Rattle.mx_wire.specs.declared.entry.Entry.TheVariants.{Woke};
+ghost use Rattle.private_model.specs.Names.{MessageName};
+ghost use Rattle.log_story.specs.Plan.{Route};
+ghost use Rattle.shared_router.specs.Causes.{given_by};
 ghost use Rattle.shared_router.specs.Fixed.{Fixed, IsNumbered};
-ghost use Rattle.shared_router.specs.Given.{GivenUpSo};
+ghost use Rattle.shared_router.specs.Given.{GivenUpSo, IsOverdue, RefusesOneSo};
+ghost use Rattle.shared_router.specs.Known.{Known, present_by};
+ghost use Rattle.shared_router.specs.Lends.{is_readied_for};
 ghost use Rattle.shared_router.specs.Shared.{final_terms};
 
 /// Each statement that is given up at an entry of a log that a wire can tell was in work, and has its cause: one of the promise's, with the
 /// error that goes with it, or that memory is refused to its client.
 pub fn gives_up_for_a_cause()
     ensures { (fixed : Fixed) (log : Log) → IsNumbered fixed → AllLawful Fits log → AllLawful (GivenUpSo fixed (final_terms fixed log)) log }
+{}
+
+/// A step that a server refuses gives up one statement.
+pub fn gives_up_one_for_a_step()
+    ensures { (fixed : Fixed) (log : Log) → IsNumbered fixed → AllLawful (RefusesOneSo (final_terms fixed log)) log }
+{}
+
+/// At a wake, a statement that waited too long and isn't given up has a link that is readied for it.
+pub fn spares_who_has_a_link()
+    ensures { (k : Known) (servers : List Server) (until_ms now_ms : ℕ) (m : MessageName) (route : Route) → IsOverdue k now_ms m route
+        → given_by k servers (Woke until_ms now_ms) m ≡ None
+        → is_readied_for k.now.tale.links k.readied (present_by k m.client route.hostgroup) ≡ true }
 {}
