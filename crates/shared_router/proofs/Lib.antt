@@ -60,3 +60,5 @@ pub mod Voicing
 pub mod Saying
 pub mod Pairing
 pub mod Numbering
+pub mod Takings
+pub mod Quitting
