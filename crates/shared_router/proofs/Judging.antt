@@ -1,7 +1,7 @@
 -- What is decided as a message comes up is the verdict on it.
 use Rattle.std.specs.Prelude.{ℕ, ◌≡◌, suc, Bool, true, false, nat_le, if◌then◌else◌, unwrap_or, [], ◌∷◌, Option, Some, None}
 use Rattle.std.specs.Option.{option_map_or, option_and_then}
-use Rattle.std.proofs.Common.{refl, sym, ap, ◌∙◌, subst, inl, inr}
+use Rattle.std.proofs.Common.{refl, sym, ap, ◌∙◌, subst}
 use Rattle.packet_frame.specs.Packets.{Framed}
 use Rattle.private_model.proofs.Maps.{same_message}
 use Rattle.private_model.specs.Names.{LinkId, MessageName}
@@ -87,12 +87,12 @@ module _ (fixed : Fixed) (w : World More) (client : Client) (message : Framed) (
   met_by : IsNumbered fixed → (plan : Plan) → Agrees after w.tale.moment plan → (b : Bool)
       → after.routes name ≡ Some (if b then None else goes_by fixed (judged_by fixed w client message))
       → after.own name ≡ Some (if b then Some starving else told_by (judged_by fixed w client message))
-      → IsMet (with_rest (terms_of fixed w) plan bare tried) (taking_in w client message) (judged_by fixed w client message)
-  met_by numbered plan agrees true routed owned = inr (told_starving plan agrees routed owned)
-  met_by numbered plan agrees false routed owned = inl (judged_as numbered plan agrees (judged_by fixed w client message) routed owned)
+      → IsMet b (with_rest (terms_of fixed w) plan bare tried) (taking_in w client message) (judged_by fixed w client message)
+  met_by numbered plan agrees true routed owned = told_starving plan agrees routed owned
+  met_by numbered plan agrees false routed owned = judged_as numbered plan agrees (judged_by fixed w client message) routed owned
 
   pub judged_so : IsNumbered fixed → (plan : Plan) → IsFresh fixed w client message → Agrees after w.tale.moment plan
-      → IsMet (with_rest (terms_of fixed w) plan bare tried) (taking_in w client message) (judged_by fixed w client message)
+      → IsMet (starves_now fixed w client) (with_rest (terms_of fixed w) plan bare tried) (taking_in w client message) (judged_by fixed w client message)
   judged_so numbered plan fresh agrees =
       met_by numbered plan agrees (starves_now fixed w client) (route-decided fresh) (own-decided fresh)
 
@@ -126,9 +126,9 @@ module _ (fixed : Fixed) (w : World More) (client : Client) (message : Framed) (
       }
 
   pub judged_later : IsNumbered fixed → (plan : Plan) → IsFresh fixed w client message → Agrees after w.tale.moment plan
-      → IsMet (with_rest (terms_of fixed w) plan bare tried) (taking_in w client message)
+      → IsMet (starves_now fixed w client) (with_rest (terms_of fixed w) plan bare tried) (taking_in w client message)
       (verdict (with_rest (terms_of fixed w) plan bare tried) w.more.servers (w.more.flags client.number) (taking_in w client message))
   judged_later numbered plan fresh agrees =
-      subst (IsMet (with_rest (terms_of fixed w) plan bare tried) (taking_in w client message))
+      subst (IsMet (starves_now fixed w client) (with_rest (terms_of fixed w) plan bare tried) (taking_in w client message))
       (verdict_same (terms_of fixed w) (plan_of w.decided) plan bare tried w.more.servers (w.more.flags client.number) (taking_in w client message) (same_later plan agrees))
       (judged_so numbered plan fresh agrees)

@@ -72,3 +72,5 @@ pub mod Pairing
 pub mod Numbering
 pub mod Singled
 pub mod Overdue
+pub mod Takings
+pub mod Quitting

@@ -65,7 +65,7 @@ module _ (fixed : Fixed) (numbered : IsNumbered fixed) where
 
   pub record IsRouted (plan : Plan) (bare : LinkId → Bool) (tried : ℕ → Tried) (w : World More) (e : Entry) : Type 0 where
     pub judged : IsPromptAt fixed w e
-        → AreJudged (terms fixed numbered plan bare tried (heard fixed w e).more.servers (heard fixed w e).more.clock) (heard fixed w e).more.servers w.more.flags (takings_at setup plan w.tale e)
+        → AreJudged fixed.starves (terms fixed numbered plan bare tried (heard fixed w e).more.servers (heard fixed w e).more.clock) (heard fixed w e).more.servers w.more.flags (takings_at setup plan w.tale e)
     pub stay : (world_step setup by w e).more.servers ≡ (is_told setup by w e).more.servers
     pub tick : (world_step setup by w e).more.clock ≡ (is_told setup by w e).more.clock
     pub flags : (world_step setup by w e).more.flags
@@ -106,8 +106,8 @@ module _ (fixed : Fixed) (numbered : IsNumbered fixed) where
       let takings : takings_from setup plan (view_of setup w.tale) e c.tale.clients c.tale ≡ takings_at setup plan w.tale e =
       ap (λ t. takings_from setup plan (view_of setup w.tale) e t.clients t) tale in
       record {
-        judged = λ prompt. subst (λ ts. AreJudged there c.more.servers w.more.flags ts) takings
-            (subst (λ fl. AreJudged there c.more.servers fl (takings_from setup plan (view_of setup w.tale) e c.tale.clients c.tale)) flags (walked.judged prompt));
+        judged = λ prompt. subst (λ ts. AreJudged fixed.starves there c.more.servers w.more.flags ts) takings
+            (subst (λ fl. AreJudged fixed.starves there c.more.servers fl (takings_from setup plan (view_of setup w.tale) e c.tale.clients c.tale)) flags (walked.judged prompt));
         stay = ap (λ (x : More). x.servers) (freeing_more f.tale.links f) ∙ walked.stay ∙ ap (λ (x : More). x.servers) kept;
         tick = ap (λ (x : More). x.clock) (freeing_more f.tale.links f) ∙ walked.tick ∙ ap (λ (x : More). x.clock) kept;
         flags = ap (λ (x : More). x.flags) (freeing_more f.tale.links f) ∙ walked.flags
@@ -241,7 +241,7 @@ module _ (fixed : Fixed) (numbered : IsNumbered fixed) where
     pub clock : (now_at t log).clock ≡ (world_at fixed log).more.clock
 
   pub record IsStepSo (t : Terms) (before : Log) (e : Entry) : Type 0 where
-    pub judged : PromptSo fixed before e → JudgedSo t before e
+    pub judged : PromptSo fixed before e → JudgedSo fixed.starves t before e
     pub same : IsSame t (before ++ e ∷ [])
 
   -- the last plan agrees with what is decided behind each entry
@@ -275,10 +275,10 @@ module _ (fixed : Fixed) (numbered : IsNumbered fixed) where
       let world_is : world ≡ world_at fixed (before ++ e ∷ []) = sym (world_more fixed before (e ∷ [])) in
       let clock : moment_step n.clock e ≡ told_then.more.clock = ap (λ c. moment_step c e) same.clock in
       let ticked : (heard fixed w e).more.clock ≡ told_then.more.clock = ap (λ (x : More). x.clock) kept in record {
-        judged = λ prompt. subst (λ s. AreJudged t s n.flags (takings_at setup plan n.tale e)) (sym servers)
-            (subst (λ x. AreJudged t told_then.more.servers n.flags (takings_at setup plan x e)) (sym tale)
-            (subst (λ fl. AreJudged t told_then.more.servers fl (takings_at setup plan w.tale e)) (sym same.flags)
-            (subst (λ (x : More). AreJudged t x.servers w.more.flags (takings_at setup plan w.tale e)) kept (routed.judged prompt))));
+        judged = λ prompt. subst (λ s. AreJudged fixed.starves t s n.flags (takings_at setup plan n.tale e)) (sym servers)
+            (subst (λ x. AreJudged fixed.starves t told_then.more.servers n.flags (takings_at setup plan x e)) (sym tale)
+            (subst (λ fl. AreJudged fixed.starves t told_then.more.servers fl (takings_at setup plan w.tale e)) (sym same.flags)
+            (subst (λ (x : More). AreJudged fixed.starves t x.servers w.more.flags (takings_at setup plan w.tale e)) kept (routed.judged prompt))));
         same = record {
           flags = ap (λ (x : now.Now). x.flags) step
               ∙ ap (λ x. fold (flag_taken t) n.flags (takings_at setup plan x e)) tale
@@ -303,16 +303,16 @@ module _ (fixed : Fixed) (numbered : IsNumbered fixed) where
   pub same_at : (before later : Log) → IsSame (final_terms fixed (before ++ later)) before
   same_at before later = same_from [] before later (before ++ later) refl (record { flags = refl; since = refl; servers = refl; clock = refl })
 
-  pub judged_at : (before later : Log) (e : Entry) → PromptSo fixed before e → JudgedSo (final_terms fixed (before ++ e ∷ later)) before e
+  pub judged_at : (before later : Log) (e : Entry) → PromptSo fixed before e → JudgedSo fixed.starves (final_terms fixed (before ++ e ∷ later)) before e
   judged_at before later e prompt = (step_so before later e (before ++ e ∷ later) refl (same_at before (e ∷ later))).judged prompt
 
   routes_from : (before later log : Log) → before ++ later ≡ log
-      → LawfulAfter (PromptSo fixed) before later → LawfulAfter (JudgedSo (final_terms fixed log)) before later
+      → LawfulAfter (PromptSo fixed) before later → LawfulAfter (JudgedSo fixed.starves (final_terms fixed log)) before later
   routes_from before [] log is prompt = tt
   routes_from before (e ∷ later) log is prompt = (
-    subst (λ l. JudgedSo (final_terms fixed l) before e) is (judged_at before later e prompt.0),
+    subst (λ l. JudgedSo fixed.starves (final_terms fixed l) before e) is (judged_at before later e prompt.0),
     routes_from (before ++ e ∷ []) later log (append_assoc before (e ∷ []) later ∙ is) prompt.1,
   )
 
-  pub routes_kept : (log : Log) → LawfulAfter (PromptSo fixed) [] log → LawfulAfter (JudgedSo (final_terms fixed log)) [] log
+  pub routes_kept : (log : Log) → LawfulAfter (PromptSo fixed) [] log → LawfulAfter (JudgedSo fixed.starves (final_terms fixed log)) [] log
   routes_kept log prompt = routes_from [] log log refl prompt

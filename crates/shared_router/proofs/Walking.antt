@@ -26,7 +26,7 @@ use Rattle.router_promises.specs.Verdicts.{verdict}
 use Rattle.shared_router.specs.Fixed.{Fixed, IsNumbered, setup_of}
 use Rattle.shared_router.specs.Judged.{AreJudged, ArePrompt, IsMet, IsPrompt, looked_last}
 use Rattle.shared_router.specs.More.{More, terms_of}
-use Rattle.shared_router.specs.Shared.{shared, taking_in, takes_by}
+use Rattle.shared_router.specs.Shared.{shared, starves_now, taking_in, takes_by}
 use Rattle.shared_router.proofs.Judging.{judged_later, same_later}
 use Rattle.shared_router.proofs.Verdicts.{flag_same}
 
@@ -54,19 +54,19 @@ module _ (fixed : Fixed) (numbered : IsNumbered fixed) (plan : Plan) (bare : Lin
 
   -- Where nothing was decided of messages before they come up, each is judged.
   pub record IsWalked (prompt : Type 0) (w last : World More) (takings : List Taking) : Type 0 where
-    pub judged : prompt → AreJudged terms servers w.more.flags takings
+    pub judged : prompt → AreJudged fixed.starves terms servers w.more.flags takings
     pub flags : last.more.flags ≡ fold (flag_taken terms) w.more.flags takings
     pub since : last.more.since ≡ fold (taken_since clock) w.more.since takings
     pub stay : last.more.servers ≡ w.more.servers
     pub tick : last.more.clock ≡ w.more.clock
 
-  judged_on : (a b : List Taking) (flags : ClientNo → ℕ) → AreJudged terms servers flags a → AreJudged terms servers (fold (flag_taken terms) flags a) b → AreJudged terms servers flags (a ++ b)
+  judged_on : (a b : List Taking) (flags : ClientNo → ℕ) → AreJudged fixed.starves terms servers flags a → AreJudged fixed.starves terms servers (fold (flag_taken terms) flags a) b → AreJudged fixed.starves terms servers flags (a ++ b)
   judged_on [] b flags first second = second
   judged_on (x ∷ a) b flags first second = (first.0, judged_on a b (flag_taken terms flags x) first.1 second)
 
   walked_on : (p q : Type 0) (u v w : World More) (a b : List Taking) → IsWalked p u v a → IsWalked q v w b → IsWalked (p × q) u w (a ++ b)
   walked_on p q u v w a b first second = record {
-    judged = λ prompt. judged_on a b u.more.flags (first.judged prompt.0) (subst (λ f. AreJudged terms servers f b) first.flags (second.judged prompt.1));
+    judged = λ prompt. judged_on a b u.more.flags (first.judged prompt.0) (subst (λ f. AreJudged fixed.starves terms servers f b) first.flags (second.judged prompt.1));
     flags = second.flags ∙ ap (λ f. fold (flag_taken terms) f b) first.flags ∙ sym (fold_on (flag_taken terms) a b u.more.flags);
     since = second.since ∙ ap (λ f. fold (taken_since clock) f b) first.since ∙ sym (fold_on (taken_since clock) a b u.more.since);
     stay = second.stay ∙ first.stay;
@@ -137,9 +137,9 @@ module _ (fixed : Fixed) (numbered : IsNumbered fixed) (plan : Plan) (bare : Lin
       let on_looked : Agrees (looked w client) w.tale.moment plan = agrees-less (looked w client) (after w client) w.tale.moment plan (since-looked setup by w client) agrees in
       subst (IsWalked (IsPrompt fixed (suc most) client w) w last) (sym (takings_once most w client message tale next agrees on_looked is)) (record {
         judged = λ prompt. let said = prompt tale is message next in (
-          subst (λ s. IsMet terms taking (verdict terms s (w.more.flags client.number) taking)) there
+          subst (λ s. IsMet (starves_now fixed w client) terms taking (verdict terms s (w.more.flags client.number) taking)) there
               (judged_later fixed w client message bare tried numbered plan said.0 agrees),
-          subst (λ f. AreJudged terms servers f takings) flag (rest.judged said.1),
+          subst (λ f. AreJudged fixed.starves terms servers f takings) flag (rest.judged said.1),
         );
         flags = rest.flags ∙ ap (λ f. fold (flag_taken terms) f takings) flag;
         since = rest.since ∙ ap (λ f. fold (taken_since clock) f takings) from;

@@ -1,5 +1,5 @@
 -- What a plan says of a message that is taken up, by the verdict on it.
-use Rattle.std.specs.Prelude.{◌≡◌, ◌⊎◌, ℕ, zero, suc, Bool, length, true, All, List, [], ◌∷◌, ◌++◌, Some, None}
+use Rattle.std.specs.Prelude.{◌≡◌, ℕ, zero, suc, Bool, false, length, true, All, List, [], ◌∷◌, ◌++◌, Some, None}
 use Rattle.hostgroups.specs.declared.server.Server.{Server}
 use Rattle.mx_wire.specs.Log.{Log}
 use Rattle.mx_wire.specs.declared.entry.Entry.{Entry}
@@ -42,9 +42,10 @@ IsJudged terms taking Parts = IsLeft terms taking
 IsJudged terms taking (Tells payloads) = IsTold terms taking payloads
 IsJudged terms taking (Goes wanted) = IsRoute terms taking wanted
 
--- or there is no memory for it
-abbrev pub IsMet : Terms → Taking → Verdict → Type 0
-IsMet terms taking verdict = IsJudged terms taking verdict ⊎ IsTold terms taking (out_of_memory ∷ [])
+-- where memory is refused, it is told so
+abbrev pub IsMet : (starves : Bool) → Terms → Taking → Verdict → Type 0
+IsMet true terms taking verdict = IsTold terms taking (out_of_memory ∷ [])
+IsMet false terms taking verdict = IsJudged terms taking verdict
 
 -- A message comes up, and nothing was decided of it before.
 pub record IsFresh (fixed : Fixed) (w : World More) (client : Client) (message : Framed) : Type 0 where
@@ -54,10 +55,11 @@ pub record IsFresh (fixed : Fixed) (w : World More) (client : Client) (message :
   pub own : (decided_looked (setup_of fixed) (shared fixed) w client).own (name_of client (suc client.taken)) ≡ None
 
 -- each in a row, by the flags that those before it leave
-abbrev pub AreJudged : Terms → List Server → (flags : ClientNo → ℕ) → List Taking → Type 0
-AreJudged terms servers flags [] = Unit {0}
-AreJudged terms servers flags (taking ∷ takings) =
-    IsMet terms taking (verdict terms servers (flags taking.client.number) taking) × AreJudged terms servers (flag_taken terms flags taking) takings
+abbrev pub AreJudged : (starves : ℕ → ClientNo → Bool) → Terms → List Server → (flags : ClientNo → ℕ) → List Taking → Type 0
+AreJudged starves terms servers flags [] = Unit {0}
+AreJudged starves terms servers flags (taking ∷ takings) =
+    IsMet (starves taking.tale.moment taking.client.number) terms taking (verdict terms servers (flags taking.client.number) taking)
+    × AreJudged starves terms servers (flag_taken terms flags taking) takings
 
 -- of each message that is taken up at an entry nothing was decided before it came up
 
@@ -92,8 +94,8 @@ abbrev pub PromptSo : Fixed → Log → Entry → Type 0
 PromptSo fixed log e = IsPromptAt fixed (world_at fixed log) e
 
 -- the promise on routes, but that of a client that parts less is said, and of one for which there is no memory
-abbrev pub JudgedSo : Terms → Log → Entry → Type 0
-JudgedSo terms log e = AreJudged terms (servers_after terms (now_at terms log).clock (now_at terms log).tale e (now_at terms log).servers) (now_at terms log).flags
+abbrev pub JudgedSo : (starves : ℕ → ClientNo → Bool) → Terms → Log → Entry → Type 0
+JudgedSo starves terms log e = AreJudged starves terms (servers_after terms (now_at terms log).clock (now_at terms log).tale e (now_at terms log).servers) (now_at terms log).flags
     (takings_now terms (now_at terms log) e)
 
 -- the promise on ends, but for last words and for when the links of clients that ended close

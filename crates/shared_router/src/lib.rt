@@ -21,6 +21,7 @@ ghost use Rattle.tale_world.specs.Decided.{Agrees};
 ghost use Rattle.tale_world.specs.Deciding.{World};
 ghost use Rattle.tale_world.specs.World.{decided_next};
 ghost use Rattle.router_promises.specs.Headline.{IsLawfulSo};
+ghost use Rattle.router_promises.specs.Routed.{RoutesSo};
 ghost use Rattle.router_promises.specs.Tags.{TagsSo};
 ghost use Rattle.router_promises.specs.Verdicts.{verdict};
 ghost use Rattle.router_promises.specs.Terms.{IsRouters, Tried, tale_at};
@@ -32,7 +33,7 @@ ghost use Rattle.shared_router.specs.More.{More, terms_of};
 ghost use Rattle.shared_router.specs.Ours.{IsOurLog};
 ghost use Rattle.shared_router.specs.Waits.{Waits};
 ghost use Rattle.tale_world.specs.Policy.{Readied};
-ghost use Rattle.shared_router.specs.Shared.{final_terms, shared, taking_in, world_at};
+ghost use Rattle.shared_router.specs.Shared.{final_terms, shared, starves_now, taking_in, world_at};
 
 /// By what was decided in the end, each beginning of the log tells the tale of the world then.
 pub fn one_tale()
@@ -45,11 +46,11 @@ pub fn is_routers()
 {}
 
 /// As a message comes up of which nothing was decided: by each plan that agrees with what is decided then, it goes where the verdict
-/// by that plan says, or is answered as it says, or that there is no memory.
+/// by that plan says, or is answered as it says; where memory is refused to its client, it is told so.
 pub fn is_judged()
     ensures { (fixed : Fixed) (w : World More) (client : Client) (message : Framed) (bare : LinkId → Bool) (tried : ℕ → Tried) (plan : Plan)
         → IsNumbered fixed → IsFresh fixed w client message → Agrees (decided_next (setup_of fixed) (shared fixed) w client) w.tale.moment plan
-        → IsMet (with_rest (terms_of fixed w) plan bare tried) (taking_in w client message)
+        → IsMet (starves_now fixed w client) (with_rest (terms_of fixed w) plan bare tried) (taking_in w client message)
         (verdict (with_rest (terms_of fixed w) plan bare tried) w.more.servers (w.more.flags client.number) (taking_in w client message)) }
 {}
 
@@ -58,12 +59,19 @@ pub fn is_prompt()
     ensures { (fixed : Fixed) (log : Log) → IsOurLog fixed log → AllLawful (PromptSo fixed) log }
 {}
 
-/// So at each entry of the log, each message that is taken up goes where the verdict by the last plan says, or is answered as it says, or
-/// that there is no memory.
-pub fn is_routed()
-    ensures { (fixed : Fixed) (log : Log) → IsNumbered fixed → IsOurLog fixed log → AllLawful (JudgedSo (final_terms fixed log)) log }
+/// So at each entry of the log, each message that is taken up goes where the verdict by the last plan says, or is answered as it says; where
+/// memory is refused to its client, it is told so.
+pub fn judges_each()
+    ensures { (fixed : Fixed) (log : Log) → IsNumbered fixed → IsOurLog fixed log → AllLawful (JudgedSo fixed.starves (final_terms fixed log)) log }
 {
     is_prompt();
+}
+
+/// Each message that is taken up goes, or is answered, as is promised: who quits, or has no memory, ends by it.
+pub fn is_routed()
+    ensures { (fixed : Fixed) (log : Log) → IsNumbered fixed → IsOurLog fixed log → AllLawful (RoutesSo (final_terms fixed log)) log }
+{
+    judges_each();
 }
 
 /// The story that the log tells is lawful at each moment.

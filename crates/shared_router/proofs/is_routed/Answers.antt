@@ -1,5 +1,5 @@
-use Rattle.shared_router.proofs.Routing.{routes_kept}
+use Rattle.shared_router.proofs.Quitting.{routes-along}
 use Rattle.shared_router.proofs.is_routed.Goals as goal
 
 pub returns : goal.returns
-returns c = λ fixed log numbered our. routes_kept fixed numbered log (c.is_prompt.ensures fixed log our)
+returns c = λ fixed log numbered our. routes-along fixed numbered log (c.judges_each.ensures fixed log numbered our)
