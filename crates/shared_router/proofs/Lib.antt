@@ -62,3 +62,5 @@ pub mod Greeting
 pub mod Vacant
 pub mod Along
 pub mod Sparing
+pub mod Attending
+pub mod Waking

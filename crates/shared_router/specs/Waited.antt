@@ -31,3 +31,8 @@ pub record IsTold (terms : Terms) (log : Log) (now : Now) (client : Client) : Ty
 -- of each client whose link is open
 abbrev pub AreTold : Terms → Log → Now → Type 0
 AreTold terms log now = All (λ (client : Client). is_open client.link log ≡ true → IsTold terms log now client) now.tale.clients
+
+-- the loop asks to be woken at the first moment at which there is something to do
+abbrev pub WakesSo : Terms → Log → Entry → Type 0
+WakesSo terms log (Woke until_ms now_ms) = until_ms ≡ wakes_at terms log (now_at terms log)
+WakesSo terms log _ = Unit {0}
