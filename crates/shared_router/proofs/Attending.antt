@@ -41,11 +41,11 @@ use Rattle.shared_router.proofs.Parting.{tale_then}
 use Rattle.shared_router.proofs.Sparing.{ended_same}
 use Rattle.shared_router.proofs.Staying.{log_at}
 
-all-each : (P : Client → Type 0) (xs : List Client) → All P xs → Each P xs
+pub all-each : (P : Client → Type 0) (xs : List Client) → All P xs → Each P xs
 all-each P [] all = tt
 all-each P (x ∷ xs) all = (all 0 x (omega arith), all-each P xs (λ i d within. all (suc i) d (omega (arith, within))))
 
-each-and : (P Q : Client → Type 0) (xs : List Client) → Each P xs → Each Q xs → Each (λ (c : Client). P c × Q c) xs
+pub each-and : (P Q : Client → Type 0) (xs : List Client) → Each P xs → Each Q xs → Each (λ (c : Client). P c × Q c) xs
 each-and P Q [] one other = tt
 each-and P Q (x ∷ xs) one other = ((one.0, other.0), each-and P Q xs one.1 other.1)
 

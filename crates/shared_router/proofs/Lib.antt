@@ -64,3 +64,5 @@ pub mod Along
 pub mod Sparing
 pub mod Attending
 pub mod Waking
+pub mod Pausing
+pub mod Sufficing
