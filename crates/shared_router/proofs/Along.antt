@@ -7,12 +7,11 @@ use Rattle.mx_wire.specs.Moments.{AllLawful, AtEachMoment, LawfulAfter, lawful-m
 use Rattle.mx_wire.specs.Tells.{Fits}
 use Rattle.mx_wire.specs.declared.entry.Entry.{Entry}
 use Rattle.mx_wire.specs.declared.entry.Entry.TheVariants as entry
-use Rattle.tale_world.specs.Deciding.{World}
 use Rattle.router_promises.specs.Now.{Now, now_at}
 use Rattle.router_promises.specs.Terms.{Terms}
 use Rattle.shared_router.specs.Fixed.{Fixed, IsNumbered}
 use Rattle.shared_router.specs.Known.{known}
-use Rattle.shared_router.specs.More.{More, now_of}
+use Rattle.shared_router.specs.More.{now_of}
 use Rattle.shared_router.specs.Ours.{IsOurLog, IsOurs, MayWait}
 use Rattle.shared_router.specs.Shared.{final_terms, world_at}
 use Rattle.shared_router.specs.Waited.{AsItWaits}

@@ -1,10 +1,8 @@
 -- Where the loop waits, each client is told all that it is due, or its link takes no more.
-use Rattle.std.specs.Prelude.{All, ◌≡◌, ◌⊎◌, ◌+◌, ◌<◌, ℕ, suc, Bool, true, false, ◌&&◌, ◌||◌, bytes_eq, drop, find, length, if◌then◌else◌, List, [], ◌∷◌, ◌++◌, Option, Some, None}
-use Rattle.std.specs.List.{list_any}
+use Rattle.std.specs.Prelude.{All, ◌≡◌, ◌⊎◌, ℕ, suc, Bool, true, false, ◌&&◌, bytes_eq, drop, find, length, if◌then◌else◌, List, [], ◌∷◌, Option, Some, None}
 use Rattle.std.proofs.Common.{refl, sym, ap, ◌∙◌, subst, arith, inl, inr}
 use Rattle.std.proofs.lemmas.Slice.Eq.{bytes_eq-Decides}
-use Rattle.mx_base.specs.declared.names.LinkId.{LinkId}
-use Rattle.mx_wire.specs.Log.{Log, is_link, is_open, link_of, written_of}
+use Rattle.mx_wire.specs.Log.{Log, is_open, link_of, written_of}
 use Rattle.mx_wire.specs.Moments.{AllLawful, AtEachMoment}
 use Rattle.mx_wire.specs.declared.entry.Entry.{Entry}
 use Rattle.ready_loop.specs.Drained.{write_dry}
@@ -24,9 +22,9 @@ use Rattle.router_promises.specs.Terms.{Terms, plan_in, tale_at}
 use Rattle.router_promises.specs.Wakes.{has_ended}
 use Rattle.shared_router.specs.Fixed.{Fixed, IsNumbered, setup_of}
 use Rattle.shared_router.specs.Known.{Known, known}
-use Rattle.shared_router.specs.More.{More, now_of, terms_of}
+use Rattle.shared_router.specs.More.{More, now_of}
 use Rattle.shared_router.specs.Ours.{IsOurLog, MayWait}
-use Rattle.shared_router.specs.Owed.{Owed, may_part, nothing_owed, owed_on, owed_on_client, owed_on_server, parts}
+use Rattle.shared_router.specs.Owed.{Owed, may_part, owed_on, owed_on_client, owed_on_server, parts}
 use Rattle.shared_router.specs.Shared.{final_terms, world_at}
 use Rattle.shared_router.specs.Waited.{AreTold, AsItWaits, IsTold}
 use Rattle.shared_router.proofs.Along.{IsAt, as_it_waits, moment_at}
@@ -35,7 +33,7 @@ use Rattle.shared_router.proofs.Apart.{IsSeat, seats_at}
 use Rattle.shared_router.proofs.Calming.{left_false, nobody_parts, then_false}
 use Rattle.shared_router.proofs.Distinct.{Distinct, IsApart, distinct_at}
 use Rattle.shared_router.proofs.Greeting.{all_of}
-use Rattle.shared_router.proofs.Looked.{AreLooked, Each, IsLooked, each-all, each-so, looks_at}
+use Rattle.shared_router.proofs.Looked.{Each, IsLooked, each-all, each-so, looks_at}
 use Rattle.shared_router.proofs.Owes.{owes-so}
 use Rattle.shared_router.proofs.Parting.{tale_then}
 use Rattle.shared_router.proofs.Sparing.{ended_same}

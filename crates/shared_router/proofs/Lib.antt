@@ -66,3 +66,4 @@ pub mod Attending
 pub mod Waking
 pub mod Pausing
 pub mod Sufficing
+pub mod Gathering

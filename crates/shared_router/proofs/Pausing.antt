@@ -1,7 +1,7 @@
 -- Where the loop waits, no session that was left is to be ended on a link on which a question may begin, and no insert id is to be asked for.
-use Rattle.std.specs.Prelude.{◌≡◌, ℕ, Bool, true, false, not, ◌&&◌, ◌||◌, bytes_eq, find, is_none, is_some, if◌then◌else◌, List, Option, Some, None}
+use Rattle.std.specs.Prelude.{◌≡◌, ℕ, Bool, true, false, not, ◌&&◌, ◌||◌, find, is_none, is_some, if◌then◌else◌, List, Option, Some, None}
 use Rattle.std.specs.Option.{option_map, option_map_or}
-use Rattle.std.proofs.Common.{refl, sym, ap, ◌∙◌, subst}
+use Rattle.std.proofs.Common.{refl, sym, ap, ◌∙◌}
 use Rattle.std.proofs.lemmas.Bool.{and_from, and_parts}
 use Rattle.std.proofs.lemmas.Slice.Eq.{bytes_eq-Decides}
 use Rattle.mx_base.specs.declared.names.LinkId.{LinkId}
@@ -17,17 +17,14 @@ use Rattle.log_story.specs.Honest.{IsStep}
 use Rattle.log_story.specs.Plan.{Asks, Closes, Resets, StepText, step_payload}
 use Rattle.log_story.specs.Servers.{is_quiet, may_begin}
 use Rattle.log_story.specs.Tale.{Client, is_to_server}
-use Rattle.tale_world.specs.Deciding.{World}
-use Rattle.tale_world.specs.Policy.{Readied, Texts, for_session, next_question}
-use Rattle.tale_world.specs.Wishes.{Sends, Wish, next_wish, wish_for}
+use Rattle.tale_world.specs.Policy.{for_session, next_question}
+use Rattle.tale_world.specs.Wishes.{next_wish, wish_for}
 use Rattle.router_promises.specs.Closes.{has_bytes, is_past_reset, is_past_reset_by, is_spoilt, was_amiss}
-use Rattle.router_promises.specs.Now.{Now, wire_now}
+use Rattle.router_promises.specs.Now.{wire_now}
 use Rattle.router_promises.specs.Rest.{owes_capture, owes_reset}
-use Rattle.router_promises.specs.Terms.{Terms}
-use Rattle.shared_router.specs.Fixed.{Fixed, IsNumbered, setup_of}
+use Rattle.shared_router.specs.Fixed.{Fixed, IsNumbered}
 use Rattle.shared_router.specs.Known.{Known, known, link_by, setup_by}
 use Rattle.shared_router.specs.Lends.{readied_now}
-use Rattle.shared_router.specs.More.{More, now_of}
 use Rattle.shared_router.specs.Ours.{IsOurLog, MayWait}
 use Rattle.shared_router.specs.Owed.{Owed, close_by, farewell, is_let_go, is_refused, is_to_close, is_whole_step, nothing_owed, owed_next, owed_on, owed_on_client, owed_on_server, owed_there}
 use Rattle.shared_router.specs.Shared.{final_terms, world_at}

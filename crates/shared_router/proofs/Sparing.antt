@@ -1,5 +1,5 @@
 -- Where the loop waits, each link was read dry that may not be left: by the last plan too.
-use Rattle.std.specs.Prelude.{◌≡◌, ◌+◌, ◌-◌, ◌≤◌, ℕ, suc, Bool, true, false, not, ◌&&◌, ◌||◌, length, nat_le, nat_lt, take, List, [], ◌∷◌, ◌++◌, Option, Some, None}
+use Rattle.std.specs.Prelude.{◌≡◌, ◌+◌, ◌-◌, ℕ, Bool, true, false, not, ◌&&◌, ◌||◌, length, nat_le, nat_lt, take, List, [], ◌∷◌, ◌++◌, Option, Some, None}
 use Rattle.std.specs.List.{list_any}
 use Rattle.std.specs.Option.{option_map_or}
 use Rattle.std.proofs.Common.{refl, sym, ap, ◌∙◌, subst, arith}
@@ -7,7 +7,7 @@ use Rattle.std.proofs.lemmas.Bool.{lt-leb}
 use Rattle.std.proofs.lemmas.List.{length-take}
 use Rattle.client_session.specs.Answers.{front}
 use Rattle.mx_base.specs.declared.names.LinkId.{LinkId}
-use Rattle.mx_wire.specs.Log.{Log, is_open}
+use Rattle.mx_wire.specs.Log.{Log}
 use Rattle.mx_wire.specs.Moments.{AllLawful}
 use Rattle.ready_loop.specs.Drained.{read_dry}
 use Rattle.private_model.specs.Commands.{Reply}
@@ -25,13 +25,13 @@ use Rattle.router_promises.specs.Rest.{IsRead, is_spared_for}
 use Rattle.router_promises.specs.Terms.{Terms}
 use Rattle.router_promises.specs.Wakes.{has_ended}
 use Rattle.shared_router.specs.Fixed.{Fixed, IsNumbered, setup_of}
-use Rattle.shared_router.specs.Known.{Known, known}
+use Rattle.shared_router.specs.Known.{known}
 use Rattle.shared_router.specs.More.{More, now_of, terms_of}
-use Rattle.shared_router.specs.Ours.{IsOurLog, MayWait, reads}
+use Rattle.shared_router.specs.Ours.{IsOurLog, MayWait}
 use Rattle.shared_router.specs.Shared.{final_terms, world_at}
 use Rattle.shared_router.specs.Waited.{AreRead, AsItWaits}
 use Rattle.shared_router.proofs.Along.{as_it_waits}
-use Rattle.shared_router.proofs.Looked.{AreLooked, Each, IsLooked, looks_at}
+use Rattle.shared_router.proofs.Looked.{Each, IsLooked, looks_at}
 use Rattle.shared_router.proofs.Musts.{answered-same}
 use Rattle.shared_router.proofs.Owes.{due-so}
 use Rattle.shared_router.proofs.Parting.{agrees_then, even_at}

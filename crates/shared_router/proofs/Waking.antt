@@ -20,7 +20,7 @@ use Rattle.tale_world.specs.Deciding.{World}
 use Rattle.tale_world.proofs.Agreeing.{same_route}
 use Rattle.router_promises.specs.Ends.{moment_in, was_answered}
 use Rattle.router_promises.specs.Keys.{is_waiting}
-use Rattle.router_promises.specs.Now.{Now, now_at}
+use Rattle.router_promises.specs.Now.{Now}
 use Rattle.router_promises.specs.Terms.{Terms}
 use Rattle.router_promises.specs.Wakes.{clients_part, has_ended, lacks_an_event, links_lapse, servers_return, waits_in, wakes_at}
 use Rattle.shared_router.specs.Fixed.{Fixed, IsNumbered, setup_of}
@@ -33,7 +33,7 @@ use Rattle.shared_router.proofs.Holding.{Held}
 use Rattle.shared_router.proofs.Lasting.{alike_at}
 use Rattle.shared_router.proofs.Later.{AreAlike, waiting_same}
 use Rattle.shared_router.proofs.Leaving.{ends_same}
-use Rattle.shared_router.proofs.Looked.{Each, IsLooked, each-so, looks_at}
+use Rattle.shared_router.proofs.Looked.{IsLooked, each-so, looks_at}
 use Rattle.shared_router.proofs.Parting.{even_at, world_more}
 use Rattle.shared_router.proofs.Prompting.{first_held, step_held}
 use Rattle.shared_router.proofs.Sparing.{agrees_here, any_same, ended_same, room_same, was_same}

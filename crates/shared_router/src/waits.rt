@@ -1,17 +1,18 @@
 // Parts of the promise that the loop waits at rest, in its own words.
 ghost use Rattle.std.specs.Prelude.{◌<◌, ◌≤◌};
+ghost use Rattle.mx_base.specs.declared.names.LinkId.{LinkId};
 ghost use Rattle.mx_wire.specs.Log.{Log};
 ghost use Rattle.mx_wire.specs.Moments.{AllLawful, AtEachMoment};
 ghost use Rattle.router_promises.specs.Due.{DueSo};
 ghost use Rattle.router_promises.specs.Keys.{LinkKey, how_many, is_idle, is_stepping, waiting};
 ghost use Rattle.router_promises.specs.Now.{Now};
-ghost use Rattle.router_promises.specs.Rest.{IsShared};
+ghost use Rattle.router_promises.specs.Rest.{IsAtRest, IsShared};
 ghost use Rattle.router_promises.specs.Terms.{Terms};
 ghost use Rattle.shared_router.specs.Fixed.{Fixed, IsNumbered};
 ghost use Rattle.shared_router.specs.Ours.{IsOurLog};
-ghost use Rattle.shared_router.specs.Rests.{HasEnough};
+ghost use Rattle.shared_router.specs.Rests.{HasEnough, IsCalm, SaysLogin};
 ghost use Rattle.shared_router.specs.Shared.{final_terms};
-ghost use Rattle.shared_router.specs.Waited.{AreRead, AreTold, AskNothing, AsItWaits, WakesSo};
+ghost use Rattle.shared_router.specs.Waited.{AreDone, AreRead, AreTold, AskNothing, AsItWaits, WakesSo};
 
 /// Where the loop waits, each open link was read dry, or may be left: it is that of a client that ended, or that has a message in work and
 /// a mebibyte behind it; or it carries a client for whom a mebibyte is unwritten.
@@ -45,4 +46,10 @@ pub fn shares_enough()
     ensures { (terms : Terms) (log : Log) (now : Now) (key : LinkKey) → HasEnough terms log now key
         → (0 < how_many is_idle terms log now key → waiting terms now key ≤ how_many is_stepping terms log now key)
         → IsShared terms log now key }
+{}
+
+/// These parts, with what is left of rest (`AreDone`), are the whole of it.
+pub fn rests_by_parts()
+    ensures { (terms : Terms) (log : Log) (now : Now) → IsCalm terms log now → AreRead terms log now → AreTold terms log now
+        → ((link : LinkId) → SaysLogin terms log now link) → AskNothing terms log now → AreDone terms log now → IsAtRest terms log now }
 {}
