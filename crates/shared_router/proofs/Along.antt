@@ -1,17 +1,17 @@
 -- What a router's world keeps at each entry, its log keeps by the last terms.
-use Rattle.std.specs.Prelude.{◌≡◌, List, [], ◌∷◌, ◌++◌}
-use Rattle.std.proofs.Common.{refl, sym, ◌∙◌, subst, append_assoc}
+use Rattle.std.specs.Prelude.{◌≡◌, length, take, [], ◌∷◌, ◌++◌}
+use Rattle.std.proofs.Common.{refl, sym, ap, ◌∙◌, subst, append_assoc, arith}
+use Rattle.std.proofs.lemmas.List.{take-append-le, take_all}
 use Rattle.mx_wire.specs.Log.{Log}
-use Rattle.mx_wire.specs.Moments.{AllLawful, LawfulAfter, lawful-more}
+use Rattle.mx_wire.specs.Moments.{AllLawful, AtEachMoment, LawfulAfter, lawful-more}
 use Rattle.mx_wire.specs.Tells.{Fits}
 use Rattle.mx_wire.specs.declared.entry.Entry.{Entry}
 use Rattle.mx_wire.specs.declared.entry.Entry.TheVariants as entry
-use Rattle.tale_world.specs.Deciding.{World}
 use Rattle.router_promises.specs.Now.{Now, now_at}
 use Rattle.router_promises.specs.Terms.{Terms}
 use Rattle.shared_router.specs.Fixed.{Fixed, IsNumbered}
 use Rattle.shared_router.specs.Known.{known}
-use Rattle.shared_router.specs.More.{More, now_of}
+use Rattle.shared_router.specs.More.{now_of}
 use Rattle.shared_router.specs.Ours.{IsOurLog, IsOurs, MayWait}
 use Rattle.shared_router.specs.Shared.{final_terms, world_at}
 use Rattle.shared_router.specs.Waited.{AsItWaits}
@@ -23,6 +23,16 @@ pub record IsAt (log before : Log) (e : Entry) (later : Log) : Type 0 where
   pub is : before ++ e ∷ later ≡ log
   pub so_far : LawfulAfter Fits [] before
   pub fits : LawfulAfter Fits before (e ∷ later)
+
+-- what holds at each moment holds of each beginning
+pub moment_at : (P : Log → Type 0) (before later log : Log) → before ++ later ≡ log → AtEachMoment P log → P before
+moment_at P before later log is each =
+    subst P (ap (take (length before)) (sym is) ∙ take-append-le (length before) before later (omega arith) ∙ take_all (length before) before (omega arith)) (each (length before))
+
+-- and of each entry of what comes first
+pub lawful_first : (Rule : Log → Entry → Type 0) (before middle later : Log) → LawfulAfter Rule before (middle ++ later) → LawfulAfter Rule before middle
+lawful_first Rule before [] later all = tt
+lawful_first Rule before (e ∷ middle) later all = (all.0, lawful_first Rule (before ++ e ∷ []) middle later all.1)
 
 module _ (fixed : Fixed) (log : Log) (Rule : Log → Entry → Type 0)
     (each : (before later : Log) (e : Entry) → IsAt log before e later → IsOurs fixed before e → Rule before e) where

@@ -40,7 +40,7 @@ use Rattle.shared_router.proofs.Same.{now_is, now_same}
 use Rattle.shared_router.proofs.Staying.{log_at}
 
 -- what is left of a whole, where nothing is
-all_of : (front whole : List ℕ) → IsFront front whole → has_bytes (drop (length front) whole) ≡ false → front ≡ whole
+pub all_of : (front whole : List ℕ) → IsFront front whole → has_bytes (drop (length front) whole) ≡ false → front ≡ whole
 all_of front whole is none = by_rest is.rest refl where
   by_rest : (rest : List ℕ) → is.rest ≡ rest → front ≡ whole
   by_rest [] same = sym (append-nil front) ∙ ap (λ r. front ++ r) (sym same) ∙ is.is

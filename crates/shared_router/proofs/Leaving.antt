@@ -55,7 +55,7 @@ module _ (fixed : Fixed) (w last : World More) (agrees : Agrees w.decided w.tale
   plan = plan_of last.decided
 
   -- who has ended by the last plan had ended then
-  ends_same : (client : Client) → is_by_now w.tale.moment (plan.ends client.number) ≡ true → plan.ends client.number ≡ w.decided.ends client.number
+  pub ends_same : (client : Client) → is_by_now w.tale.moment (plan.ends client.number) ≡ true → plan.ends client.number ≡ w.decided.ends client.number
   ends_same client by_now = by_ends (w.decided.ends client.number) refl (plan.ends client.number) refl by_now where
     by_ends : (old : Option ℕ) → w.decided.ends client.number ≡ old → (new : Option ℕ) → plan.ends client.number ≡ new → is_by_now w.tale.moment new ≡ true → new ≡ old
     by_ends (Some at) was new is ended = sym is ∙ agrees.ended client.number at was

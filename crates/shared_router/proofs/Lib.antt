@@ -74,3 +74,8 @@ pub mod Singled
 pub mod Overdue
 pub mod Takings
 pub mod Quitting
+pub mod Attending
+pub mod Waking
+pub mod Pausing
+pub mod Sufficing
+pub mod Gathering

@@ -1,5 +1,5 @@
 -- Where the loop waits, each link was read dry that may not be left: by the last plan too.
-use Rattle.std.specs.Prelude.{◌≡◌, ◌+◌, ◌-◌, ◌≤◌, ℕ, suc, Bool, true, false, not, ◌&&◌, ◌||◌, length, nat_le, nat_lt, take, List, [], ◌∷◌, ◌++◌, Option, Some, None}
+use Rattle.std.specs.Prelude.{◌≡◌, ◌+◌, ◌-◌, ℕ, Bool, true, false, not, ◌&&◌, ◌||◌, length, nat_le, nat_lt, take, List, [], ◌∷◌, ◌++◌, Option, Some, None}
 use Rattle.std.specs.List.{list_any}
 use Rattle.std.specs.Option.{option_map_or}
 use Rattle.std.proofs.Common.{refl, sym, ap, ◌∙◌, subst, arith}
@@ -7,7 +7,7 @@ use Rattle.std.proofs.lemmas.Bool.{lt-leb}
 use Rattle.std.proofs.lemmas.List.{length-take}
 use Rattle.client_session.specs.Answers.{front}
 use Rattle.mx_base.specs.declared.names.LinkId.{LinkId}
-use Rattle.mx_wire.specs.Log.{Log, is_open}
+use Rattle.mx_wire.specs.Log.{Log}
 use Rattle.mx_wire.specs.Moments.{AllLawful}
 use Rattle.ready_loop.specs.Drained.{read_dry}
 use Rattle.private_model.specs.Commands.{Reply}
@@ -25,13 +25,13 @@ use Rattle.router_promises.specs.Rest.{IsRead, is_spared_for}
 use Rattle.router_promises.specs.Terms.{Terms}
 use Rattle.router_promises.specs.Wakes.{has_ended}
 use Rattle.shared_router.specs.Fixed.{Fixed, IsNumbered, setup_of}
-use Rattle.shared_router.specs.Known.{Known, known}
+use Rattle.shared_router.specs.Known.{known}
 use Rattle.shared_router.specs.More.{More, now_of, terms_of}
-use Rattle.shared_router.specs.Ours.{IsOurLog, MayWait, reads}
+use Rattle.shared_router.specs.Ours.{IsOurLog, MayWait}
 use Rattle.shared_router.specs.Shared.{final_terms, world_at}
 use Rattle.shared_router.specs.Waited.{AreRead, AsItWaits}
 use Rattle.shared_router.proofs.Along.{as_it_waits}
-use Rattle.shared_router.proofs.Looked.{AreLooked, Each, IsLooked, looks_at}
+use Rattle.shared_router.proofs.Looked.{Each, IsLooked, looks_at}
 use Rattle.shared_router.proofs.Musts.{answered-same}
 use Rattle.shared_router.proofs.Owes.{due-so}
 use Rattle.shared_router.proofs.Parting.{agrees_then, even_at}
@@ -58,7 +58,7 @@ ended-so d plan agrees client = by_ends (d.ends client.number) (plan.ends client
   by_ends None None was is = refl
   by_ends None (Some at) was is = lt-leb at d.until (agrees.going client.number at was is)
 
-any_same : {A : Type 0} (f g : A → Bool) (xs : List A) → Each (λ x. f x ≡ g x) xs → list_any f xs ≡ list_any g xs
+pub any_same : {A : Type 0} (f g : A → Bool) (xs : List A) → Each (λ x. f x ≡ g x) xs → list_any f xs ≡ list_any g xs
 any_same f g [] same = refl
 any_same f g (x ∷ xs) same = ap (λ b. b || list_any f xs) same.0 ∙ ap (λ b. g x || b) (any_same f g xs same.1)
 
@@ -76,8 +76,8 @@ module _ (fixed : Fixed) (numbered : IsNumbered fixed) (before later log : Log) 
   abbrev last : Terms
   last = final_terms fixed log
 
-  abbrev then : Terms
-  then = terms_of fixed w
+  abbrev early : Terms
+  early = terms_of fixed w
 
   abbrev plan : Plan
   plan = plan_of (world_at fixed log).decided
@@ -86,15 +86,15 @@ module _ (fixed : Fixed) (numbered : IsNumbered fixed) (before later log : Log) 
   agrees_here = subst (λ l. Agrees w.decided w.tale.moment (plan_of (world_at fixed l).decided)) is (agrees_then fixed before later)
 
   module _ (client : Client) where
-    pub ended_same : has_ended last now client ≡ has_ended then now client
+    pub ended_same : has_ended last now client ≡ has_ended early now client
     ended_same = subst (λ m. Agrees w.decided m plan → is_by_now m (plan.ends client.number) ≡ is_by_now m (w.decided.ends client.number)) (even_at fixed before)
         (λ agrees. ended-so w.decided plan agrees client) agrees_here
 
-    kept_same : kept last client ≡ kept then client
+    kept_same : kept last client ≡ kept early client
     kept_same = ap (λ service. kept (record last { decided = record last.decided { plan = record plan { service = service } } }) client) agrees_here.service
 
     module _ (looked : IsLooked w.decided client) where
-      pub was_same : was_answered last now client ≡ was_answered then now client
+      pub was_same : was_answered last now client ≡ was_answered early now client
       was_same = answered-same fixed numbered w.decided w.tale plan client agrees_here looked client.taken (omega arith)
 
       pub room_same : has_room (view_of (setup_of fixed) w.tale).replies plan w.tale.moment client
@@ -106,17 +106,17 @@ module _ (fixed : Fixed) (numbered : IsNumbered fixed) (before later log : Log) 
           (is_link_id client.link link && (ended || (not answered && nat_le 1048576 (length waiting))))
           || (option_map_or (λ n. is_client n.client client.number) (session_in (link_now (setup_of fixed) now link).carries) false && not room)
 
-      spared_same : (link : LinkId) → is_spared_for last now link client ≡ is_spared_for then now link client
+      spared_same : (link : LinkId) → is_spared_for last now link client ≡ is_spared_for early now link client
       spared_same link =
           ap (λ b. spared_by link b (was_answered last now client) (kept last client) (has_room (view_of (setup_of fixed) w.tale).replies plan w.tale.moment client)) ended_same
-          ∙ ap (λ b. spared_by link (has_ended then now client) b (kept last client) (has_room (view_of (setup_of fixed) w.tale).replies plan w.tale.moment client)) was_same
-          ∙ ap (λ xs. spared_by link (has_ended then now client) (was_answered then now client) xs (has_room (view_of (setup_of fixed) w.tale).replies plan w.tale.moment client)) kept_same
-          ∙ ap (λ b. spared_by link (has_ended then now client) (was_answered then now client) (kept then client) b) room_same
+          ∙ ap (λ b. spared_by link (has_ended early now client) b (kept last client) (has_room (view_of (setup_of fixed) w.tale).replies plan w.tale.moment client)) was_same
+          ∙ ap (λ xs. spared_by link (has_ended early now client) (was_answered early now client) xs (has_room (view_of (setup_of fixed) w.tale).replies plan w.tale.moment client)) kept_same
+          ∙ ap (λ b. spared_by link (has_ended early now client) (was_answered early now client) (kept early client) b) room_same
 
-  spared_in_all : (link : LinkId) → list_any (is_spared_for last now link) w.tale.clients ≡ list_any (is_spared_for then now link) w.tale.clients
+  spared_in_all : (link : LinkId) → list_any (is_spared_for last now link) w.tale.clients ≡ list_any (is_spared_for early now link) w.tale.clients
   spared_in_all link =
-      any_same (is_spared_for last now link) (is_spared_for then now link) w.tale.clients
-      (each_is (IsLooked w.decided) (λ (c : Client). is_spared_for last now link c ≡ is_spared_for then now link c) (λ c looked. spared_same c looked link)
+      any_same (is_spared_for last now link) (is_spared_for early now link) w.tale.clients
+      (each_is (IsLooked w.decided) (λ (c : Client). is_spared_for last now link c ≡ is_spared_for early now link c) (λ c looked. spared_same c looked link)
       w.tale.clients (looks_at fixed before))
 
   dry_or : (dry spared : Bool) → (not spared ≡ true → dry ≡ true) → (dry || spared) ≡ true
@@ -127,7 +127,7 @@ module _ (fixed : Fixed) (numbered : IsNumbered fixed) (before later log : Log) 
   read_here : MayWait (known fixed w) → (link : LinkId) → IsRead last w.more.log now link
   read_here may link opened =
       ap (λ b. read_dry link w.more.log || b) (spared_in_all link)
-      ∙ dry_or (read_dry link w.more.log) (list_any (is_spared_for then now link) w.tale.clients) (may.read link opened)
+      ∙ dry_or (read_dry link w.more.log) (list_any (is_spared_for early now link) w.tale.clients) (may.read link opened)
 
 pub are_read : (fixed : Fixed) (log : Log) → IsNumbered fixed → IsOurLog fixed log → AllLawful (AsItWaits AreRead (final_terms fixed log)) log
 are_read fixed log numbered our =
