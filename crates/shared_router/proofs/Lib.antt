@@ -60,4 +60,5 @@ pub mod Voicing
 pub mod Saying
 pub mod Leading
 pub mod Listed
+pub mod Clearing
 pub mod Needing
