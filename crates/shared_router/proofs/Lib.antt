@@ -62,3 +62,4 @@ pub mod Leading
 pub mod Listed
 pub mod Clearing
 pub mod Needing
+pub mod Blank

@@ -6,6 +6,7 @@ ghost use Rattle.router_promises.specs.Closes.{ClosesSo};
 ghost use Rattle.router_promises.specs.Now.{now_at};
 ghost use Rattle.router_promises.specs.Opens.{OpensSo};
 ghost use Rattle.router_promises.specs.Terms.{AreWhoTheySay};
+ghost use Rattle.server_rule.specs.Classes.{router_reads};
 ghost use Rattle.shared_router.specs.Fixed.{Fixed, IsNumbered};
 ghost use Rattle.shared_router.specs.Leads.{LeadsSo, ReadsNothing, SpellsIds};
 ghost use Rattle.shared_router.specs.More.{now_of};
@@ -46,4 +47,9 @@ pub fn sends_what_is_due()
 pub fn takes_steps_that_are_wanted()
     ensures { (fixed : Fixed) (log : Log) → IsNumbered fixed → SpellsIds fixed → ReadsNothing fixed.router.reads → IsOurLog fixed log
         → AllLawful (LeadsSo (final_terms fixed log)) log }
+{}
+
+/// As the router reads texts, an empty one is no SET.
+pub fn reads_no_set_in_nothing()
+    ensures { ReadsNothing router_reads }
 {}
