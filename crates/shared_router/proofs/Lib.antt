@@ -65,6 +65,7 @@ pub mod Caused
 pub mod Reasons
 pub mod Leading
 pub mod Listed
+pub mod Clearing
 pub mod Needing
 pub mod Along
 pub mod Sparing
@@ -79,3 +80,4 @@ pub mod Waking
 pub mod Pausing
 pub mod Sufficing
 pub mod Gathering
+pub mod Blank

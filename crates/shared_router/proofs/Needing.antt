@@ -2,7 +2,7 @@
 use Rattle.std.specs.Prelude.{◌≡◌, ◌+◌, ◌<◌, ℕ, suc, Bool, true, false, not, ◌&&◌, ◌||◌, bytes_eq, is_some, length, nat_eq, if◌then◌else◌, List, [], ◌∷◌, ◌++◌, Option, Some, None}
 use Rattle.std.specs.List.{list_any}
 use Rattle.std.specs.Option.{option_map, option_map_or}
-use Rattle.std.proofs.Common.{refl, sym, ap, ◌∙◌, subst, append_assoc, arith}
+use Rattle.std.proofs.Common.{refl, sym, ap, ◌∙◌, subst, append_assoc, arith, inl, inr}
 use Rattle.std.proofs.lemmas.Bool.{and_from}
 use Rattle.mx_base.specs.declared.names.LinkId.{LinkId}
 use Rattle.mx_base.specs.declared.tag.Tag.{Tag}
@@ -15,7 +15,7 @@ use Rattle.mx_wire.specs.declared.entry.Entry.TheVariants as entry
 use Rattle.private_model.proofs.Maps.{name_of as named, same_number}
 use Rattle.private_model.specs.Commands.{Command, FieldList, InitDb, Prepare, Query, Quit, ReadId, Reset, Run, SetId}
 use Rattle.private_model.specs.Names.{Hostgroup, MessageName, SessionName}
-use Rattle.private_model.specs.Story.{Broke, Due, Happening, Own, Prep, Question, Sent, Sync, command_of, message_of}
+use Rattle.private_model.specs.Story.{Broke, Due, Happening, Own, Prep, Question, Sent, Statement, Sync, command_of, message_of}
 use Rattle.private_model.specs.View.{Carried, Joined, Lent, Link, Nobody, Setup, View, present}
 use Rattle.server_rule.specs.Classes.{Reads}
 use Rattle.server_rule.specs.Servers.{is_some_of}
@@ -34,12 +34,12 @@ use Rattle.tale_world.proofs.Following.{stepped}
 use Rattle.router_promises.specs.Dues.{is_due, is_unsent}
 use Rattle.router_promises.specs.Keys.{LinkKey, is_key, key_for, key_of}
 use Rattle.router_promises.specs.Now.{Now, now_at, present_now, wire_now}
-use Rattle.router_promises.specs.Steps.{is_prep_wanted, is_wanted, some_wants, wants_prepared, wants_there}
+use Rattle.router_promises.specs.Steps.{is_prep_wanted, is_wanted, live_keys, some_wants, wants_prepared, wants_there}
 use Rattle.router_promises.specs.Terms.{Terms, plan_in}
 use Rattle.router_promises.specs.Wants.{prepares_first, wants}
 use Rattle.shared_router.specs.Fixed.{Fixed, IsNumbered, setup_of}
 use Rattle.shared_router.specs.Known.{Known, known}
-use Rattle.shared_router.specs.Leads.{IsWantedThere, LeadsAs, LeadsFor, LeadsSo, ReadsNothing, SpellsIds}
+use Rattle.shared_router.specs.Leads.{IsCleared, IsWantedThere, LeadsAs, LeadsFor, LeadsSo, ReadsNothing, SpellsIds}
 use Rattle.shared_router.specs.Lends.{readied_now}
 use Rattle.shared_router.specs.More.{More, now_of, terms_of}
 use Rattle.shared_router.specs.Ours.{IsOurs}
@@ -47,6 +47,7 @@ use Rattle.shared_router.specs.Shared.{final_terms, shared, world_at}
 use Rattle.shared_router.specs.Waits.{Waits}
 use Rattle.shared_router.specs.Wishes.{kept_due, ordinal_due, standing_on, tag_of, texts, wish_on, wish_step, wish_tag}
 use Rattle.shared_router.proofs.Beginning.{isnt, left_of, no_some, right_of, says_mute, some_of}
+use Rattle.shared_router.proofs.Clearing.{IsOfMany, prep_clears, state_clears}
 use Rattle.shared_router.proofs.Decidedly.{AreDecided, GoesTo}
 use Rattle.shared_router.proofs.Holding.{IsHeld}
 use Rattle.shared_router.proofs.Keeping.{begins_at, tested}
@@ -289,24 +290,74 @@ module _ (fixed : Fixed) (ids : SpellsIds fixed) (nothing : ReadsNothing fixed.r
   question_good : (q : Question) → next_question texts fixed.ids setup (kept_due k) there (readied_now k link) ≡ Some q → Good q
   question_good q is = source_good there.carries q refl (source_of fixed.ids ids setup (kept_due k) there (readied_now k link) q there.carries is)
 
+  -- STMT_CLOSE
+
+  abbrev Clear : Question → Type 0
+  Clear q = (number : ℕ) → before_question there (standing_on k link) q ≡ Some (Closes number) → IsCleared t now link number
+
+  abbrev keys_there : List ℕ
+  keys_there = live_keys setup now link
+
+  abbrev long_there : List ℕ
+  long_there = (now.uses link).long
+
+  many_clear : (number : ℕ) → IsOfMany there.live keys_there number → IsCleared t now link number
+  many_clear number many = record { key = many.given.key; live = many.given.gives; needed = inl many.many }
+
+  prep_clear : (n : SessionName) (due : Due) → prepares_first there due.command due.key ≡ true → Clear (Prep n due.key (setup.keys due.key).text)
+  prep_clear n due first number is = many_clear number (prep_clears there keys_there long_there number n due (setup.keys due.key).text first is)
+
+  state_clear : (n : SessionName) (due : Due) → view.dues n ≡ Some due → is_due k.terms w.tale n ≡ true → Clear (Statement n due)
+  state_clear n due at waits number is = elim (state_clears there keys_there long_there number n due is) [
+    | inl many ↦ many_clear number many
+    | inr again ↦ record {
+      key = due.key;
+      live = again.there;
+      needed = inr (record { name = n; due = due; text = again.text; waits = due_then n waits; there = at; same = refl; prepares = again.prepares });
+    }
+  ]
+
+  own_clear : (n : SessionName) (due : Due) (c : Carried) (q : Question) → view.dues n ≡ Some due → is_due k.terms w.tale n ≡ true
+      → Asked setup (carrying c there) (view.held n) n due Own q → Clear q
+  own_clear n due c q at waits (Steps command each) number is = no_some (Closes number) is
+  own_clear n due c q at waits (Prepares first) number is = prep_clear n due first number is
+  own_clear n due c q at waits States number is = state_clear n due at waits number is
+
+  sync_clear : (n : SessionName) (due : Due) (c : Carried) (q : Question) → view.dues n ≡ Some due → is_due k.terms w.tale n ≡ true
+      → Asked setup (carrying c there) (view.held n) n due (Sync n) q → Clear q
+  sync_clear n due c q at waits (Steps command each) number is = no_some (Closes number) is
+  sync_clear n due c q at waits (Prepares first) number is = prep_clear n due first number is
+  sync_clear n due c q at waits States number is = state_clear n due at waits number is
+
+  source_clear : (c : Carried) (q : Question) → Source setup (kept_due k) there (readied_now k link) c q → Clear q
+  source_clear c q (ForWaiter r x is asked) =
+      let waits : Waits k r = readied_waits k link r is in own_clear r.name r.due Nobody q waits.due (waits_due r waits) asked
+  source_clear c q (ForLent n due x at asked) = own_clear n due (Lent n) q (kept_at n due at).1 (kept_at n due at).0 asked
+  source_clear c q (ForJoined n due x here_now at asked) = sync_clear n due (Joined n) q (kept_at n due at).1 (kept_at n due at).0 asked
+  source_clear c q (Captures n) = λ number is. no_some (Closes number) is
+  source_clear c q (Ends n) = λ number is. no_some (Closes number) is
+
+  question_clear : (q : Question) → next_question texts fixed.ids setup (kept_due k) there (readied_now k link) ≡ Some q → Clear q
+  question_clear q is = source_clear there.carries q (source_of fixed.ids ids setup (kept_due k) there (readied_now k link) q there.carries is)
+
   abbrev GoodWish : Wish → Type 0
   GoodWish wish = Tells (wish_tag k wish) (wish_step wish) → LeadsFor t now link (wish_step wish) (wish_tag k wish)
 
-  text_good : (q : Question) (text : StepText) → before_question there (standing_on k link) q ≡ Some text → IsWantedThere t now link text
-  text_good q (Asks command) is = isnt (says_mute there (standing_on k link) q (Asks command) is)
-  text_good q (Closes number) is = tt
-  text_good q (Resets number) is = tt
+  text_good : (q : Question) (text : StepText) → Clear q → before_question there (standing_on k link) q ≡ Some text → IsWantedThere t now link text
+  text_good q (Asks command) clear is = isnt (says_mute there (standing_on k link) q (Asks command) is)
+  text_good q (Closes number) clear is = clear number is
+  text_good q (Resets number) clear is = tt
 
-  asked_good : (q : Question) → Good q → GoodWish (wish_for there (standing_on k link) q)
-  asked_good q good = by_before (before_question there (standing_on k link) q) refl where
+  asked_good : (q : Question) → Good q → Clear q → GoodWish (wish_for there (standing_on k link) q)
+  asked_good q good clear = by_before (before_question there (standing_on k link) q) refl where
     by_before : (o : Option StepText) → before_question there (standing_on k link) q ≡ o → GoodWish (option_map_or (λ text. Says text) o (Sends q))
     by_before None before = good
-    by_before (Some text) before = λ told. text_good q text before
+    by_before (Some text) before = λ told. text_good q text clear before
 
   next_good : (o : Option Question) (wish : Wish) → next_question texts fixed.ids setup (kept_due k) there (readied_now k link) ≡ o
       → option_map (wish_for there (standing_on k link)) o ≡ Some wish → GoodWish wish
   next_good None wish at is = no_some wish is
-  next_good (Some q) wish at is = subst GoodWish (some_of _ wish is) (asked_good q (question_good q at))
+  next_good (Some q) wish at is = subst GoodWish (some_of _ wish is) (asked_good q (question_good q at) (question_clear q at))
 
   pub wish_good : (wish : Wish) → wish_on k link ≡ Some wish → GoodWish wish
   wish_good wish is = by_quits (w.tale.wires link).quits is where

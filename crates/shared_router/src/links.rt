@@ -6,6 +6,7 @@ ghost use Rattle.router_promises.specs.Closes.{ClosesSo};
 ghost use Rattle.router_promises.specs.Now.{now_at};
 ghost use Rattle.router_promises.specs.Opens.{OpensSo};
 ghost use Rattle.router_promises.specs.Terms.{AreWhoTheySay};
+ghost use Rattle.server_rule.specs.Classes.{router_reads};
 ghost use Rattle.shared_router.specs.Fixed.{Fixed, IsNumbered};
 ghost use Rattle.shared_router.specs.Leads.{LeadsSo, ReadsNothing, SpellsIds};
 ghost use Rattle.shared_router.specs.More.{now_of};
@@ -41,8 +42,14 @@ pub fn sends_what_is_due()
 
 /// Each step is wanted by the statement whose link it is, or by one that waits for a link of its key: it leads to a schema or to settings that
 /// the link wasn't told, or sets the session's insert id. Each preparation is for a statement that is due, and its text doesn't stand there.
+/// A STMT_CLOSE names a number that is live, where 1,000 are, or where a statement that is due is to prepare what stands under its key.
 /// Where insert ids are spelt as they are, and an empty text isn't read as a SET.
 pub fn takes_steps_that_are_wanted()
     ensures { (fixed : Fixed) (log : Log) → IsNumbered fixed → SpellsIds fixed → ReadsNothing fixed.router.reads → IsOurLog fixed log
         → AllLawful (LeadsSo (final_terms fixed log)) log }
+{}
+
+/// As the router reads texts, an empty one is no SET.
+pub fn reads_no_set_in_nothing()
+    ensures { ReadsNothing router_reads }
 {}
