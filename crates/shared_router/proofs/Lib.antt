@@ -62,3 +62,4 @@ pub mod Pairing
 pub mod Numbering
 pub mod Takings
 pub mod Quitting
+pub mod Starting
