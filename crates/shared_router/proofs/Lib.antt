@@ -81,3 +81,4 @@ pub mod Pausing
 pub mod Sufficing
 pub mod Gathering
 pub mod Blank
+pub mod Starting

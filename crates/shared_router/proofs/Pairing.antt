@@ -1,6 +1,6 @@
 -- Two numbers as one, and back.
 use Rattle.std.specs.Prelude.{◌≡◌, ◌+◌, ℕ, zero, suc}
-use Rattle.std.proofs.Common.{refl, sym, ap, ◌∙◌, arith}
+use Rattle.std.proofs.Common.{refl, ap, ◌∙◌, arith}
 
 -- the sum of all up to it
 abbrev pub sum_to : ℕ → ℕ

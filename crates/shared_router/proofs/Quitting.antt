@@ -24,7 +24,6 @@ use Rattle.log_story.specs.Plan.{OwnAnswer, Plan, is_before}
 use Rattle.log_story.specs.Tale.{Client, Tale, view_of}
 use Rattle.tale_world.specs.Deciding.{World}
 use Rattle.router_promises.specs.Ends.{breaks_client, is_accepted, is_at_fault, is_quit, is_refused, loses_client, must_end, quits_at}
-use Rattle.router_promises.specs.Due.{served}
 use Rattle.router_promises.specs.Errors as error
 use Rattle.router_promises.specs.Errors.{out_of_memory}
 use Rattle.router_promises.specs.Now.{Now, entry_now, flag_taken, now_at, takings_now, while_ending}
