@@ -58,3 +58,4 @@ pub mod Beginning
 pub mod Speaking
 pub mod Voicing
 pub mod Saying
+pub mod Fronted

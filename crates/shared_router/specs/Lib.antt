@@ -14,3 +14,4 @@ pub mod Judged
 pub mod Rests
 pub mod Lent
 pub mod Sends
+pub mod Onward

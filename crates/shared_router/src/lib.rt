@@ -4,6 +4,7 @@
 mod clients;
 pub mod departing;
 mod links;
+mod replies;
 mod rests;
 mod words;
 

@@ -1,0 +1,15 @@
+// What the router writes to clients.
+ghost use Rattle.mx_wire.specs.Log.{Log};
+ghost use Rattle.mx_wire.specs.Moments.{AllLawful, AtEachMoment};
+ghost use Rattle.router_promises.specs.Due.{DueSo};
+ghost use Rattle.shared_router.specs.Fixed.{Fixed};
+ghost use Rattle.shared_router.specs.Onward.{GoesOnSo};
+ghost use Rattle.shared_router.specs.Ours.{IsOurLog};
+ghost use Rattle.shared_router.specs.Shared.{final_terms};
+
+/// What was written to each client is at each moment a front of what it is due, where at each entry what a client
+/// is due goes on with what it was due before.
+pub fn writes_what_is_due()
+    ensures { (fixed : Fixed) (log : Log) → IsOurLog fixed log → AllLawful (GoesOnSo (final_terms fixed log)) log
+        → AtEachMoment (DueSo (final_terms fixed log)) log }
+{}
