@@ -59,3 +59,4 @@ pub mod Speaking
 pub mod Voicing
 pub mod Saying
 pub mod Fronted
+pub mod Adding
