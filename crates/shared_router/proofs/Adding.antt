@@ -1,7 +1,8 @@
 -- As more is read of a client, more of its messages are taken up and more of them are answered, what it is due goes on, but for last words.
 use Rattle.std.specs.Prelude.{◌≡◌, ◌+◌, ◌≤◌, ℕ, zero, suc, Bool, true, false, if◌then◌else◌, is_some, length, nat_eq, take, List, [], ◌∷◌, ◌++◌, Option, Some, None}
 use Rattle.std.proofs.Common.{refl, sym, ap, ◌∙◌, subst, append_assoc, append-nil, arith, length-append}
-use Rattle.std.proofs.lemmas.Bool.{eqb-true, ne_eqb}
+use Rattle.std.proofs.lemmas.Bool.{eqb-true}
+use Rattle.std.proofs.lemmas.List.{length-take}
 use Rattle.client_session.specs.Accounts.{account_of}
 use Rattle.client_session.specs.Answers.{Talk, commands, commands_in, fault_answer, front, front_in, greeted, heard_more, if_known, messages_of, opening_of}
 use Rattle.client_side.specs.Laws.{Grows, opening-grows}
@@ -114,12 +115,6 @@ taken_more (suc a) (suc b) [] ys less within = absurd (omega (arith, within))
 taken_more (suc a) (suc b) (x ∷ xs) ys less within =
     let rest = taken_more a b xs ys (omega (arith, less)) (omega (arith, within)) in (rest.0, ap (λ zs. x ∷ zs) rest.1)
 
-taken_all : (n : ℕ) (xs : List Framed) → length xs ≤ n → take n xs ≡ xs
-taken_all zero [] less = refl
-taken_all (suc n) [] less = refl
-taken_all zero (x ∷ xs) less = absurd (omega (arith, less))
-taken_all (suc n) (x ∷ xs) less = ap (λ zs. x ∷ zs) (taken_all n xs (omega (arith, less)))
-
 -- The answers.
 
 module _ (plan : Plan) (old new : ℕ) (was is : MessageName → Option Reply) (client : Client) where
@@ -146,3 +141,111 @@ module _ (plan : Plan) (old new : ℕ) (was is : MessageName → Option Reply) (
       (due_for was plan old client last (suc (suc j)) xs) (due_for is plan new client last_later (suc (suc j)) (xs ++ ys)) (stay j (omega arith))
       (answers_on last last_later (suc j) xs ys (λ i below. stay i (omega (arith, below)))
       (subst (λ i. IsFront last (due_for is plan new client last_later (suc i) ys)) (omega arith) at))
+
+-- A client that was read, and took up, more.
+
+module _ (plan : Plan) (old new : ℕ) (was is : MessageName → Option Reply) (x : Client) (more : List ℕ) (count : ℕ) where
+  abbrev pub further : Client
+  further = record x { read = x.read ++ more; taken = count }
+
+  abbrev talk_was : Talk
+  talk_was = talk_of plan x
+
+  -- it is due the same by its name
+  due_alike : (last : List ℕ) (i : ℕ) (zs : List Framed) → due_for is plan new further last i zs ≡ due_for is plan new x last i zs
+  due_alike last i [] = refl
+  due_alike last i (z ∷ zs) =
+      ap (answered_with (own_at plan new (name_of x i)) (is (name_of x i)) (number_of plan (name_of x i)) (next_id z.last)) (due_alike last (suc i) zs)
+
+  abbrev error_in : Split → ℕ → List ℕ
+  error_in s n = if nat_eq n (length s.messages) then fault_answer plan.service.limit s.fault else []
+
+  -- the answers so far
+  abbrev answers_were : Split → List ℕ
+  answers_were s = due_for was plan old x (error_in s x.taken) 1 (take x.taken s.messages)
+
+  abbrev answers_are : Split → List ℕ
+  answers_are s = due_for is plan new x (error_in s count) 1 (take count s.messages)
+
+  abbrev Stayed : Type 0
+  Stayed = (i : ℕ) → suc i ≤ x.taken → IsOn plan old new was is x (suc i)
+
+  short : (n : ℕ) (zs : List Framed) → length (take n zs) ≤ n
+  short n zs = let size = length-take n zs in omega (arith, size)
+
+  -- no error was due
+  on_by : (last last_later : List ℕ) (zs others : List Framed) → last ≡ [] → length zs ≤ x.taken → Stayed
+      → IsFront (due_for was plan old x last 1 zs) (due_for is plan new x last_later 1 (zs ++ others))
+  on_by last last_later zs others none within stay =
+      answers_on plan old new was is x last last_later 0 zs others (λ i below. stay i (omega (arith, below, within)))
+      (subst (λ l. IsFront l (due_for is plan new x last_later (suc (0 + length zs)) others)) (sym none) (nothing_first (due_for is plan new x last_later (suc (0 + length zs)) others)))
+
+  same_on : (last : List ℕ) (zs : List Framed) → length zs ≤ x.taken → Stayed → IsFront (due_for was plan old x last 1 zs) (due_for is plan new x last 1 zs)
+  same_on last zs within stay =
+      subst (λ ys. IsFront (due_for was plan old x last 1 zs) (due_for is plan new x last 1 ys)) (append-nil zs)
+      (answers_on plan old new was is x last last 0 zs [] (λ i below. stay i (omega (arith, below, within))) (itself last))
+
+  module _ (s t : Split) (has : HasMore talk_was more s t) (least : x.taken ≤ count) (within : x.taken ≤ length s.messages) (most : count ≤ length t.messages) (stay : Stayed) where
+    more_by : error_in s x.taken ≡ [] → IsFront (answers_were s) (answers_are t)
+    more_by none =
+        let on = taken_more x.taken count s.messages has.others least within in
+        subst (λ zs. IsFront (answers_were s) (due_for is plan new x (error_in t count) 1 zs)) (sym (ap (take count) has.messages ∙ on.1))
+        (on_by (error_in s x.taken) (error_in t count) (take x.taken s.messages) on.0 none (short x.taken s.messages) stay)
+
+    -- behind a message that can't be nothing comes
+    faulty : is_some s.fault ≡ true → x.taken ≡ length s.messages → IsFront (answers_were s) (answers_are t)
+    faulty fault all =
+        let stays = has.stays fault in
+        let same : t.messages ≡ s.messages = has.messages ∙ ap (λ zs. s.messages ++ zs) stays.0 ∙ append-nil s.messages in
+        let sizes : length t.messages ≡ length s.messages = ap (λ (zs : List Framed). length zs) same in
+        let it : count ≡ x.taken = omega (arith, sizes, all, least, most) in
+        let error : error_in t count ≡ error_in s x.taken =
+        ap (λ n. error_in t n) it ∙ ap (λ zs. if nat_eq x.taken (length zs) then fault_answer plan.service.limit t.fault else []) same
+        ∙ ap (λ o. if nat_eq x.taken (length s.messages) then fault_answer plan.service.limit o else []) stays.1 in
+        subst (λ l. IsFront (answers_were s) (due_for is plan new x l 1 (take count t.messages))) (sym error)
+        (subst (λ zs. IsFront (answers_were s) (due_for is plan new x (error_in s x.taken) 1 zs)) (sym (ap (λ n. take n t.messages) it ∙ ap (take x.taken) same))
+        (same_on (error_in s x.taken) (take x.taken s.messages) (short x.taken s.messages) stay))
+
+    by_fault : (o : Option FrameFault) → s.fault ≡ o → (b : Bool) → nat_eq x.taken (length s.messages) ≡ b → IsFront (answers_were s) (answers_are t)
+    by_fault o fault false at = more_by (ap (λ b. if b then fault_answer plan.service.limit s.fault else []) at)
+    by_fault None fault true at =
+        more_by (ap (λ b. if b then fault_answer plan.service.limit s.fault else []) at ∙ ap (fault_answer plan.service.limit) fault)
+    by_fault (Some f) fault true at = faulty (ap (λ (o : Option FrameFault). is_some o) fault) (eqb-true x.taken (length s.messages) at)
+
+    answers_go_on : IsFront (answers_were s) (answers_are t)
+    answers_go_on = by_fault s.fault refl (nat_eq x.taken (length s.messages)) refl
+
+  none_taken : (n : ℕ) → take {A = Framed} n [] ≡ []
+  none_taken zero = refl
+  none_taken (suc n) = refl
+
+  abbrev no_bytes : List ℕ
+  no_bytes = []
+
+  no_error : (b : Bool) → (if b then no_bytes else no_bytes) ≡ no_bytes
+  no_error true = refl
+  no_error false = refl
+
+  none_due : answers_were (record { messages = []; rest = []; fault = None }) ≡ []
+  none_due =
+      ap (λ zs. due_for was plan old x (if nat_eq x.taken 0 then [] else []) 1 zs) (none_taken x.taken) ∙ no_error (nat_eq x.taken 0)
+
+  until_by : FrontStays talk_was more → IsFront (answers_were (messages_of talk_was)) (answers_are (messages_of (heard_more talk_was more)))
+      → IsFront (front talk_was ++ answers_were (messages_of talk_was)) (front (heard_more talk_was more) ++ answers_are (messages_of (heard_more talk_was more)))
+  until_by (Stays same) on =
+      subst (λ xs. IsFront (front talk_was ++ answers_were (messages_of talk_was)) (xs ++ answers_are (messages_of (heard_more talk_was more)))) (sym same)
+      (behind (front talk_was) _ _ on)
+  until_by (NoneYet none) on =
+      let empty : answers_were (messages_of talk_was) ≡ [] =
+      ap answers_were (ap (split plan.service.limit 0) none ∙ nothing_split plan.service.limit) ∙ none_due in
+      subst (λ xs. IsFront (front talk_was ++ xs) (front (heard_more talk_was more) ++ answers_are (messages_of (heard_more talk_was more)))) (sym empty)
+      (subst (λ xs. IsFront xs (front (heard_more talk_was more) ++ answers_are (messages_of (heard_more talk_was more)))) (sym (append-nil (front talk_was)))
+      (front-trans (front talk_was) (front (heard_more talk_was more)) _ (front_on talk_was more) (then_more (front (heard_more talk_was more)) _)))
+
+  pub until_on : x.taken ≤ count → x.taken ≤ length (messages plan x) → count ≤ length (messages plan further) → Stayed
+      → IsFront (due_until was plan old x) (due_until is plan new further)
+  until_on least within most stay =
+      subst (λ xs. IsFront (due_until was plan old x) (front (heard_more talk_was more) ++ xs))
+      (sym (due_alike (error_behind plan further) 1 (take count (messages plan further))))
+      (until_by (front_stays talk_was more)
+      (answers_go_on (messages_of talk_was) (messages_of (heard_more talk_was more)) (messages_on talk_was more) least within most stay))

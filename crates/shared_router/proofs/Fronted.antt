@@ -96,7 +96,7 @@ seats_each fixed log [] all = tt
 seats_each fixed log (x ∷ xs) all = (all.0, seats_each fixed log xs all.1)
 
 -- what is due behind the entry goes on with what was
-go_on : (terms : Terms) (old new : Tale) (written : LinkId → List ℕ) (xs ys : List Client) → AreKept written xs ys → GoOn terms old new xs ys
+go_on : (terms : Terms) (old new : Tale) (written : LinkId → List ℕ) (xs ys : List Client) → AreKept written xs ys → GoOn (due_in terms old) (due_in terms new) xs ys
     → Each (λ (x : Client). IsFront (written x.link) (due_in terms old x)) xs → Each (λ (y : Client). IsFront (written y.link) (due_in terms new y)) ys
 go_on terms old new written [] ys kept on fronts =
     each-so (λ (y : Client). written y.link ≡ []) (λ (y : Client). IsFront (written y.link) (due_in terms new y)) ys

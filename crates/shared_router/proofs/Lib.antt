@@ -60,3 +60,4 @@ pub mod Voicing
 pub mod Saying
 pub mod Fronted
 pub mod Adding
+pub mod Furthering

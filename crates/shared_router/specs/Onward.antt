@@ -12,20 +12,40 @@ use Rattle.router_promises.specs.Terms.{Terms, plan_in, setup_in, tale_at}
 abbrev pub due_in : Terms → Tale → Client → List ℕ
 due_in terms tale client = due_bytes (view_of (setup_in terms) tale).replies (plan_in terms) tale.moment client
 
+-- without a last word
+abbrev pub until_in : Terms → Tale → Client → List ℕ
+until_in terms tale client = due_until (view_of (setup_in terms) tale).replies (plan_in terms) tale.moment client
+
 -- each client that there was, beside itself behind the entry
-abbrev pub GoOn : Terms → (old new : Tale) → (was is : List Client) → Type 0
-GoOn terms old new [] ys = Unit {0}
-GoOn terms old new (x ∷ xs) [] = ⊥
-GoOn terms old new (x ∷ xs) (y ∷ ys) = IsFront (due_in terms old x) (due_in terms new y) × GoOn terms old new xs ys
+abbrev pub GoOn : (old new : Client → List ℕ) → (was is : List Client) → Type 0
+GoOn old new [] ys = Unit {0}
+GoOn old new (x ∷ xs) [] = ⊥
+GoOn old new (x ∷ xs) (y ∷ ys) = IsFront (old x) (new y) × GoOn old new xs ys
 
 abbrev pub GoesOn : Terms → (old new : Tale) → Type 0
-GoesOn terms old new = GoOn terms old new old.clients new.clients
+GoesOn terms old new = GoOn (due_in terms old) (due_in terms new) old.clients new.clients
 
 abbrev pub GoesOnSo : Terms → Log → Entry → Type 0
 GoesOnSo terms log e = GoesOn terms (tale_at terms log) (tale_at terms (log ++ e ∷ []))
+
+abbrev pub UntilGoesOn : Terms → (old new : Tale) → Type 0
+UntilGoesOn terms old new = GoOn (until_in terms old) (until_in terms new) old.clients new.clients
+
+abbrev pub UntilGoesOnSo : Terms → Log → Entry → Type 0
+UntilGoesOnSo terms log e = UntilGoesOn terms (tale_at terms log) (tale_at terms (log ++ e ∷ []))
 
 -- an answer to a message that is there stays: the router's own, or else the reply
 abbrev pub AnswerStays : (own : Option (List (List ℕ))) → Option Reply → (own_later : Option (List (List ℕ))) → Option Reply → Type 0
 AnswerStays (Some payloads) reply own_later reply_later = own_later ≡ Some payloads
 AnswerStays None (Some reply) own_later reply_later = (own_later ≡ None) × (reply_later ≡ Some reply)
 AnswerStays None None own_later reply_later = Unit {0}
+
+-- so it is of each message that was taken up
+abbrev pub AnswersStay : Terms → (old new : Tale) → Client → Type 0
+AnswersStay terms old new client =
+    (i : ℕ) → suc i ≤ client.taken
+    → AnswerStays (own_at (plan_in terms) old.moment (name_of client (suc i))) ((view_of (setup_in terms) old).replies (name_of client (suc i)))
+    (own_at (plan_in terms) new.moment (name_of client (suc i))) ((view_of (setup_in terms) new).replies (name_of client (suc i)))
+
+abbrev pub AnswersStaySo : Terms → Log → Entry → Type 0
+AnswersStaySo terms log e = All (AnswersStay terms (tale_at terms log) (tale_at terms (log ++ e ∷ []))) (tale_at terms log).clients

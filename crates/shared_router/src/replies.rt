@@ -2,8 +2,9 @@
 ghost use Rattle.mx_wire.specs.Log.{Log};
 ghost use Rattle.mx_wire.specs.Moments.{AllLawful, AtEachMoment};
 ghost use Rattle.router_promises.specs.Due.{DueSo};
+ghost use Rattle.router_promises.specs.Terms.{Terms};
 ghost use Rattle.shared_router.specs.Fixed.{Fixed};
-ghost use Rattle.shared_router.specs.Onward.{GoesOnSo};
+ghost use Rattle.shared_router.specs.Onward.{AnswersStaySo, GoesOnSo, UntilGoesOnSo};
 ghost use Rattle.shared_router.specs.Ours.{IsOurLog};
 ghost use Rattle.shared_router.specs.Shared.{final_terms};
 
@@ -12,4 +13,9 @@ ghost use Rattle.shared_router.specs.Shared.{final_terms};
 pub fn writes_what_is_due()
     ensures { (fixed : Fixed) (log : Log) → IsOurLog fixed log → AllLawful (GoesOnSo (final_terms fixed log)) log
         → AtEachMoment (DueSo (final_terms fixed log)) log }
+{}
+
+/// What a client is due but for a last word goes on at each entry, by whatever plan, where each answer to a message that was taken up stays.
+pub fn due_goes_on()
+    ensures { (terms : Terms) (log : Log) → AllLawful (AnswersStaySo terms) log → AllLawful (UntilGoesOnSo terms) log }
 {}
