@@ -61,3 +61,4 @@ pub mod Saying
 pub mod Fronted
 pub mod Adding
 pub mod Furthering
+pub mod Onwards

@@ -5,7 +5,7 @@ use Rattle.mx_wire.specs.declared.entry.Entry.{Entry}
 use Rattle.private_model.specs.Commands.{Reply}
 use Rattle.log_story.specs.Honest.{IsFront}
 use Rattle.log_story.specs.Owed.{due_bytes, due_until, name_of}
-use Rattle.log_story.specs.Plan.{own_at}
+use Rattle.log_story.specs.Plan.{LastWord, own_at, word_at}
 use Rattle.log_story.specs.Tale.{Client, Tale, view_of}
 use Rattle.router_promises.specs.Terms.{Terms, plan_in, setup_in, tale_at}
 
@@ -49,3 +49,19 @@ AnswersStay terms old new client =
 
 abbrev pub AnswersStaySo : Terms → Log → Entry → Type 0
 AnswersStaySo terms log e = All (AnswersStay terms (tale_at terms log) (tale_at terms (log ++ e ∷ []))) (tale_at terms log).clients
+
+-- and so it is with a last word: of who has one, what is due goes on with it
+abbrev pub GoesOnWith : (was is : Option LastWord) → (old new : List ℕ) → Type 0
+GoesOnWith None None old new = Unit {0}
+GoesOnWith was is old new = IsFront old new
+
+abbrev pub WordsGoOn : Terms → (old new : Tale) → (was is : List Client) → Type 0
+WordsGoOn terms old new [] ys = Unit {0}
+WordsGoOn terms old new (x ∷ xs) [] = Unit {0}
+WordsGoOn terms old new (x ∷ xs) (y ∷ ys) =
+    GoesOnWith (word_at (plan_in terms) old.moment x.number) (word_at (plan_in terms) new.moment y.number) (due_in terms old x) (due_in terms new y)
+    × WordsGoOn terms old new xs ys
+
+abbrev pub WordsGoOnSo : Terms → Log → Entry → Type 0
+WordsGoOnSo terms log e =
+    WordsGoOn terms (tale_at terms log) (tale_at terms (log ++ e ∷ [])) (tale_at terms log).clients (tale_at terms (log ++ e ∷ [])).clients
