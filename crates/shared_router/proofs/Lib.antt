@@ -62,3 +62,4 @@ pub mod Fronted
 pub mod Adding
 pub mod Furthering
 pub mod Onwards
+pub mod Answering

@@ -50,6 +50,17 @@ AnswersStay terms old new client =
 abbrev pub AnswersStaySo : Terms → Log → Entry → Type 0
 AnswersStaySo terms log e = All (AnswersStay terms (tale_at terms log) (tale_at terms (log ++ e ∷ []))) (tale_at terms log).clients
 
+-- A reply to a message that was taken up stays, and where it is the answer, the router gives none later.
+
+abbrev pub RepliesStay : Terms → (old new : Tale) → Client → Type 0
+RepliesStay terms old new client =
+    (i : ℕ) (reply : Reply) → suc i ≤ client.taken → own_at (plan_in terms) old.moment (name_of client (suc i)) ≡ None
+    → (view_of (setup_in terms) old).replies (name_of client (suc i)) ≡ Some reply
+    → (own_at (plan_in terms) new.moment (name_of client (suc i)) ≡ None) × ((view_of (setup_in terms) new).replies (name_of client (suc i)) ≡ Some reply)
+
+abbrev pub RepliesStaySo : Terms → Log → Entry → Type 0
+RepliesStaySo terms log e = All (RepliesStay terms (tale_at terms log) (tale_at terms (log ++ e ∷ []))) (tale_at terms log).clients
+
 -- and so it is with a last word: of who has one, what is due goes on with it
 abbrev pub GoesOnWith : (was is : Option LastWord) → (old new : List ℕ) → Type 0
 GoesOnWith None None old new = Unit {0}
