@@ -1,6 +1,6 @@
 -- As more is read of a client, more of its messages are taken up and more of them are answered, what it is due goes on, but for last words.
 use Rattle.std.specs.Prelude.{◌≡◌, ◌+◌, ◌≤◌, ℕ, zero, suc, Bool, true, false, if◌then◌else◌, is_some, length, nat_eq, take, List, [], ◌∷◌, ◌++◌, Option, Some, None}
-use Rattle.std.proofs.Common.{refl, sym, ap, ◌∙◌, subst, append_assoc, append-nil, arith, length-append}
+use Rattle.std.proofs.Common.{refl, sym, ap, ◌∙◌, subst, append_assoc, append-nil, arith}
 use Rattle.std.proofs.lemmas.Bool.{eqb-true}
 use Rattle.std.proofs.lemmas.List.{length-take}
 use Rattle.client_session.specs.Accounts.{account_of}
@@ -15,7 +15,7 @@ use Rattle.private_model.specs.Commands.{Reply}
 use Rattle.private_model.specs.Names.{MessageName}
 use Rattle.reply_track.specs.Grammar.{renamed}
 use Rattle.log_story.specs.Honest.{IsFront}
-use Rattle.log_story.specs.Owed.{answered_with, due_for, due_until, error_behind, kind_of, last_error, messages, name_of, number_of, talk_of}
+use Rattle.log_story.specs.Owed.{answered_with, due_for, due_until, error_behind, kind_of, messages, name_of, number_of, talk_of}
 use Rattle.log_story.specs.Plan.{Plan, own_at}
 use Rattle.log_story.specs.Tale.{Client}
 use Rattle.log_story.proofs.Writing.{front-trans}

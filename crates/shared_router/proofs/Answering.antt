@@ -1,7 +1,7 @@
 -- The router's own answers stay as moments go on: so answers stay where replies do.
-use Rattle.std.specs.Prelude.{◌≡◌, ◌≤◌, All, ℕ, suc, Bool, true, false, if◌then◌else◌, nat_le, slice_index_or, List, [], ◌∷◌, ◌++◌, Option, Some, None}
+use Rattle.std.specs.Prelude.{◌≡◌, ◌≤◌, ℕ, suc, Bool, true, false, if◌then◌else◌, nat_le, slice_index_or, List, [], ◌∷◌, ◌++◌, Option, Some, None}
 use Rattle.std.specs.Option.{option_and_then}
-use Rattle.std.proofs.Common.{refl, sym, ap, ◌∙◌, subst, append_assoc, arith}
+use Rattle.std.proofs.Common.{refl, ap, ◌∙◌, subst, append_assoc, arith}
 use Rattle.std.proofs.lemmas.Bool.{le-leb, leb-true}
 use Rattle.mx_wire.specs.Log.{Log}
 use Rattle.mx_wire.specs.Moments.{LawfulAfter}

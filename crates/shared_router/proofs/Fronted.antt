@@ -5,7 +5,7 @@ use Rattle.std.proofs.Common.{refl, sym, ap, ◌∙◌, subst, append_assoc, app
 use Rattle.mx_base.specs.declared.names.LinkId.{LinkId}
 use Rattle.mx_base.specs.declared.tag.Tag.{Tag}
 use Rattle.mx_wire.specs.Growth.{bytes-idle, bytes-other, bytes-same}
-use Rattle.mx_wire.specs.Log.{Log, is_link, link_of, of_link, wrote_bytes, written_of}
+use Rattle.mx_wire.specs.Log.{Log, is_link, link_of, wrote_bytes, written_of}
 use Rattle.mx_wire.specs.Moments.{AtEachMoment, LawfulAfter, lawful-more}
 use Rattle.mx_wire.specs.Tells.{Fits}
 use Rattle.mx_wire.specs.declared.entry.Entry.{Entry}
@@ -13,12 +13,10 @@ use Rattle.mx_wire.specs.declared.entry.Entry.TheVariants as entry
 use Rattle.private_model.proofs.Maps as maps
 use Rattle.private_model.specs.Story.{is_link_id}
 use Rattle.log_story.specs.Honest.{IsFront}
-use Rattle.log_story.specs.Owed.{due_bytes}
 use Rattle.log_story.specs.Plan.{Plan}
 use Rattle.log_story.specs.Tale.{Client, Tale, client_gets, client_hears, is_to_server, new_client, view_of}
 use Rattle.log_story.specs.Telling.{tale_step, told}
 use Rattle.log_story.proofs.Writing.{front-trans}
-use Rattle.tale_world.specs.Decided.{plan_of}
 use Rattle.tale_world.specs.Deciding.{World}
 use Rattle.router_promises.specs.Due.{DueSo, due_to}
 use Rattle.router_promises.specs.Terms.{Terms, tale_at}
@@ -27,7 +25,7 @@ use Rattle.shared_router.specs.Known.{Known, known}
 use Rattle.shared_router.specs.More.{More}
 use Rattle.shared_router.specs.Onward.{GoOn, GoesOn, GoesOnSo, due_in}
 use Rattle.shared_router.specs.Ours.{IsOurs}
-use Rattle.shared_router.specs.Owed.{Owed, owed_on_client, owed_on_server}
+use Rattle.shared_router.specs.Owed.{owed_on_client, owed_on_server}
 use Rattle.shared_router.specs.Shared.{final_terms, world_at}
 use Rattle.shared_router.proofs.Apart as apart
 use Rattle.shared_router.proofs.Apart.{IsSeat, seats_at}

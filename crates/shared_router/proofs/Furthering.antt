@@ -1,7 +1,7 @@
 -- Behind an entry each client was read, and has taken up, as much or more; and no more than its messages.
-use Rattle.std.specs.Prelude.{◌≡◌, ◌+◌, ◌≤◌, ◌<◌, All, ℕ, zero, suc, Bool, true, false, ◌&&◌, ◌||◌, not, fold, length, map, if◌then◌else◌, slice_get, List, [], ◌∷◌, ◌++◌, Option, Some, None}
+use Rattle.std.specs.Prelude.{◌≡◌, ◌+◌, ◌≤◌, ◌<◌, ℕ, zero, suc, Bool, true, false, ◌&&◌, ◌||◌, not, fold, length, map, if◌then◌else◌, slice_get, List, [], ◌∷◌, ◌++◌, Option, Some, None}
 use Rattle.std.specs.Option.{option_map_or}
-use Rattle.std.proofs.Common.{refl, sym, ap, ◌∙◌, subst, append_assoc, append-nil, arith, inl, inr, length-append}
+use Rattle.std.proofs.Common.{refl, sym, ap, ◌∙◌, subst, append-nil, arith, inl, inr, length-append}
 use Rattle.std.proofs.lemmas.Option.{slice_get_within}
 use Rattle.mx_wire.specs.Log.{Log}
 use Rattle.mx_wire.specs.Moments.{LawfulAfter}
@@ -9,8 +9,7 @@ use Rattle.mx_wire.specs.declared.entry.Entry.{Entry}
 use Rattle.mx_wire.specs.declared.entry.Entry.TheVariants as entry
 use Rattle.packet_frame.specs.Packets.{Framed}
 use Rattle.private_model.proofs.Maps.{client_of}
-use Rattle.private_model.specs.Commands.{Reply}
-use Rattle.private_model.specs.Names.{ClientNo, MessageName}
+use Rattle.private_model.specs.Names.{ClientNo}
 use Rattle.private_model.specs.Story.{is_client, is_link_id}
 use Rattle.private_model.specs.View.{Setup, View}
 use Rattle.log_story.specs.Clients.{client_goes_on, is_event_of, is_up, next_taken, taken_by, taken_up}
@@ -20,12 +19,12 @@ use Rattle.log_story.specs.Plan.{Plan, gives_up, is_before}
 use Rattle.log_story.specs.Tale.{Client, Tale, client_gets, client_hears, first_tale, is_to_server, new_client, view_of, with_client}
 use Rattle.log_story.specs.Telling.{tale_step, told}
 use Rattle.router_promises.specs.Terms.{Terms, plan_in, setup_in, tale_at}
-use Rattle.shared_router.specs.Onward.{AnswersStay, AnswersStaySo, GoOn, UntilGoesOn, UntilGoesOnSo, until_in}
+use Rattle.shared_router.specs.Onward.{AnswersStay, AnswersStaySo, GoOn, UntilGoesOnSo, until_in}
 use Rattle.shared_router.proofs.Adding.{messages_on, until_on}
 use Rattle.shared_router.proofs.Looked.{Each}
 use Rattle.shared_router.proofs.Numbered.{AreNumbered, IsIn}
 use Rattle.shared_router.proofs.Parting.{fold_more}
-use Rattle.shared_router.proofs.Seated.{AllOf, IsLike, clients_by, freed, freed_clients, gone, numbered_step, numbered_told, step_clients, taken_clients, told_clients}
+use Rattle.shared_router.proofs.Seated.{AllOf, IsLike, clients_by, freed, freed_clients, numbered_step, numbered_told, step_clients, taken_clients, told_clients}
 use Rattle.shared_router.proofs.Users as users
 
 either : {A : Type 0} (P : A → Type 0) (b : Bool) (x y : A) → P x → P y → P (if b then x else y)

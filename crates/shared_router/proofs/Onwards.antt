@@ -3,7 +3,6 @@ use Rattle.std.specs.Prelude.{ℕ, List, [], ◌∷◌, ◌++◌, Option, Some, 
 use Rattle.client_session.specs.Answers.{Talk}
 use Rattle.mx_wire.specs.Log.{Log}
 use Rattle.mx_wire.specs.Moments.{LawfulAfter}
-use Rattle.mx_wire.specs.declared.entry.Entry.{Entry}
 use Rattle.log_story.specs.Honest.{IsFront}
 use Rattle.log_story.specs.Owed.{talk_of, with_word}
 use Rattle.log_story.specs.Plan.{LastWord, word_at}

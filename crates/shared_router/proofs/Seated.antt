@@ -222,7 +222,7 @@ module _ (setup : Setup) (plan : Plan) where
   pub freed_clients : (tale : Tale) (e : Entry) → (freed tale e).clients ≡ (told setup plan tale e).clients
   freed_clients tale e = freeing_clients (told setup plan tale e).links (counted (told setup plan tale e))
 
-  abbrev pub gone : Tale → Entry → Tale
+  abbrev gone : Tale → Entry → Tale
   gone tale e = clients_go_on setup plan (view_of setup tale) e (freed tale e)
 
   pub step_clients : (tale : Tale) (e : Entry) → (tale_step setup plan tale e).clients ≡ (gone tale e).clients
