@@ -82,3 +82,8 @@ pub mod Sufficing
 pub mod Gathering
 pub mod Blank
 pub mod Starting
+pub mod Fronted
+pub mod Adding
+pub mod Furthering
+pub mod Onwards
+pub mod Answering

@@ -79,7 +79,7 @@ dropped_none : (n : ℕ) → drop {A = ℕ} n [] ≡ []
 dropped_none zero = refl
 dropped_none (suc n) = refl
 
-on_front : (written bytes whole : List ℕ) → IsFront written whole → IsFront bytes (drop (length written) whole) → IsFront (written ++ bytes) whole
+pub on_front : (written bytes whole : List ℕ) → IsFront written whole → IsFront bytes (drop (length written) whole) → IsFront (written ++ bytes) whole
 on_front written bytes whole old new =
     let rest : drop (length written) whole ≡ old.rest = ap (drop (length written)) (sym old.is) ∙ dropped written old.rest in
     record { rest = new.rest; is = append_assoc written bytes new.rest ∙ ap (λ (xs : List ℕ). written ++ xs) (new.is ∙ rest) ∙ old.is }

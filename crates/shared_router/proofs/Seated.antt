@@ -175,7 +175,7 @@ module _ (setup : Setup) (plan : Plan) where
   due_clients client i route None tale = refl
   due_clients client i route (Some request) tale = copied_clients (name_of client i) request.command route.mirror _
 
-  taken_clients : (client : Client) (i : ℕ) (message : Framed) (route : Option Route) (tale : Tale) → (taken_by setup plan client i message route tale).clients ≡ tale.clients
+  pub taken_clients : (client : Client) (i : ℕ) (message : Framed) (route : Option Route) (tale : Tale) → (taken_by setup plan client i message route tale).clients ≡ tale.clients
   taken_clients client i message None tale =
       same_clients (nat_eq (slice_index_or message.payload 0 0) com_reset) (tell (Left client.number) tale) tale tale.clients refl refl
   taken_clients client i message (Some route) tale = due_clients client i route (requested setup (view_of setup tale) plan client i route message.payload) tale
@@ -216,16 +216,16 @@ module _ (setup : Setup) (plan : Plan) where
         (either Has ((is_event_of view x e || gives_up plan tale.moment (name_of x x.taken)) && not (is_before tale.moment (plan.ends x.number)))
         (taken_up (length (messages plan x)) setup plan x tale) tale (up_has (length (messages plan x)) x tale all.0 has) has)
 
-  abbrev freed : Tale → Entry → Tale
+  abbrev pub freed : Tale → Entry → Tale
   freed tale e = links_are_freed setup plan (counted (told setup plan tale e))
 
-  freed_clients : (tale : Tale) (e : Entry) → (freed tale e).clients ≡ (told setup plan tale e).clients
+  pub freed_clients : (tale : Tale) (e : Entry) → (freed tale e).clients ≡ (told setup plan tale e).clients
   freed_clients tale e = freeing_clients (told setup plan tale e).links (counted (told setup plan tale e))
 
   abbrev gone : Tale → Entry → Tale
   gone tale e = clients_go_on setup plan (view_of setup tale) e (freed tale e)
 
-  step_clients : (tale : Tale) (e : Entry) → (tale_step setup plan tale e).clients ≡ (gone tale e).clients
+  pub step_clients : (tale : Tale) (e : Entry) → (tale_step setup plan tale e).clients ≡ (gone tale e).clients
   step_clients tale e =
       let ended : Tale = clients_are_ended plan (gone tale e) in freeing_clients ended.links ended ∙ ending_clients (gone tale e).clients (gone tale e)
 

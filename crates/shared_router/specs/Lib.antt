@@ -17,3 +17,4 @@ pub mod Sends
 pub mod Given
 pub mod Leads
 pub mod Waited
+pub mod Onward

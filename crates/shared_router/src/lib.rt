@@ -6,6 +6,7 @@ pub mod departing;
 mod gives_up;
 mod keys;
 mod links;
+mod replies;
 mod rests;
 mod waits;
 mod words;
