@@ -1,6 +1,7 @@
 // Packets, and the payloads of logins, commands and replies. What a reader reads stands above its function.
 mod client;
 mod command;
+mod command_table;
 mod framing;
 mod login;
 mod number;
@@ -35,6 +36,8 @@ pub fn read(fields: &mut Fields<'_>) {
         "parse" => command::parse(fields),
         "statement_of" => command::statement_of(fields),
         "has_no_reply" => command::has_no_reply(fields),
+        "command" => command_table::parse(fields),
+        "command_row" => command_table::row(fields),
         "write_switch" => rewrite::switch(fields),
         "greeted" | "told" => client::serve(fields),
         "backend" => server::log_in(fields),

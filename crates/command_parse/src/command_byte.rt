@@ -10,6 +10,8 @@ pub(crate) const COM_QUERY: u8 = 0x03;
 pub(crate) const COM_FIELD_LIST: u8 = 0x04;
 /// Asks whether the server is alive (client/server protocol, "COM_PING").
 pub(crate) const COM_PING: u8 = 0x0E;
+/// Prepares a statement (client/server protocol, "COM_STMT_PREPARE").
+pub(crate) const COM_STMT_PREPARE: u8 = 0x16;
 /// Runs a prepared statement (client/server protocol, "COM_STMT_EXECUTE").
 pub(crate) const COM_STMT_EXECUTE: u8 = 0x17;
 /// Sends a part of a parameter (client/server protocol, "COM_STMT_SEND_LONG_DATA").
@@ -20,3 +22,5 @@ pub(crate) const COM_STMT_CLOSE: u8 = 0x19;
 pub(crate) const COM_STMT_RESET: u8 = 0x1A;
 /// Fetches rows of a statement's cursor (client/server protocol, "COM_STMT_FETCH").
 pub(crate) const COM_STMT_FETCH: u8 = 0x1C;
+/// Begins the session anew (client/server protocol, "COM_RESET_CONNECTION").
+pub(crate) const COM_RESET_CONNECTION: u8 = 0x1F;
