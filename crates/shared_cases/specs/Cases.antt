@@ -1,5 +1,5 @@
 -- The worked logs of the promise, and what the router goes by in them.
-use Rattle.std.specs.Prelude.{◌++◌, false, drop, nat_eq, take, if◌then◌else◌, [], ◌∷◌, Some, None}
+use Rattle.std.specs.Prelude.{◌++◌, false, true, drop, nat_eq, take, if◌then◌else◌, [], ◌∷◌, Some, None}
 use Rattle.mx_base.specs.declared.tag.Tag.TheVariants.{Own as OwnTag}
 use Rattle.mx_wire.specs.Log.{Log}
 use Rattle.mx_wire.specs.declared.entry.Entry.TheVariants.{Got, Wrote}
@@ -22,6 +22,8 @@ fixed = record {
   stored = nothing;
   ids = λ n. if nat_eq n 0 then Some zero_id else None;
   starves = λ entry c. false;
+  prefers = λ entry one other. true;
+  picks = λ entry hostgroup. record { 0 = 1 };
 }
 
 -- of prepared statements there is the one

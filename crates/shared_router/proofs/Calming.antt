@@ -22,8 +22,8 @@ use Rattle.tale_world.specs.Policy.{Rest, Waiter, wants_link}
 use Rattle.tale_world.specs.Served.{AreServed}
 use Rattle.tale_world.proofs.Policies.{none_opened}
 use Rattle.router_promises.specs.Closes.{is_full, is_in_the_way, is_joined, is_past_reset, is_spoilt, is_unlent, was_amiss, was_refused}
-use Rattle.router_promises.specs.Keys.{LinkKey, has_room, has_room_in, how_many, is_at_work, is_free, is_in, is_nobodys, is_opening, is_resting, key_of, numbered_from, waiting}
-use Rattle.router_promises.specs.Now.{Now, is_here, link_now, now_at, wire_now}
+use Rattle.router_promises.specs.Keys.{LinkKey, has_room_in, how_many, is_at_work, is_free, is_in, is_nobodys, is_opening, is_resting, key_of, numbered_from, waiting}
+use Rattle.router_promises.specs.Now.{Now, entry_now, is_here, link_now, now_at, wire_now}
 use Rattle.router_promises.specs.Running.{is_soft, status_in}
 use Rattle.router_promises.specs.Terms.{Terms}
 use Rattle.shared_router.specs.Fixed.{Fixed, IsNumbered, setup_of}
@@ -34,7 +34,7 @@ use Rattle.shared_router.specs.Ours.{IsOurs, MayWait}
 use Rattle.shared_router.specs.Owed.{asks, close_by, is_to_close, parts}
 use Rattle.shared_router.specs.Rests.{LeavesInTime, CalmSo, HasEnough, IsCalm, IsKept}
 use Rattle.shared_router.specs.Shared.{final_terms, world_at}
-use Rattle.shared_router.specs.Wishes.{pick, wanted_by}
+use Rattle.shared_router.specs.Wishes.{can_open, pick, wanted_by}
 use Rattle.shared_router.proofs.Closing.{spoilt_same}
 use Rattle.shared_router.proofs.Counting.{settled_free, settled_opening, settled_unsent}
 use Rattle.shared_router.proofs.Lasting.{alike_at}
@@ -200,13 +200,15 @@ module _ (k : Known) (key : LinkKey) where
       let unsent : policy.unsent (settled k) (as_key key) ≡ waits = settled_unsent k (as_key key) in
       let free : policy.free (settled k) (as_key key) ≡ frees = settled_free k (as_key key) in
       let opening : policy.opening (settled k) (as_key key) ≡ opens = settled_opening k (as_key key) in
+      let first : ServerId = k.fixed.picks (entry_now k.now) key.hostgroup in
       elim (enough_so (settled k) (pick k) (as_key key) (settled k).waiters (none_opened (settled k) (pick k) (settled k).waiters (nothing_opens k is))) [
         | inl none ↦ inl (let zero_waits : policy.unsent (settled k) (as_key key) ≡ 0 = none in omega (arith, zero_waits, unsent))
         | inr some ↦ elim some [
           | inl few ↦ inl (let more : policy.unsent (settled k) (as_key key) < suc (policy.free (settled k) (as_key key) + policy.opening (settled k) (as_key key)) =
               leb-false (suc (policy.free (settled k) (as_key key) + policy.opening (settled k) (as_key key))) (policy.unsent (settled k) (as_key key)) few in
               omega (arith, more, unsent, free, opening))
-          | inr full ↦ inr (none_any (λ server. is_in k.terms.router server key.hostgroup && has_room k.log k.now server) (numbered_from 1 k.terms.router.servers) full)
+          | inr full ↦ inr (right_false (can_open k key.hostgroup first) (has_room_in k.terms.router k.log k.now key.hostgroup)
+              (none_any (can_open k key.hostgroup) (first ∷ numbered_from 1 k.terms.router.servers) full))
         ]
       ]
 

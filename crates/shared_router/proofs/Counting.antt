@@ -14,7 +14,7 @@ use Rattle.tale_world.specs.Tests.{is_flag}
 use Rattle.router_promises.specs.Keys as keys
 use Rattle.router_promises.specs.Keys.{LinkKey, how_many, is_free, is_of_key, is_opening, is_same, is_waiting, key_for, key_of, waiters_in, waiting}
 use Rattle.router_promises.specs.Now.{wire_now}
-use Rattle.shared_router.specs.Known.{Known, link_by, present_by, setup_by, view_by}
+use Rattle.shared_router.specs.Known.{Known, present_by, setup_by, view_by}
 use Rattle.shared_router.specs.Lends.{as_key, idle_at, is_readied_for, kept, lending, lent, opening_at, rest_of, settled, waiter_of, waiters_by}
 use Rattle.shared_router.proofs.Later.{adds}
 
@@ -94,7 +94,7 @@ module _ (k : Known) (key : policy.Key) where
 
   idle_is : (link : LinkId) → option_map_or (λ (i : Idle). policy.is_key i.key key) (idle_at k link) false ≡ (is_of_key k.terms k.now (from_key key) link && is_free k.terms k.log k.now link)
   idle_is link = of_link
-      (λ a. record { link = link; key = as_key a; told = (link_by k link).told; id = (link_by k link).id; since = (k.now.uses link).used })
+      (λ a. record { link = link; key = as_key a })
       (λ (i : Idle). i.key) (λ a. refl) (is_free k.terms k.log k.now link) (key_of k.terms k.now link)
 
   opening_is : (link : LinkId)

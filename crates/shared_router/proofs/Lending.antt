@@ -1,5 +1,5 @@
 -- Links are lent until none that waits without a link finds a free one of its key.
-use Rattle.std.specs.Prelude.{◌≡◌, ◌+◌, ◌≤◌, ℕ, zero, suc, Bool, true, false, not, ◌||◌, is_some, length, nat_le, if◌then◌else◌, List, [], ◌∷◌, Option, Some, None}
+use Rattle.std.specs.Prelude.{◌≡◌, ◌+◌, ◌≤◌, ℕ, zero, suc, Bool, true, false, not, ◌||◌, is_some, length, if◌then◌else◌, List, [], ◌∷◌, Option, Some, None}
 use Rattle.std.specs.List.{cons_option, filter_map, list_any}
 use Rattle.std.specs.Option.{option_map, option_map_or}
 use Rattle.std.proofs.Common.{refl, sym, ap, ◌∙◌, subst, arith, inl, inr}
@@ -8,14 +8,13 @@ use Rattle.mx_base.specs.declared.names.LinkId.{LinkId}
 use Rattle.private_model.proofs.Maps.{link_of, same_link, same_name}
 use Rattle.private_model.specs.Names.{SessionName}
 use Rattle.private_model.specs.Story.{is_link_id, is_name}
-use Rattle.session_state.specs.declared.place.Place.{Place}
 use Rattle.log_story.specs.Tale.{is_to_server}
 use Rattle.tale_world.specs.Policy as policy
-use Rattle.tale_world.specs.Policy.{Idle, Lends, Readied, Rest, Waiter, best, better, is_open_to, next_lend, steps_left}
+use Rattle.tale_world.specs.Policy.{Idle, Lends, Readied, Rest, Waiter, best, better, is_open_to, next_lend}
 use Rattle.tale_world.specs.Served.{AreLent, IsLent}
 use Rattle.tale_world.proofs.Policies.{none_lent}
 use Rattle.router_promises.specs.Keys.{LinkKey, is_free, key_of}
-use Rattle.shared_router.specs.Known.{Known, link_by}
+use Rattle.shared_router.specs.Known.{Known}
 use Rattle.shared_router.specs.Lends.{as_key, idle_at, is_readied_for, kept, lending, lent, readied_now, rest_of, settled, waiters_by}
 use Rattle.shared_router.specs.Lent.{HasLink, HaveLinks}
 use Rattle.shared_router.proofs.Counting.{settled_so}
@@ -48,26 +47,26 @@ module _ (links : List LinkId) where
     pub nobody : readied link ≡ None
     pub there : list_any (is_link_id link) links ≡ true
 
-  best_open : (rest : Rest) (key : policy.Key) (place : Place) (idle : List Idle) (one : Idle) → AllIn idle → best rest key place idle ≡ Some one → IsOpen rest.readied one.link
-  best_open rest key place [] one all is = no_some one is
-  best_open rest key place (x ∷ idle) one all is = by_open (is_open_to rest key x) refl is (best_open rest key place idle) where
+  best_open : (rest : Rest) (key : policy.Key) (idle : List Idle) (one : Idle) → AllIn idle → best rest key idle ≡ Some one → IsOpen rest.readied one.link
+  best_open rest key [] one all is = no_some one is
+  best_open rest key (x ∷ idle) one all is = by_open (is_open_to rest key x) refl is (best_open rest key idle) where
     its : is_open_to rest key x ≡ true → IsOpen rest.readied x.link
     its opened = record { nobody = none_of (rest.readied x.link) (and_parts (policy.is_key x.key key) _ opened).1; there = all.0 }
 
     named : (a : Idle) → Some a ≡ Some one → IsOpen rest.readied a.link → IsOpen rest.readied one.link
     named a same is_open = let one_is : a ≡ one = cc in subst (λ (i : Idle). IsOpen rest.readied i.link) one_is is_open
 
-    by_better : (o : Option Idle) → best rest key place idle ≡ o → ((other : Idle) → AllIn idle → best rest key place idle ≡ Some other → IsOpen rest.readied other.link)
-        → is_open_to rest key x ≡ true → better place x o ≡ Some one → IsOpen rest.readied one.link
+    by_better : (o : Option Idle) → best rest key idle ≡ o → ((other : Idle) → AllIn idle → best rest key idle ≡ Some other → IsOpen rest.readied other.link)
+        → is_open_to rest key x ≡ true → better rest x o ≡ Some one → IsOpen rest.readied one.link
     by_better None at later opened is = named x is (its opened)
-    by_better (Some other) at later opened is = by_less (nat_le (steps_left x.told place) (steps_left other.told place)) is where
+    by_better (Some other) at later opened is = by_less (rest.prefers x.link other.link) is where
       by_less : (b : Bool) → (if b then Some x else Some other) ≡ Some one → IsOpen rest.readied one.link
       by_less true is = named x is (its opened)
       by_less false is = named other is (later other all.1 at)
 
-    by_open : (b : Bool) → is_open_to rest key x ≡ b → (if b then better place x (best rest key place idle) else best rest key place idle) ≡ Some one
-        → ((other : Idle) → AllIn idle → best rest key place idle ≡ Some other → IsOpen rest.readied other.link) → IsOpen rest.readied one.link
-    by_open true opened is later = by_better (best rest key place idle) refl later opened is
+    by_open : (b : Bool) → is_open_to rest key x ≡ b → (if b then better rest x (best rest key idle) else best rest key idle) ≡ Some one
+        → ((other : Idle) → AllIn idle → best rest key idle ≡ Some other → IsOpen rest.readied other.link) → IsOpen rest.readied one.link
+    by_open true opened is later = by_better (best rest key idle) refl later opened is
     by_open false opened is later = later one all.1 is
 
   -- Who had one keeps it, and one more has one.
@@ -137,7 +136,7 @@ module _ (links : List LinkId) where
         let tail = none_more rest.readied lends ws free in
         (free, omega (arith, new, old, tail))
 
-    by_best : is_readied_for links rest.readied w.name ≡ false → (o : Option Idle) → best rest w.key w.due.place rest.idle ≡ o
+    by_best : is_readied_for links rest.readied w.name ≡ false → (o : Option Idle) → best rest w.key rest.idle ≡ o
         → option_map_or (λ (one : Idle). Some (record { link = one.link; to = record { name = w.name; due = w.due } })) o (next_lend rest (is_readied_for links rest.readied) ws) ≡ Some lends
         → (next_lend rest (is_readied_for links rest.readied) ws ≡ Some lends → Found)
         → IsOpen rest.readied lends.link × (suc (unserved (lent lends rest.readied) (w ∷ ws)) ≤ unserved rest.readied (w ∷ ws))
@@ -146,14 +145,14 @@ module _ (links : List LinkId) where
         let mine : Lends = record { link = one.link; to = record { name = w.name; due = w.due } } in
         let same : mine ≡ lends = cc in
         here unserved_yet (ap (λ (l : Lends). l.to.name) (sym same))
-        (subst (λ (l : Lends). IsOpen rest.readied l.link) same (best_open rest w.key w.due.place rest.idle one all at))
+        (subst (λ (l : Lends). IsOpen rest.readied l.link) same (best_open rest w.key rest.idle one all at))
 
     by_served : (b : Bool) → is_readied_for links rest.readied w.name ≡ b → (if b then next_lend rest (is_readied_for links rest.readied) ws
-        else option_map_or (λ (one : Idle). Some (record { link = one.link; to = record { name = w.name; due = w.due } })) (best rest w.key w.due.place rest.idle) (next_lend rest (is_readied_for links rest.readied) ws)) ≡ Some lends
+        else option_map_or (λ (one : Idle). Some (record { link = one.link; to = record { name = w.name; due = w.due } })) (best rest w.key rest.idle) (next_lend rest (is_readied_for links rest.readied) ws)) ≡ Some lends
         → (next_lend rest (is_readied_for links rest.readied) ws ≡ Some lends → Found)
         → IsOpen rest.readied lends.link × (suc (unserved (lent lends rest.readied) (w ∷ ws)) ≤ unserved rest.readied (w ∷ ws))
     by_served true served is later = onward (later is)
-    by_served false unserved_yet is later = by_best unserved_yet (best rest w.key w.due.place rest.idle) refl is later
+    by_served false unserved_yet is later = by_best unserved_yet (best rest w.key rest.idle) refl is later
 
   all_served : (rest : Rest) (ws : List Waiter) → unserved rest.readied ws ≤ 0 → AreLent rest (is_readied_for links rest.readied) ws
   all_served rest [] none = tt
@@ -192,7 +191,7 @@ module _ (k : Known) where
       (all_in links xs (λ link there. sub link (or_right (is_link_id link x) _ there)))
     where
       by_free : (b : Bool) (o : Option LinkKey) → AllIn links (filter_map (idle_at k) xs)
-          → AllIn links (cons_option (if b then option_map (λ key. record { link = x; key = as_key key; told = (link_by k x).told; id = (link_by k x).id; since = (k.now.uses x).used }) o else None) (filter_map (idle_at k) xs))
+          → AllIn links (cons_option (if b then option_map (λ key. record { link = x; key = as_key key }) o else None) (filter_map (idle_at k) xs))
       by_free true None later = later
       by_free true (Some key) later = (sub x (or_left (is_link_id x x) _ (same_link x)), later)
       by_free false o later = later
@@ -222,12 +221,12 @@ module _ (k : Known) where
   module _ (link : LinkId) (key : LinkKey) (there : is_to_server k.now.tale link ≡ true) (free : is_free k.terms k.log k.now link ≡ true)
       (keyed : key_of k.terms k.now link ≡ Some key) (alone : readied_now k link ≡ None) where
     abbrev idle : Idle
-    idle = record { link = link; key = as_key key; told = (link_by k link).told; id = (link_by k link).id; since = (k.now.uses link).used }
+    idle = record { link = link; key = as_key key }
 
     idle_is : idle_at k link ≡ Some idle
     idle_is =
-        ap (λ b. if b then option_map (λ (a : LinkKey). record { link = link; key = as_key a; told = (link_by k link).told; id = (link_by k link).id; since = (k.now.uses link).used }) (key_of k.terms k.now link) else None) free
-        ∙ ap (λ o. option_map (λ (a : LinkKey). record { link = link; key = as_key a; told = (link_by k link).told; id = (link_by k link).id; since = (k.now.uses link).used }) o) keyed
+        ap (λ b. if b then option_map (λ (a : LinkKey). record { link = link; key = as_key a }) (key_of k.terms k.now link) else None) free
+        ∙ ap (λ o. option_map (λ (a : LinkKey). record { link = link; key = as_key a }) o) keyed
 
     open_to : (w : policy.Key) → policy.is_key (as_key key) w ≡ true → is_open_to (settled k) w idle ≡ true
     open_to w is = and_from (policy.is_key (as_key key) w) _ is (ap (λ o. not (is_some o)) alone)

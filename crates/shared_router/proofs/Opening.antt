@@ -40,7 +40,7 @@ use Rattle.shared_router.specs.More.{More, now_of, terms_of}
 use Rattle.shared_router.specs.Ours.{IsOurs, OpensThere}
 use Rattle.shared_router.specs.Shared.{final_terms, shared, world_at}
 use Rattle.shared_router.proofs.Accounts.{AreUsers, IsUser, UsersSo}
-use Rattle.shared_router.specs.Wishes.{opened_for, pick, tried_by}
+use Rattle.shared_router.specs.Wishes.{can_open, opened_for, pick, tried_by}
 use Rattle.shared_router.proofs.Counting.{from_key, settled_free, settled_opening, settled_so, settled_unsent}
 use Rattle.shared_router.proofs.Later.{free_count, opening_count, waiters_same}
 use Rattle.shared_router.proofs.Lasting.{alike_at, bare_from, opened_as, opened_there, tried_from}
@@ -134,7 +134,7 @@ module _ (fixed : Fixed) (w : World More) where
       let its : IsWantedBy fixed (pick k) wanted =
       wanted_so fixed (settled k) (pick k) (settled k).waiters wanted (subst (AllUsers fixed) (sym (settled_so k).waiters) (waiters_users users k.now.tale.story)) is.next in
       let passes : (is_in fixed.router wanted.server wanted.key.hostgroup && has_room k.log k.now wanted.server) ≡ true =
-      found_so (λ s. is_in fixed.router s wanted.key.hostgroup && has_room k.log k.now s) (numbered_from 1 fixed.router.servers) wanted.server its.there in
+      found_so (can_open k wanted.key.hostgroup) (fixed.picks (entry_now k.now) wanted.key.hostgroup ∷ numbered_from 1 fixed.router.servers) wanted.server its.there in
       let few : policy.free (settled k) wanted.key + policy.opening (settled k) wanted.key < policy.unsent (settled k) wanted.key =
       opens_few (settled k) (pick k) (settled k).waiters wanted is.next in
       let key : LinkKey = from_key wanted.key in

@@ -1,5 +1,5 @@
 -- Links are readied for statements that wait.
-use Rattle.std.specs.Prelude.{◌≡◌, ℕ, zero, suc, Bool, true, false, cond, find, length, nat_eq, nat_le, if◌then◌else◌, List, [], ◌∷◌, ◌++◌, Option, Some, None}
+use Rattle.std.specs.Prelude.{◌≡◌, ℕ, zero, suc, Bool, true, false, cond, find, length, nat_eq, if◌then◌else◌, List, [], ◌∷◌, ◌++◌, Option, Some, None}
 use Rattle.std.specs.List.{cons_option, filter_map}
 use Rattle.std.specs.Option.{option_and_then, option_map, option_map_or}
 use Rattle.std.proofs.Common.{refl, sym, ap, ◌∙◌, subst}
@@ -8,13 +8,12 @@ use Rattle.mx_base.specs.declared.names.LinkId.{LinkId}
 use Rattle.private_model.proofs.Maps.{link_of, number_of}
 use Rattle.private_model.specs.Names.{SessionName}
 use Rattle.private_model.specs.Story.{BecameDue, Due, Story, is_link_id}
-use Rattle.session_state.specs.declared.place.Place.{Place}
 use Rattle.tale_world.specs.Policy as policy
-use Rattle.tale_world.specs.Policy.{Idle, Lends, Readied, Rest, Waiter, best, better, is_open_to, next_lend, steps_left}
+use Rattle.tale_world.specs.Policy.{Idle, Lends, Readied, Rest, Waiter, best, better, is_open_to, next_lend}
 use Rattle.router_promises.specs.Dues.{is_unsent}
 use Rattle.router_promises.specs.Keys as keys
 use Rattle.router_promises.specs.Keys.{LinkKey, is_free, is_vacant, is_waiting, key_for, key_of}
-use Rattle.shared_router.specs.Known.{Known, link_by, present_by, setup_by, view_by}
+use Rattle.shared_router.specs.Known.{Known, present_by, setup_by, view_by}
 use Rattle.shared_router.specs.Lends.{as_key, as_readied, idle_at, if_near, is_near, is_readied_for, is_waiter, kept, lending, lent, readied_now, rest_of, still_waits, waiter_of, waiters_by}
 use Rattle.shared_router.specs.Waits.{Waits}
 use Rattle.shared_router.proofs.Counting.{key_is}
@@ -109,10 +108,10 @@ module _ (k : Known) where
       by_best (Some one) is later = subst (λ (x : Lends). P x.to) (some_of _ lends is) all.0
 
       by_served : (b : Bool) → (if b then next_lend rest is_served ws
-          else option_map_or (λ (one : Idle). Some (record { link = one.link; to = record { name = w.name; due = w.due } })) (best rest w.key w.due.place rest.idle) (next_lend rest is_served ws)) ≡ Some lends
+          else option_map_or (λ (one : Idle). Some (record { link = one.link; to = record { name = w.name; due = w.due } })) (best rest w.key rest.idle) (next_lend rest is_served ws)) ≡ Some lends
           → (next_lend rest is_served ws ≡ Some lends → P lends.to) → P lends.to
       by_served true is later = later is
-      by_served false is later = by_best (best rest w.key w.due.place rest.idle) is later
+      by_served false is later = by_best (best rest w.key rest.idle) is later
 
     lent_so : (lends : Lends) (readied : LinkId → Option Readied) → P lends.to → AreReady readied → AreReady (lent lends readied)
     lent_so lends readied waits are link r is = by_test (is_link_id lends.link link) is where
@@ -153,7 +152,7 @@ module _ (k : Known) where
   idle_so : (link : LinkId) (one : Idle) → idle_at k link ≡ Some one → IsIdle one
   idle_so link one is = by_free (is_free k.terms k.log k.now link) is where
     makes : LinkKey → Idle
-    makes key = record { link = link; key = as_key key; told = (link_by k link).told; id = (link_by k link).id; since = (k.now.uses link).used }
+    makes key = record { link = link; key = as_key key }
 
     by_key : (o : Option LinkKey) → key_of k.terms k.now link ≡ o → option_map makes o ≡ Some one → IsIdle one
     by_key None at is = no_some one is
@@ -176,20 +175,20 @@ module _ (k : Known) where
     pub idle : IsIdle one
     pub fits : policy.is_key one.key key ≡ true
 
-  best_so : (rest : Rest) (key : policy.Key) (place : Place) (idle : List Idle) (one : Idle) → AllIdle idle → best rest key place idle ≡ Some one → IsBest key one
-  best_so rest key place [] one all is = no_some one is
-  best_so rest key place (x ∷ idle) one all is = by_open (is_open_to rest key x) refl is (best_so rest key place idle) where
-    by_better : (o : Option Idle) → best rest key place idle ≡ o → ((other : Idle) → AllIdle idle → best rest key place idle ≡ Some other → IsBest key other)
-        → is_open_to rest key x ≡ true → better place x o ≡ Some one → IsBest key one
+  best_so : (rest : Rest) (key : policy.Key) (idle : List Idle) (one : Idle) → AllIdle idle → best rest key idle ≡ Some one → IsBest key one
+  best_so rest key [] one all is = no_some one is
+  best_so rest key (x ∷ idle) one all is = by_open (is_open_to rest key x) refl is (best_so rest key idle) where
+    by_better : (o : Option Idle) → best rest key idle ≡ o → ((other : Idle) → AllIdle idle → best rest key idle ≡ Some other → IsBest key other)
+        → is_open_to rest key x ≡ true → better rest x o ≡ Some one → IsBest key one
     by_better None at later opened is = subst (IsBest key) (some_of x one is) (record { idle = all.0; fits = (and_parts (policy.is_key x.key key) _ opened).0 })
-    by_better (Some other) at later opened is = by_less (nat_le (steps_left x.told place) (steps_left other.told place)) is where
+    by_better (Some other) at later opened is = by_less (rest.prefers x.link other.link) is where
       by_less : (b : Bool) → (if b then Some x else Some other) ≡ Some one → IsBest key one
       by_less true is = subst (IsBest key) (some_of x one is) (record { idle = all.0; fits = (and_parts (policy.is_key x.key key) _ opened).0 })
       by_less false is = subst (IsBest key) (some_of other one is) (later other all.1 at)
 
-    by_open : (b : Bool) → is_open_to rest key x ≡ b → (if b then better place x (best rest key place idle) else best rest key place idle) ≡ Some one
-        → ((other : Idle) → AllIdle idle → best rest key place idle ≡ Some other → IsBest key other) → IsBest key one
-    by_open true opened is later = by_better (best rest key place idle) refl later opened is
+    by_open : (b : Bool) → is_open_to rest key x ≡ b → (if b then better rest x (best rest key idle) else best rest key idle) ≡ Some one
+        → ((other : Idle) → AllIdle idle → best rest key idle ≡ Some other → IsBest key other) → IsBest key one
+    by_open true opened is later = by_better (best rest key idle) refl later opened is
     by_open false opened is later = later one all.1 is
 
   -- a waiter's key is of what is due in its session
@@ -236,18 +235,18 @@ module _ (k : Known) where
       → IsNear lends.link lends.to
   lends_near rest is_served [] lends all idle is = no_some lends is
   lends_near rest is_served (w ∷ ws) lends all idle is = by_served (is_served w.name) is (lends_near rest is_served ws lends all.1 idle) where
-    by_best : (o : Option Idle) → best rest w.key w.due.place rest.idle ≡ o
+    by_best : (o : Option Idle) → best rest w.key rest.idle ≡ o
         → option_map_or (λ (one : Idle). Some (record { link = one.link; to = record { name = w.name; due = w.due } })) o (next_lend rest is_served ws) ≡ Some lends
         → (next_lend rest is_served ws ≡ Some lends → IsNear lends.link lends.to) → IsNear lends.link lends.to
     by_best None at is later = later is
     by_best (Some one) at is later =
-        subst (λ (x : Lends). IsNear x.link x.to) (some_of _ lends is) (best_near w one all.0 (best_so rest w.key w.due.place rest.idle one idle at))
+        subst (λ (x : Lends). IsNear x.link x.to) (some_of _ lends is) (best_near w one all.0 (best_so rest w.key rest.idle one idle at))
 
     by_served : (b : Bool) → (if b then next_lend rest is_served ws
-        else option_map_or (λ (one : Idle). Some (record { link = one.link; to = record { name = w.name; due = w.due } })) (best rest w.key w.due.place rest.idle) (next_lend rest is_served ws)) ≡ Some lends
+        else option_map_or (λ (one : Idle). Some (record { link = one.link; to = record { name = w.name; due = w.due } })) (best rest w.key rest.idle) (next_lend rest is_served ws)) ≡ Some lends
         → (next_lend rest is_served ws ≡ Some lends → IsNear lends.link lends.to) → IsNear lends.link lends.to
     by_served true is later = later is
-    by_served false is later = by_best (best rest w.key w.due.place rest.idle) refl is later
+    by_served false is later = by_best (best rest w.key rest.idle) refl is later
 
   abbrev AreNear : (LinkId → Option Readied) → Type 0
   AreNear readied = (link : LinkId) (r : Readied) → readied link ≡ Some r → IsNear link r

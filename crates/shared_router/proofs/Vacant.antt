@@ -1,5 +1,5 @@
 -- A link that is readied is logged in and carries nobody.
-use Rattle.std.specs.Prelude.{◌≡◌, ℕ, zero, suc, Bool, true, false, length, nat_le, if◌then◌else◌, List, [], ◌∷◌, Option, Some, None}
+use Rattle.std.specs.Prelude.{◌≡◌, ℕ, zero, suc, Bool, true, false, length, if◌then◌else◌, List, [], ◌∷◌, Option, Some, None}
 use Rattle.std.specs.List.{cons_option, filter_map}
 use Rattle.std.specs.Option.{option_and_then, option_map, option_map_or}
 use Rattle.std.proofs.Common.{refl, subst}
@@ -8,12 +8,11 @@ use Rattle.mx_base.specs.declared.names.LinkId.{LinkId}
 use Rattle.private_model.proofs.Maps.{link_of}
 use Rattle.private_model.specs.Names.{SessionName}
 use Rattle.private_model.specs.Story.{is_link_id}
-use Rattle.session_state.specs.declared.place.Place.{Place}
 use Rattle.tale_world.specs.Policy as policy
-use Rattle.tale_world.specs.Policy.{Idle, Lends, Readied, Rest, Waiter, best, better, is_open_to, next_lend, steps_left}
+use Rattle.tale_world.specs.Policy.{Idle, Lends, Readied, Rest, Waiter, best, better, is_open_to, next_lend}
 use Rattle.router_promises.specs.Keys.{LinkKey, is_free, is_vacant, key_of}
 use Rattle.router_promises.specs.Now.{is_online, wire_now}
-use Rattle.shared_router.specs.Known.{Known, link_by}
+use Rattle.shared_router.specs.Known.{Known}
 use Rattle.shared_router.specs.Lends.{as_key, idle_at, if_near, is_readied_for, kept, lending, lent, readied_now, rest_of, still_waits}
 
 no_some : {A B : Type 0} (a : A) → None ≡ Some a → B
@@ -33,7 +32,7 @@ module _ (k : Known) where
   idle_vacant : (link : LinkId) (one : Idle) → idle_at k link ≡ Some one → Vacant one.link
   idle_vacant link one is = by_free (is_free k.terms k.log k.now link) refl is where
     makes : LinkKey → Idle
-    makes key = record { link = link; key = as_key key; told = (link_by k link).told; id = (link_by k link).id; since = (k.now.uses link).used }
+    makes key = record { link = link; key = as_key key }
 
     by_key : Vacant link → (o : Option LinkKey) → option_map makes o ≡ Some one → Vacant one.link
     by_key vacant None is = no_some one is
@@ -50,39 +49,39 @@ module _ (k : Known) where
     by_idle None at later = later
     by_idle (Some one) at later = (idle_vacant link one at, later)
 
-  best_vacant : (rest : Rest) (key : policy.Key) (place : Place) (idle : List Idle) (one : Idle) → AllVacant idle → best rest key place idle ≡ Some one → Vacant one.link
-  best_vacant rest key place [] one all is = no_some one is
-  best_vacant rest key place (x ∷ idle) one all is = by_open (is_open_to rest key x) is (best_vacant rest key place idle) where
+  best_vacant : (rest : Rest) (key : policy.Key) (idle : List Idle) (one : Idle) → AllVacant idle → best rest key idle ≡ Some one → Vacant one.link
+  best_vacant rest key [] one all is = no_some one is
+  best_vacant rest key (x ∷ idle) one all is = by_open (is_open_to rest key x) is (best_vacant rest key idle) where
     named : (a : Idle) → Some a ≡ Some one → Vacant a.link → Vacant one.link
     named a same vacant = subst (λ (i : Idle). Vacant i.link) (some_of a one same) vacant
 
-    by_better : (o : Option Idle) → best rest key place idle ≡ o → ((other : Idle) → AllVacant idle → best rest key place idle ≡ Some other → Vacant other.link)
-        → better place x o ≡ Some one → Vacant one.link
+    by_better : (o : Option Idle) → best rest key idle ≡ o → ((other : Idle) → AllVacant idle → best rest key idle ≡ Some other → Vacant other.link)
+        → better rest x o ≡ Some one → Vacant one.link
     by_better None at later is = named x is all.0
-    by_better (Some other) at later is = by_less (nat_le (steps_left x.told place) (steps_left other.told place)) is where
+    by_better (Some other) at later is = by_less (rest.prefers x.link other.link) is where
       by_less : (b : Bool) → (if b then Some x else Some other) ≡ Some one → Vacant one.link
       by_less true is = named x is all.0
       by_less false is = named other is (later other all.1 at)
 
-    by_open : (b : Bool) → (if b then better place x (best rest key place idle) else best rest key place idle) ≡ Some one
-        → ((other : Idle) → AllVacant idle → best rest key place idle ≡ Some other → Vacant other.link) → Vacant one.link
-    by_open true is later = by_better (best rest key place idle) refl later is
+    by_open : (b : Bool) → (if b then better rest x (best rest key idle) else best rest key idle) ≡ Some one
+        → ((other : Idle) → AllVacant idle → best rest key idle ≡ Some other → Vacant other.link) → Vacant one.link
+    by_open true is later = by_better (best rest key idle) refl later is
     by_open false is later = later one all.1 is
 
   lends_vacant : (rest : Rest) (is_served : SessionName → Bool) (ws : List Waiter) (lends : Lends) → AllVacant rest.idle → next_lend rest is_served ws ≡ Some lends → Vacant lends.link
   lends_vacant rest is_served [] lends idle is = no_some lends is
   lends_vacant rest is_served (w ∷ ws) lends idle is = by_served (is_served w.name) is (lends_vacant rest is_served ws lends idle) where
-    by_best : (o : Option Idle) → best rest w.key w.due.place rest.idle ≡ o
+    by_best : (o : Option Idle) → best rest w.key rest.idle ≡ o
         → option_map_or (λ (one : Idle). Some (record { link = one.link; to = record { name = w.name; due = w.due } })) o (next_lend rest is_served ws) ≡ Some lends
         → (next_lend rest is_served ws ≡ Some lends → Vacant lends.link) → Vacant lends.link
     by_best None at is later = later is
-    by_best (Some one) at is later = subst (λ (x : Lends). Vacant x.link) (some_of _ lends is) (best_vacant rest w.key w.due.place rest.idle one idle at)
+    by_best (Some one) at is later = subst (λ (x : Lends). Vacant x.link) (some_of _ lends is) (best_vacant rest w.key rest.idle one idle at)
 
     by_served : (b : Bool) → (if b then next_lend rest is_served ws
-        else option_map_or (λ (one : Idle). Some (record { link = one.link; to = record { name = w.name; due = w.due } })) (best rest w.key w.due.place rest.idle) (next_lend rest is_served ws)) ≡ Some lends
+        else option_map_or (λ (one : Idle). Some (record { link = one.link; to = record { name = w.name; due = w.due } })) (best rest w.key rest.idle) (next_lend rest is_served ws)) ≡ Some lends
         → (next_lend rest is_served ws ≡ Some lends → Vacant lends.link) → Vacant lends.link
     by_served true is later = later is
-    by_served false is later = by_best (best rest w.key w.due.place rest.idle) refl is later
+    by_served false is later = by_best (best rest w.key rest.idle) refl is later
 
   abbrev AreVacant : (LinkId → Option Readied) → Type 0
   AreVacant readied = (link : LinkId) (r : Readied) → readied link ≡ Some r → Vacant link

@@ -7,8 +7,8 @@ use Rattle.private_model.specs.Story.{BecameDue, Due, Story, is_link_id, is_name
 use Rattle.tale_world.specs.Policy as policy
 use Rattle.tale_world.specs.Policy.{Idle, Lends, Opening, Readied, Rest, Waiter, next_lend}
 use Rattle.router_promises.specs.Keys.{LinkKey, is_free, is_of_key, is_opening, is_vacant, is_waiting, key_for, key_of}
-use Rattle.router_promises.specs.Now.{wire_now}
-use Rattle.shared_router.specs.Known.{Known, link_by, present_by, setup_by, view_by}
+use Rattle.router_promises.specs.Now.{entry_now, wire_now}
+use Rattle.shared_router.specs.Known.{Known, present_by, setup_by, view_by}
 
 abbrev pub as_key : LinkKey → policy.Key
 as_key key = record { hostgroup = key.hostgroup; account = key.account; bare = key.bare }
@@ -36,7 +36,7 @@ waiters_by k (e ∷ past) = waiters_by k past
 abbrev pub idle_at : Known → LinkId → Option Idle
 idle_at k link =
     if is_free k.terms k.log k.now link
-    then option_map (λ key. record { link = link; key = as_key key; told = (link_by k link).told; id = (link_by k link).id; since = (k.now.uses link).used })
+    then option_map (λ key. record { link = link; key = as_key key })
     (key_of k.terms k.now link)
     else None
 
@@ -51,6 +51,7 @@ rest_of k readied = record {
   now = k.now.clock;
   waiters = waiters_by k k.now.tale.story;
   readied = readied;
+  prefers = k.fixed.prefers (entry_now k.now);
   idle = filter_map (idle_at k) k.now.tale.links;
   opening = filter_map (opening_at k) k.now.tale.links;
 }

@@ -1,5 +1,5 @@
 -- What goes to a link to a server next, with its tag, and what is opened: by the policy, for whom links are readied.
-use Rattle.std.specs.Prelude.{ℕ, false, ◌&&◌, List, [], find, if◌then◌else◌, reverse, unwrap_or, Option, None}
+use Rattle.std.specs.Prelude.{ℕ, Bool, false, ◌&&◌, List, [], ◌∷◌, find, if◌then◌else◌, reverse, unwrap_or, Option, None}
 use Rattle.std.specs.List.{filter_map}
 use Rattle.std.specs.Option.{option_map, option_map_or, option_or}
 use Rattle.hostgroups.specs.Servers.{server_at}
@@ -23,7 +23,7 @@ use Rattle.tale_world.specs.Policy.{Texts, Wanted, next_open}
 use Rattle.tale_world.specs.Wishes.{Says, Sends, Standing, Wish, next_wish}
 use Rattle.router_promises.specs.Dues.{is_due}
 use Rattle.router_promises.specs.Keys.{has_room, is_in, numbered_from}
-use Rattle.router_promises.specs.Now.{wire_now}
+use Rattle.router_promises.specs.Now.{entry_now, wire_now}
 use Rattle.router_promises.specs.Router.{user_named}
 use Rattle.router_promises.specs.Steps.{live_keys}
 use Rattle.router_promises.specs.Terms.{Tried}
@@ -85,9 +85,12 @@ wish_step (Says text) = text
 
 -- What is opened: for the oldest whose key wants a link, at a server with room, as its client's user.
 
+abbrev pub can_open : Known → Hostgroup → ServerId → Bool
+can_open k hostgroup server = is_in k.terms.router server hostgroup && has_room k.log k.now server
+
+-- the server that is preferred, or else the first with room
 abbrev pub pick : Known → Hostgroup → Option ServerId
-pick k hostgroup =
-    find (λ server. is_in k.terms.router server hostgroup && has_room k.log k.now server) (numbered_from 1 k.terms.router.servers)
+pick k hostgroup = find (can_open k hostgroup) (k.fixed.picks (entry_now k.now) hostgroup ∷ numbered_from 1 k.terms.router.servers)
 
 abbrev pub wanted_by : Known → Option Wanted
 wanted_by k = next_open (settled k) (pick k) (settled k).waiters

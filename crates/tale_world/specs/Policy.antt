@@ -117,23 +117,22 @@ pub record Waiter : Type 0 where
   pub key : Key
   pub since : ℕ
 
--- a link that carries nobody and is of use, with what it was told: the last one that was given back first
+-- a link that carries nobody and is of use
 pub record Idle : Type 0 where
   pub link : LinkId
   pub key : Key
-  pub told : Told
-  pub id : Option ℕ
-  pub since : ℕ
 
 pub record Opening : Type 0 where
   pub server : ServerId
   pub key : Key
 
--- the moment of the last wake; who waits, the oldest first; whom links are readied for; links that carry nobody, and those that log in
+-- the moment of the last wake; who waits, the oldest first; whom links are readied for; which of two links is lent first; links that
+-- carry nobody, and those that log in
 pub record Rest : Type 0 where
   pub now : ℕ
   pub waiters : List Waiter
   pub readied : LinkId → Option Readied
+  pub prefers : (one other : LinkId) → Bool
   pub idle : List Idle
   pub opening : List Opening
 
@@ -164,31 +163,19 @@ abbrev pub next_open : Rest → (pick : Hostgroup → Option ServerId) → List 
 next_open rest pick [] = None
 next_open rest pick (w ∷ later) = opens_for rest pick w.key (next_open rest pick later)
 
--- To whom a free link goes: the oldest that none is readied for; of the free links of its key that one which needs the fewest steps, and of
--- those the one that was given back last.
+-- To whom a free link goes: the oldest that none is readied for; of the free links of its key that one which is preferred.
 
-abbrev pub one_if : Bool → ℕ
-one_if true = 1
-one_if false = 0
-
-abbrev pub steps_left : Told → Place → ℕ
-steps_left told place =
-    one_if (not (is_schema told.schema place.schema)) + one_if (not
-    (are_settings told.settings place.settings))
-
-abbrev pub better : Place → Idle → Option Idle → Option Idle
-better place one None = Some one
-better place one (Some other) =
-    if nat_le (steps_left one.told place) (steps_left other.told place) then Some one else Some other
+abbrev pub better : Rest → Idle → Option Idle → Option Idle
+better rest one None = Some one
+better rest one (Some other) = if rest.prefers one.link other.link then Some one else Some other
 
 abbrev pub is_open_to : Rest → Key → Idle → Bool
 is_open_to rest key one = is_key one.key key && not (is_some (rest.readied one.link))
 
-abbrev pub best : Rest → Key → Place → List Idle → Option Idle
-best rest key place [] = None
-best rest key place (one ∷ others) =
-    if is_open_to rest key one then better place one (best rest key place others)
-    else best rest key place others
+abbrev pub best : Rest → Key → List Idle → Option Idle
+best rest key [] = None
+best rest key (one ∷ others) =
+    if is_open_to rest key one then better rest one (best rest key others) else best rest key others
 
 pub record Lends : Type 0 where
   pub link : LinkId
@@ -199,7 +186,7 @@ lends_to rest is_served w later =
     if is_served w.name then later
     else option_map_or (λ (one : Idle). Some
     (record { link = one.link; to = record { name = w.name; due = w.due } }))
-    (best rest w.key w.due.place rest.idle) later
+    (best rest w.key rest.idle) later
 
 abbrev pub next_lend : Rest → (is_served : SessionName → Bool) → List Waiter → Option Lends
 next_lend rest is_served [] = None
