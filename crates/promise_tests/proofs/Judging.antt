@@ -22,7 +22,7 @@ use Rattle.private_model.specs.View.{Carried, Joined, Lent, Nobody}
 use Rattle.log_story.specs.Plan.{Alone, Asks, Behind, Closes, ForLogin, LastWord, OwnAnswer, Resets, Route, StepText, WordPlace, is_now}
 use Rattle.log_story.specs.Servers.{may_begin}
 use Rattle.log_story.specs.Tale.{Client}
-use Rattle.router_promises.specs.Closes.{Amiss, ClosesBy, Idle, IsNeedless, Leaving, MakesRoom, MayDrop, Needless, PastReset, Refused, Spoilt, Starved}
+use Rattle.router_promises.specs.Closes.{Amiss, ClosesBy, HasCause, Idle, IsNeedless, Leaving, MakesRoom, MayDrop, MayQuit, Needless, PastReset, Refused, Spoilt, Starved, Told}
 use Rattle.router_promises.specs.Ends.{AllWritten, Broken, EndsBy, EndsRight, IsLastWord, MayPart, NoMemory, NotServed, PartsBy, PartsRight, TimeIsOver, TooMuch, TurnedAway, Unheard, WordFor, WordRight, buffers_word, is_alone, is_at, is_too_much}
 use Rattle.router_promises.specs.Errors.{out_of_memory, replay_refused, server_offline}
 use Rattle.router_promises.specs.GivenUp.{Cause, BadBytes, GivesUp, IsOnLink, IsStepFor, LinkLost, NoLink, NoResult, StepRefused, TakenOffline, WaitedTooLong, key_tried}
@@ -41,7 +41,7 @@ use Rattle.router_promises.specs.Verdicts.{Goes, Parts, Tells, Verdict, Wanted, 
 use Rattle.promise_tests.specs.Same.{are_each, is_address}
 use Rattle.promise_tests.specs.Judging.{Given, are_ended, are_so, closes_right, ends_here, ends_right, goes_so, has_cause, has_no_link, is_answer, is_close_of, is_given, is_given_by, is_in_series}
 use Rattle.promise_tests.specs.Judging.{is_keyed, is_last_word, is_right_step, is_late, is_lost_so, is_needless, is_offline, is_on_link, is_read_so, is_replay, is_routed, is_single, is_so, is_step_for, is_word_for}
-use Rattle.promise_tests.specs.Judging.{may_drop, may_open, may_part, may_step, may_step_for, opens_right, own_by, parts, parts_right, steps_right, word_right}
+use Rattle.promise_tests.specs.Judging.{may_drop, may_open, may_part, may_quit, may_step, may_step_for, opens_right, own_by, parts, parts_right, steps_right, word_right}
 use Rattle.promise_tests.proofs.Same.{all-so, any-so, implied, isnt, none-so, not-so, same-address, same-bytes, same-each, same-key, same-option, same-route}
 use Rattle.promise_tests.proofs.Telling.{le-so, lt-so}
 use Rattle.client_session.specs.Arrivals.{arrival_of}
@@ -112,8 +112,8 @@ needless-so : (terms : Terms) (log : Log) (now : Now) (link : LinkId) (key : Opt
 needless-so terms log now link None is = tt
 needless-so terms log now link (Some key) is = le-so _ _ is
 
-drop-so : (terms : Terms) (log : Log) (now : Now) (link : LinkId) → may_drop terms log now link ≡ true → MayDrop terms log now link
-drop-so terms log now link is = elim (or_cases _ _ is) [
+quit-so : (terms : Terms) (log : Log) (now : Now) (link : LinkId) → may_quit terms log now link ≡ true → MayQuit terms log now link
+quit-so terms log now link is = elim (or_cases _ _ is) [
   | inl spoilt ↦ Spoilt spoilt
   | inr a ↦ elim (or_cases _ _ a) [
     | inl amiss ↦ Amiss amiss
@@ -140,6 +140,12 @@ drop-so terms log now link is = elim (or_cases _ _ is) [
   ]
 ]
 
+drop-so : (terms : Terms) (log : Log) (now : Now) (link : LinkId) → may_drop terms log now link ≡ true → MayDrop terms log now link
+drop-so terms log now link is = elim (or_cases _ _ is) [
+  | inl told ↦ Told told
+  | inr why ↦ HasCause (quit-so terms log now link why)
+]
+
 pub closes-so : (terms : Terms) (log : Log) (now : Now) (e : Entry) → closes_right terms log now e ≡ true → ClosesBy terms log now e
 closes-so terms log now (entry.Closed link) is = λ there. drop-so terms log now link (implied _ _ is there)
 closes-so terms log now _ is = tt
@@ -160,7 +166,7 @@ close-so terms now link number is =
     record { key = key.0; live = same-option nat_eq number_of _ (Some number) parts.0; needed = parts.1 }
 
 may-so : (terms : Terms) (log : Log) (now : Now) (link : LinkId) (step : StepText) → may_step terms log now link step ≡ true → MayStep terms log now link step
-may-so terms log now link (Asks Quit) is = drop-so terms log now link is
+may-so terms log now link (Asks Quit) is = quit-so terms log now link is
 may-so terms log now link (Asks (Query text)) is = step-so terms now link (Query text) is
 may-so terms log now link (Asks (InitDb schema)) is = step-so terms now link (InitDb schema) is
 may-so terms log now link (Asks (FieldList rest)) is = step-so terms now link (FieldList rest) is

@@ -85,8 +85,8 @@ is_needless terms log now link None = true
 is_needless terms log now link (Some key) =
     nat_le (waiting terms now key) (others_vacant terms log now link key)
 
-abbrev pub may_drop : Terms → Log → Now → LinkId → Bool
-may_drop terms log now link =
+abbrev pub may_quit : Terms → Log → Now → LinkId → Bool
+may_quit terms log now link =
     is_spoilt terms log now link
     || (was_amiss (setup_in terms) link now.tale.story
     || ((was_refused (setup_in terms) link now.tale.story
@@ -103,6 +103,9 @@ may_drop terms log now link =
     || (is_spare terms log link
     && (is_nobodys (link_now (setup_in terms) now link).carries
     && is_needless terms log now link (key_of terms now link))))))))))
+
+abbrev pub may_drop : Terms → Log → Now → LinkId → Bool
+may_drop terms log now link = (wire_now now link).quits || may_quit terms log now link
 
 abbrev pub closes_right : Terms → Log → Now → Entry → Bool
 closes_right terms log now (Closed link) =
@@ -127,7 +130,7 @@ is_close_of terms now link number key =
     || is_prepared_anew terms now (terms.decided.keys key).text (key_of terms now link))
 
 abbrev pub may_step : Terms → Log → Now → LinkId → StepText → Bool
-may_step terms log now link (Asks Quit) = may_drop terms log now link
+may_step terms log now link (Asks Quit) = may_quit terms log now link
 may_step terms log now link (Asks command) = is_right_step terms now link command
 may_step terms log now link (Closes number) =
     list_any (is_close_of terms now link number) (live_keys (setup_in terms) now link)

@@ -15,7 +15,6 @@ use Rattle.private_model.specs.Story.{BecameDue, Story, command_of}
 use Rattle.private_model.specs.View.{Answered, Asked, Quiet, Stage}
 use Rattle.log_story.specs.Owed.{name_of}
 use Rattle.log_story.specs.Plan.{Route, text_payload}
-use Rattle.log_story.specs.Servers.{is_quiet}
 use Rattle.log_story.specs.Tale.{Client}
 use Rattle.router_promises.specs.Closes.{is_usable}
 use Rattle.router_promises.specs.Due.{due_to}
@@ -24,7 +23,7 @@ use Rattle.router_promises.specs.Ends.{moment_in, was_answered}
 use Rattle.router_promises.specs.GivenUp.{left_waiting}
 use Rattle.router_promises.specs.Keys.{LinkKey, has_place, how_many, is_idle, is_opening, is_resting, is_stepping, is_waiting, key_for, waiting}
 use Rattle.router_promises.specs.Now.{Now, held_now, is_here, link_now, present_now, wire_now}
-use Rattle.router_promises.specs.Rest.{is_failed_write, is_spared_for, owes_capture, owes_reset}
+use Rattle.router_promises.specs.Rest.{is_answered_on, is_failed_write, is_spared_for, owes_capture, owes_reset}
 use Rattle.router_promises.specs.Running.{is_entering, opening_on}
 use Rattle.router_promises.specs.Terms.{Terms, plan_in, setup_in}
 use Rattle.router_promises.specs.Wakes.{has_ended, wakes_at}
@@ -108,8 +107,8 @@ owes_nothing terms now link =
     (not (is_entering terms now.tale link)
     || bytes_eq wire.written (said_of (opening_on terms now.tale link)))
     && ((is_begun_whole at.stage wire.written && is_whole_step wire.step wire.written)
-    && ((not (is_quiet at.stage) || not (owes_reset (setup_in terms) now at.carries))
-    && (not (is_quiet at.stage) || not (owes_capture (setup_in terms) now at.carries))))
+    && ((not (is_answered_on (setup_in terms) now link) || not (owes_reset (setup_in terms) now at.carries))
+    && (not (is_answered_on (setup_in terms) now link) || not (owes_capture (setup_in terms) now at.carries))))
 
 abbrev pub is_sound : Terms → Log → Now → LinkId → Bool
 is_sound terms log now link =

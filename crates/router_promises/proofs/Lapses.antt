@@ -14,7 +14,7 @@ use Rattle.private_model.specs.Story.{is_name}
 use Rattle.private_model.specs.View.{Carried, Joined, present}
 use Rattle.log_story.specs.Plan.{LastWord, WordPlace}
 use Rattle.log_story.specs.Tale.{Client}
-use Rattle.router_promises.specs.Closes.{Amiss, Idle, Leaving, MakesRoom, MayDrop, Needless, PastReset, Refused, Spoilt, Starved, is_joined, is_past_reset_by, is_spoilt, is_starved_by, was_amiss, was_starved}
+use Rattle.router_promises.specs.Closes.{Amiss, Idle, Leaving, HasCause, MakesRoom, MayDrop, MayQuit, Needless, PastReset, Refused, Spoilt, Starved, Told, is_joined, is_past_reset_by, is_spoilt, is_starved_by, was_amiss, was_starved}
 use Rattle.router_promises.specs.Ends.{EndsBy, EndsRight, IsLastWord, NoMemory, TooMuch, TurnedAway, WordFor, WordRight, is_accepted, is_at, is_too_much, may_end, must_end, was_starved_at_once}
 use Rattle.router_promises.specs.Now.{Now, entry_now, link_now, next, now_at, view_now, while_ending}
 use Rattle.router_promises.specs.Terms.{Terms, plan_in, setup_in}
@@ -34,19 +34,27 @@ past-reset terms now link n carried carries here past =
     let left : is_past_reset_by (setup_in terms) now link (Joined n) ≡ true = subst (λ (c : Carried). is_past_reset_by (setup_in terms) now link c ≡ true) carries past in
     never (sym (and_parts _ _ left).0 ∙ ap not here)
 
-pub session-dropped : (terms : Terms) (log : Log) (now : Now) (link : LinkId) (n : SessionName) → (link_now (setup_in terms) now link).carries ≡ Joined n
+session-quit : (terms : Terms) (log : Log) (now : Now) (link : LinkId) (n : SessionName) → (link_now (setup_in terms) now link).carries ≡ Joined n
+    → is_name n (present (view_now (setup_in terms) now) n.client n.hostgroup) ≡ true → is_spoilt terms log now link ≡ false
+    → was_amiss (setup_in terms) link now.tale.story ≡ false → list_any (is_starved_by terms log now link) now.tale.clients ≡ false
+    → MayQuit terms log now link → ⊥
+session-quit terms log now link n carries here sound right fed (Spoilt is) = never (sym is ∙ sound)
+session-quit terms log now link n carries here sound right fed (Amiss is) = never (sym is ∙ right)
+session-quit terms log now link n carries here sound right fed (Refused is unjoined) = never (sym (ap is_joined carries) ∙ unjoined)
+session-quit terms log now link n carries here sound right fed (PastReset is) = past-reset terms now link n (link_now (setup_in terms) now link).carries carries here is
+session-quit terms log now link n carries here sound right fed (Leaving unlent is) = joined-kept terms log now link n carries (and_parts _ _ unlent).1
+session-quit terms log now link n carries here sound right fed (Idle unlent old) = joined-kept terms log now link n carries (and_parts _ _ unlent).1
+session-quit terms log now link n carries here sound right fed (MakesRoom unlent is full) = joined-kept terms log now link n carries (and_parts _ _ unlent).1
+session-quit terms log now link n carries here sound right fed (Starved is) = never (sym is ∙ fed)
+session-quit terms log now link n carries here sound right fed (Needless is nobodys needless) = joined-kept terms log now link n carries nobodys
+
+pub session-dropped : (terms : Terms) (log : Log) (now : Now) (link : LinkId) (n : SessionName) → (wire_now now link).quits ≡ false
+    → (link_now (setup_in terms) now link).carries ≡ Joined n
     → is_name n (present (view_now (setup_in terms) now) n.client n.hostgroup) ≡ true → is_spoilt terms log now link ≡ false
     → was_amiss (setup_in terms) link now.tale.story ≡ false → list_any (is_starved_by terms log now link) now.tale.clients ≡ false
     → MayDrop terms log now link → ⊥
-session-dropped terms log now link n carries here sound right fed (Spoilt is) = never (sym is ∙ sound)
-session-dropped terms log now link n carries here sound right fed (Amiss is) = never (sym is ∙ right)
-session-dropped terms log now link n carries here sound right fed (Refused is unjoined) = never (sym (ap is_joined carries) ∙ unjoined)
-session-dropped terms log now link n carries here sound right fed (PastReset is) = past-reset terms now link n (link_now (setup_in terms) now link).carries carries here is
-session-dropped terms log now link n carries here sound right fed (Leaving unlent is) = joined-kept terms log now link n carries (and_parts _ _ unlent).1
-session-dropped terms log now link n carries here sound right fed (Idle unlent old) = joined-kept terms log now link n carries (and_parts _ _ unlent).1
-session-dropped terms log now link n carries here sound right fed (MakesRoom unlent is full) = joined-kept terms log now link n carries (and_parts _ _ unlent).1
-session-dropped terms log now link n carries here sound right fed (Starved is) = never (sym is ∙ fed)
-session-dropped terms log now link n carries here sound right fed (Needless is nobodys needless) = joined-kept terms log now link n carries nobodys
+session-dropped terms log now link n untold carries here sound right fed (Told is) = never (sym is ∙ untold)
+session-dropped terms log now link n untold carries here sound right fed (HasCause why) = session-quit terms log now link n carries here sound right fed why
 
 -- A client that is ended.
 

@@ -24,7 +24,7 @@ use Rattle.session_state.specs.Pins.{is_pinned, reads_own}
 use Rattle.session_state.specs.declared.pin.Pin.{Pin}
 use Rattle.pin_classifier.specs.declared.class.Class.{Class}
 use Rattle.log_story.specs.Tale.{Tale, is_to_server, link_in}
-use Rattle.router_promises.specs.Closes.{is_usable, Amiss, Idle, Leaving, MakesRoom, MayDrop, Needless, PastReset, Refused, Spoilt, Starved}
+use Rattle.router_promises.specs.Closes.{is_usable, Amiss, Idle, Leaving, HasCause, MakesRoom, MayDrop, MayQuit, Needless, PastReset, Refused, Spoilt, Starved, Told}
 use Rattle.router_promises.specs.Keys.{LinkKey, key_of, oldest, waiters}
 use Rattle.router_promises.specs.Now.{Now, entry_now, held_now, link_now, next, now_at, present_now, takings_now, view_now, wire_now}
 use Rattle.router_promises.specs.Routed.{AreSo, IsRoute, IsSo, IsStarved, RoutesBy}
@@ -74,16 +74,21 @@ rest-of terms log now _ wait rest = elim wait [ ]
 pub rests-at : (terms : Terms) (before : Log) (e : Entry) → Has terms before e → IsWait e → IsAtRest terms before (now_at terms before)
 rests-at terms before e has wait = rest-of terms before (now_at terms before) e wait (kept-at _ before has.more e has.keeps.rests)
 
-pub may-drop : (terms : Terms) (before : Log) (link : LinkId) → HasNoCause terms before (now_at terms before) link → MayDrop terms before (now_at terms before) link → ⊥
-may-drop terms before link none (Spoilt is) = never (sym is ∙ none.sound)
-may-drop terms before link none (Amiss is) = never (sym is ∙ none.answered)
-may-drop terms before link none (Refused is unjoined) = never (sym is ∙ none.obeyed)
-may-drop terms before link none (PastReset is) = never (sym is ∙ none.resettable)
-may-drop terms before link none (Leaving unlent is) = never (sym is ∙ none.online)
-may-drop terms before link none (Idle unlent old) = (let young = none.young in omega (arith, old, young))
-may-drop terms before link none (MakesRoom unlent is full) = never (sym is ∙ none.alone)
-may-drop terms before link none (Starved is) = never (sym is ∙ none.fed)
-may-drop terms before link none (Needless is nobodys needless) = never (sym is ∙ none.quiet)
+pub may-quit : (terms : Terms) (before : Log) (link : LinkId) → HasNoCause terms before (now_at terms before) link → MayQuit terms before (now_at terms before) link → ⊥
+may-quit terms before link none (Spoilt is) = never (sym is ∙ none.sound)
+may-quit terms before link none (Amiss is) = never (sym is ∙ none.answered)
+may-quit terms before link none (Refused is unjoined) = never (sym is ∙ none.obeyed)
+may-quit terms before link none (PastReset is) = never (sym is ∙ none.resettable)
+may-quit terms before link none (Leaving unlent is) = never (sym is ∙ none.online)
+may-quit terms before link none (Idle unlent old) = (let young = none.young in omega (arith, old, young))
+may-quit terms before link none (MakesRoom unlent is full) = never (sym is ∙ none.alone)
+may-quit terms before link none (Starved is) = never (sym is ∙ none.fed)
+may-quit terms before link none (Needless is nobodys needless) = never (sym is ∙ none.quiet)
+
+pub may-drop : (terms : Terms) (before : Log) (link : LinkId) → HasNoCause terms before (now_at terms before) link → (wire_now (now_at terms before) link).quits ≡ false
+    → MayDrop terms before (now_at terms before) link → ⊥
+may-drop terms before link none untold (Told is) = never (sym is ∙ untold)
+may-drop terms before link none untold (HasCause why) = may-quit terms before link none why
 
 pub at-index : {A : Type 0} (P : A → Type 0) (xs : List A) (k : ℕ) (x : A) → All P xs → k < length xs → slice_index_or xs k x ≡ x → P x
 at-index P xs k x all within is = subst P is (all k x within)

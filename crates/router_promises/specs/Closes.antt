@@ -182,21 +182,27 @@ abbrev pub IsNeedless : Terms → Log → Now → LinkId → Option LinkKey → 
 IsNeedless terms log now link None = Unit {0}
 IsNeedless terms log now link (Some key) = waiting terms now key ≤ others_vacant terms log now link key
 
-pub data MayDrop (terms : Terms) (log : Log) (now : Now) (link : LinkId) : Type 0 where
-  Spoilt : is_spoilt terms log now link ≡ true → MayDrop terms log now link
-  Amiss : was_amiss (setup_in terms) link now.tale.story ≡ true → MayDrop terms log now link
+-- why one is told QUIT
+pub data MayQuit (terms : Terms) (log : Log) (now : Now) (link : LinkId) : Type 0 where
+  Spoilt : is_spoilt terms log now link ≡ true → MayQuit terms log now link
+  Amiss : was_amiss (setup_in terms) link now.tale.story ≡ true → MayQuit terms log now link
   Refused : was_refused (setup_in terms) link now.tale.story ≡ true
-      → is_joined (link_now (setup_in terms) now link).carries ≡ false → MayDrop terms log now link
-  PastReset : is_past_reset (setup_in terms) now link ≡ true → MayDrop terms log now link
+      → is_joined (link_now (setup_in terms) now link).carries ≡ false → MayQuit terms log now link
+  PastReset : is_past_reset (setup_in terms) now link ≡ true → MayQuit terms log now link
   Leaving : is_unlent (setup_in terms) now link ≡ true
-      → status_in is_soft now.servers (wire_now now link).server ≡ true → MayDrop terms log now link
+      → status_in is_soft now.servers (wire_now now link).server ≡ true → MayQuit terms log now link
   Idle : is_unlent (setup_in terms) now link ≡ true
-      → (now.uses link).used + terms.router.proxy.idle_ms ≤ now.clock → MayDrop terms log now link
+      → (now.uses link).used + terms.router.proxy.idle_ms ≤ now.clock → MayQuit terms log now link
   MakesRoom : is_unlent (setup_in terms) now link ≡ true → is_in_the_way terms now (key_of terms now link) ≡ true
-      → is_full terms.router log now (key_of terms now link) ≡ true → MayDrop terms log now link
-  Starved : list_any (is_starved_by terms log now link) now.tale.clients ≡ true → MayDrop terms log now link
+      → is_full terms.router log now (key_of terms now link) ≡ true → MayQuit terms log now link
+  Starved : list_any (is_starved_by terms log now link) now.tale.clients ≡ true → MayQuit terms log now link
   Needless : is_spare terms log link ≡ true → is_nobodys (link_now (setup_in terms) now link).carries ≡ true
-      → IsNeedless terms log now link (key_of terms now link) → MayDrop terms log now link
+      → IsNeedless terms log now link (key_of terms now link) → MayQuit terms log now link
+
+-- it was told QUIT, or is closed for a cause of its own
+pub data MayDrop (terms : Terms) (log : Log) (now : Now) (link : LinkId) : Type 0 where
+  Told : (wire_now now link).quits ≡ true → MayDrop terms log now link
+  HasCause : MayQuit terms log now link → MayDrop terms log now link
 
 abbrev pub ClosesBy : Terms → Log → Now → Entry → Type 0
 ClosesBy terms log now (Closed link) = is_to_server now.tale link ≡ true → MayDrop terms log now link

@@ -18,7 +18,7 @@ use Rattle.log_story.specs.Honest.{IsStep, number_for}
 use Rattle.log_story.specs.Owed.{has_room, name_of}
 use Rattle.log_story.specs.Plan.{Route}
 use Rattle.log_story.specs.Servers.{is_quiet}
-use Rattle.log_story.specs.Tale.{Client}
+use Rattle.log_story.specs.Tale.{Client, is_reset_step}
 use Rattle.router_promises.specs.Closes.{is_usable}
 use Rattle.router_promises.specs.Dues.{is_unsent}
 use Rattle.router_promises.specs.Due.{due_to}
@@ -50,10 +50,11 @@ IsRead terms log now link = is_open link log ≡ true → (read_dry link log || 
 
 -- Clients.
 
--- what is on its way to a message, or its reply: on a link that is open, whole, or as far as the link takes it
+-- what is on its way to a message, or its reply: on a link that is open, whole, or as far as the link takes it; a STMT_RESET on the way
+-- to it is awaited
 
 abbrev pub IsWholeOn : Setup → Now → LinkId → Stage → Type 0
-IsWholeOn setup now link Quiet = ⊥
+IsWholeOn setup now link Quiet = is_reset_step (wire_now now link).step ≡ true
 IsWholeOn setup now link (Asked question) =
     IsWhole (command_of question) (number_for question (link_now setup now link).live) (wire_now now link).written
 IsWholeOn setup now link (Answered question) = Unit {0}
@@ -108,13 +109,17 @@ IsBegunWhole setup now link (Asked question) =
     IsWhole (command_of question) (number_for question (link_now setup now link).live) (wire_now now link).written
 IsBegunWhole setup now link _ = Unit {0}
 
+-- all that was sent there is answered: no question is open there, and no STMT_RESET
+abbrev pub is_answered_on : Setup → Now → LinkId → Bool
+is_answered_on setup now link = is_quiet (link_now setup now link).stage && not (is_reset_step (wire_now now link).step)
+
 pub record OwesNothing (terms : Terms) (now : Now) (link : LinkId) : Type 0 where
   pub login : is_entering terms now.tale link ≡ true → (wire_now now link).written ≡ said_of (opening_on terms now.tale link)
   pub begun : IsBegunWhole (setup_in terms) now link (link_now (setup_in terms) now link).stage
   pub closed : IsStep (wire_now now link).step (wire_now now link).written
-  pub reset : is_quiet (link_now (setup_in terms) now link).stage ≡ true
+  pub reset : is_answered_on (setup_in terms) now link ≡ true
       → owes_reset (setup_in terms) now (link_now (setup_in terms) now link).carries ≡ false
-  pub capture : is_quiet (link_now (setup_in terms) now link).stage ≡ true
+  pub capture : is_answered_on (setup_in terms) now link ≡ true
       → owes_capture (setup_in terms) now (link_now (setup_in terms) now link).carries ≡ false
 
 pub record IsSound (terms : Terms) (log : Log) (now : Now) (link : LinkId) : Type 0 where

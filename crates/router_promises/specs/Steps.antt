@@ -15,7 +15,7 @@ use Rattle.private_model.specs.View.{Carried, Joined, Lent, Nobody, Setup}
 use Rattle.log_story.specs.Plan.{Asks, Closes, Resets, Route, StepText}
 use Rattle.log_story.specs.Servers.{may_begin}
 use Rattle.log_story.specs.Tale.{Client, is_to_server}
-use Rattle.router_promises.specs.Closes.{MayDrop, is_past_reset}
+use Rattle.router_promises.specs.Closes.{MayQuit, is_past_reset}
 use Rattle.router_promises.specs.Dues.{is_due}
 use Rattle.router_promises.specs.Keys.{LinkKey, key_of, waiters}
 use Rattle.router_promises.specs.Now.{Now, held_now, link_now, now_at, present_now, view_now, wire_now}
@@ -105,7 +105,7 @@ IsReset now link number = list_any (nat_eq number) (now.uses link).long ≡ true
 
 -- a QUIT ends a link that may be closed
 abbrev pub MayStep : Terms → Log → Now → LinkId → StepText → Type 0
-MayStep terms log now link (Asks Quit) = MayDrop terms log now link
+MayStep terms log now link (Asks Quit) = MayQuit terms log now link
 MayStep terms log now link (Asks command) = IsStep terms now link command
 MayStep terms log now link (Closes number) = IsClose terms now link number
 MayStep terms log now link (Resets number) = IsReset now link number

@@ -31,7 +31,7 @@ IsWait WaitFailed = Unit {0}
 IsWait Over = Unit {0}
 IsWait _ = ⊥
 
--- nothing is there for which a link to a server may be closed
+-- nothing is there for which a link to a server may be told QUIT
 pub record HasNoCause (terms : Terms) (log : Log) (now : Now) (link : LinkId) : Type 0 where
   pub sound : is_spoilt terms log now link ≡ false
   pub answered : was_amiss (setup_in terms) link now.tale.story ≡ false

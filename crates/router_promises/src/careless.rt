@@ -16,7 +16,7 @@ ghost use Rattle.private_model.specs.Names.{MessageName};
 ghost use Rattle.private_model.specs.Story.{Question};
 ghost use Rattle.private_model.specs.View.{Asked};
 ghost use Rattle.log_story.specs.Plan.{Closes, Resets, is_by_now};
-ghost use Rattle.log_story.specs.Servers.{is_quiet, may_begin};
+ghost use Rattle.log_story.specs.Servers.{may_begin};
 ghost use Rattle.log_story.specs.Tale.{Client, is_to_server};
 ghost use Rattle.router_promises.specs.Closes.{is_past_reset};
 ghost use Rattle.router_promises.specs.Due.{due_to, served};
@@ -26,7 +26,7 @@ ghost use Rattle.router_promises.specs.GivenUp.{left_waiting};
 ghost use Rattle.router_promises.specs.Heard.{Answer, Bad, Whole, is_amiss, reading_of};
 ghost use Rattle.router_promises.specs.Keys.{LinkKey, has_place, how_many, is_idle, is_opening, is_stepping, key_of, waiting};
 ghost use Rattle.router_promises.specs.Now.{entry_now, is_loss, link_now, next, now_at, while_ending, wire_now};
-ghost use Rattle.router_promises.specs.Rest.{owes_capture};
+ghost use Rattle.router_promises.specs.Rest.{is_answered_on, owes_capture};
 ghost use Rattle.router_promises.specs.Running.{hostgroup_of};
 ghost use Rattle.router_promises.specs.Steps.{is_prep_wanted, is_prepared_anew, live_keys};
 ghost use Rattle.router_promises.specs.Tags.{hostgroup_asked};
@@ -162,7 +162,7 @@ pub fn captures_nothing()
         → k < length (now_at terms before).tale.links
         → slice_index_or (now_at terms before).tale.links k link ≡ link
         → is_open link before ≡ true → write_dry link before ≡ false
-        → is_quiet (link_now (setup_in terms) (now_at terms before) link).stage ≡ true
+        → is_answered_on (setup_in terms) (now_at terms before) link ≡ true
         → owes_capture (setup_in terms) (now_at terms before)
         (link_now (setup_in terms) (now_at terms before) link).carries ≡ true
         → ⊥ }

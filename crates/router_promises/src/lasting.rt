@@ -25,11 +25,12 @@ ghost use Rattle.router_promises.specs.Terms.{Terms, plan_in, setup_in};
 ghost use Rattle.router_promises.specs.Wakes.{has_ended, lacks_an_event, moments};
 ghost use Rattle.router_promises.specs.Wrong.{Has, IsWait, Tells};
 
-/// The link closes on which a client's session goes on, though nothing is wrong with it and memory wasn't wanting.
+/// The link closes on which a client's session goes on, though nothing is wrong with it, it wasn't told QUIT, and memory wasn't wanting.
 pub fn drops_a_session()
     ensures { (terms : Terms) (before : Log) (link : LinkId) (n : SessionName)
         → Has terms before (Closed link)
         → is_to_server (now_at terms before).tale link ≡ true
+        → (wire_now (now_at terms before) link).quits ≡ false
         → (link_now (setup_in terms) (now_at terms before) link).carries ≡ Joined n
         → is_name n (present (view_now (setup_in terms) (now_at terms before)) n.client n.hostgroup)
         ≡ true

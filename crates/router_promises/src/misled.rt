@@ -19,13 +19,13 @@ ghost use Rattle.private_model.specs.View.{Asked, Joined, present, view_after};
 ghost use Rattle.session_state.specs.Pins.{is_pinned, reads_own};
 ghost use Rattle.log_story.specs.Honest.{IsFront};
 ghost use Rattle.log_story.specs.Plan.{Asks, Route, text_payload};
-ghost use Rattle.log_story.specs.Servers.{is_quiet, may_begin};
+ghost use Rattle.log_story.specs.Servers.{may_begin};
 ghost use Rattle.log_story.specs.Tale.{Client, is_to_server};
 ghost use Rattle.router_promises.specs.Due.{due_to};
 ghost use Rattle.router_promises.specs.Errors.{no_connection};
 ghost use Rattle.router_promises.specs.Headline.{Keeps};
 ghost use Rattle.router_promises.specs.Now.{entry_now, link_now, now_at, present_now, takings_now, wire_now};
-ghost use Rattle.router_promises.specs.Rest.{is_spared_for, owes_reset};
+ghost use Rattle.router_promises.specs.Rest.{is_answered_on, is_spared_for, owes_reset};
 ghost use Rattle.router_promises.specs.Running.{servers_after};
 ghost use Rattle.router_promises.specs.Takings.{Taking, message_in};
 ghost use Rattle.router_promises.specs.Terms.{Terms, plan_in, setup_in, tale_at};
@@ -170,7 +170,7 @@ pub fn resets_nothing()
         → k < length (now_at terms before).tale.links
         → slice_index_or (now_at terms before).tale.links k link ≡ link
         → is_open link before ≡ true → write_dry link before ≡ false
-        → is_quiet (link_now (setup_in terms) (now_at terms before) link).stage ≡ true
+        → is_answered_on (setup_in terms) (now_at terms before) link ≡ true
         → owes_reset (setup_in terms) (now_at terms before)
         (link_now (setup_in terms) (now_at terms before) link).carries ≡ true → ⊥ }
 {}

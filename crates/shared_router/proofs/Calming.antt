@@ -144,20 +144,22 @@ module _ (fixed : Fixed) (log : Log) (now : Now) (v last : World More) (alike : 
       both true false p q = absurd (cc)
 
   kept_so : (is_open link log
-      && (is_spoilt other log now link
+      && ((wire_now now link).quits || (is_spoilt other log now link
       || (was_amiss (setup_of fixed) link now.tale.story
       || ((was_refused (setup_of fixed) link now.tale.story && not (is_joined (link_now (setup_of fixed) now link).carries))
-      || (is_past_reset (setup_of fixed) now link || let_go))))) ≡ false
+      || (is_past_reset (setup_of fixed) now link || let_go)))))) ≡ false
       → is_open link log ≡ true → IsKept one log now link
   kept_so is opened =
       let refused : Bool = was_refused (setup_of fixed) link now.tale.story && not (is_joined (link_now (setup_of fixed) now link).carries) in
       let amiss : Bool = was_amiss (setup_of fixed) link now.tale.story in
       let past : Bool = is_past_reset (setup_of fixed) now link in
-      let first = then_false (is_open link log) (is_spoilt other log now link || (amiss || (refused || (past || let_go)))) is opened in
+      let both = then_false (is_open link log) ((wire_now now link).quits || (is_spoilt other log now link || (amiss || (refused || (past || let_go))))) is opened in
+      let first = right_false (wire_now now link).quits (is_spoilt other log now link || (amiss || (refused || (past || let_go)))) both in
       let second = right_false (is_spoilt other log now link) (amiss || (refused || (past || let_go))) first in
       let third = right_false amiss (refused || (past || let_go)) second in
       let fourth = right_false past let_go (right_false refused (past || let_go) third) in
       record {
+        stays = left_false (wire_now now link).quits (is_spoilt other log now link || (amiss || (refused || (past || let_go)))) both;
         sound = usable (is_spoilt one log now link) amiss
             (spoilt_same fixed log now v last alike link there ∙ left_false (is_spoilt other log now link) (amiss || (refused || (past || let_go))) first)
             (left_false amiss (refused || (past || let_go)) second);

@@ -13,7 +13,7 @@ use Rattle.mx_wire.specs.declared.entry.Entry.TheVariants as entry
 use Rattle.log_story.specs.Tale.{Client, is_to_server}
 use Rattle.tale_world.specs.Deciding.{World}
 use Rattle.router_promises.specs.Closes as closing
-use Rattle.router_promises.specs.Closes.{ClosesSo, MayDrop, has_bad_bytes, is_full, is_in_the_way, is_joined, is_past_reset, is_spoilt, is_unlent, was_amiss, was_refused}
+use Rattle.router_promises.specs.Closes.{ClosesSo, MayDrop, MayQuit, has_bad_bytes, is_full, is_in_the_way, is_joined, is_past_reset, is_spoilt, is_unlent, was_amiss, was_refused}
 use Rattle.router_promises.specs.Keys.{LinkKey, key_of}
 use Rattle.router_promises.specs.Now.{Now, link_now, now_at, was_lost, wire_now}
 use Rattle.router_promises.specs.Running.{is_off, is_soft, status_in}
@@ -67,7 +67,7 @@ module _ (fixed : Fixed) (log : Log) (now : Now) (v last : World More) (alike : 
       && (status_in is_soft now.servers (wire_now now link).server
       || (nat_le ((now.uses link).used + fixed.router.proxy.idle_ms) now.clock
       || (is_in_the_way other now (key_of other now link) && is_full fixed.router log now (key_of other now link))))) ≡ true
-      → MayDrop one log now link
+      → MayQuit one log now link
   let_go is =
       let unlent : is_unlent (setup_of fixed) now link ≡ true = left_is _ _ is in
       let key = key_same fixed log now v last alike link there in
@@ -81,31 +81,44 @@ module _ (fixed : Fixed) (log : Log) (now : Now) (v last : World More) (alike : 
         ]
       ]
 
-  pub drops_so : (is_open link log
-      && (is_spoilt other log now link
+  abbrev has_cause : Bool
+  has_cause = is_spoilt other log now link
       || (was_amiss (setup_of fixed) link now.tale.story
       || ((was_refused (setup_of fixed) link now.tale.story && not (is_joined (link_now (setup_of fixed) now link).carries))
       || (is_past_reset (setup_of fixed) now link
       || (is_unlent (setup_of fixed) now link
       && (status_in is_soft now.servers (wire_now now link).server
       || (nat_le ((now.uses link).used + fixed.router.proxy.idle_ms) now.clock
-      || (is_in_the_way other now (key_of other now link) && is_full fixed.router log now (key_of other now link)))))))))) ≡ true
-      → MayDrop one log now link
-  drops_so is =
-      elim (either_of (is_spoilt other log now link) _ (right_is (is_open link log) _ is)) [
-        | inl spoilt ↦ closing.Spoilt (spoilt_same ∙ spoilt)
-        | inr second ↦ elim (either_of (was_amiss (setup_of fixed) link now.tale.story) _ second) [
-          | inl amiss ↦ closing.Amiss amiss
-          | inr third ↦ elim (either_of (was_refused (setup_of fixed) link now.tale.story && not (is_joined (link_now (setup_of fixed) now link).carries)) _ third) [
-            | inl refused ↦ closing.Refused (left_is _ _ refused)
-                (not_so (is_joined (link_now (setup_of fixed) now link).carries) (right_is (was_refused (setup_of fixed) link now.tale.story) _ refused))
-            | inr fourth ↦ elim (either_of (is_past_reset (setup_of fixed) now link) _ fourth) [
-              | inl past ↦ closing.PastReset past
-              | inr idle ↦ let_go idle
-            ]
-          ]
+      || (is_in_the_way other now (key_of other now link) && is_full fixed.router log now (key_of other now link))))))))
+
+  quits_so : has_cause ≡ true → MayQuit one log now link
+  quits_so is = elim (either_of (is_spoilt other log now link) _ is) [
+    | inl spoilt ↦ closing.Spoilt (spoilt_same ∙ spoilt)
+    | inr second ↦ elim (either_of (was_amiss (setup_of fixed) link now.tale.story) _ second) [
+      | inl amiss ↦ closing.Amiss amiss
+      | inr third ↦ elim (either_of (was_refused (setup_of fixed) link now.tale.story && not (is_joined (link_now (setup_of fixed) now link).carries)) _ third) [
+        | inl refused ↦ closing.Refused (left_is _ _ refused)
+            (not_so (is_joined (link_now (setup_of fixed) now link).carries) (right_is (was_refused (setup_of fixed) link now.tale.story) _ refused))
+        | inr fourth ↦ elim (either_of (is_past_reset (setup_of fixed) now link) _ fourth) [
+          | inl past ↦ closing.PastReset past
+          | inr idle ↦ let_go idle
         ]
       ]
+    ]
+  ]
+
+  pub drops_so : (is_open link log && ((wire_now now link).quits || has_cause)) ≡ true → MayDrop one log now link
+  drops_so is = elim (either_of (wire_now now link).quits _ (right_is (is_open link log) _ is)) [
+    | inl told ↦ closing.Told told
+    | inr why ↦ closing.HasCause (quits_so why)
+  ]
+
+  -- one that wasn't told QUIT has another cause
+  pub untold_so : (is_open link log && ((wire_now now link).quits || has_cause)) ≡ true → (wire_now now link).quits ≡ false → MayQuit one log now link
+  untold_so is untold = elim (either_of (wire_now now link).quits _ (right_is (is_open link log) _ is)) [
+    | inl told ↦ isnt (sym told ∙ untold)
+    | inr why ↦ quits_so why
+  ]
 
 -- which of the two it is
 module _ {A : Type 0} where

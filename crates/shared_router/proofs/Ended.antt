@@ -322,7 +322,7 @@ module _ (fixed : Fixed) (numbered : IsNumbered fixed) (before later : Log) (e :
 
   -- Each client of the tale behind the entry.
 
-  behind-tale : behind.tale ≡ (next fixed w e).tale
+  pub behind-tale : behind.tale ≡ (next fixed w e).tale
   behind-tale =
       let step : now_at t (before ++ e ∷ []) ≡ behind = fold_more (now.next t) before (e ∷ []) (now.at_first t) in
       ap (λ (n : Now). n.tale) (sym step) ∙ now-tale t (before ++ e ∷ [])

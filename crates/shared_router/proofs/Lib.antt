@@ -78,8 +78,13 @@ pub mod Quitting
 pub mod Attending
 pub mod Waking
 pub mod Pausing
+pub mod Written
+pub mod Wholly
+pub mod Closed
+pub mod Finishing
 pub mod Sufficing
 pub mod Gathering
+pub mod Broken
 pub mod Blank
 pub mod Starting
 pub mod Fronted

@@ -399,7 +399,7 @@ module _ (fixed : Fixed) (numbered : IsNumbered fixed) (ids : SpellsIds fixed) (
 
       by_begun : is_to_server w.tale link ≡ true → may_begin (setup_of fixed) link (w.tale.wires link) w.tale ≡ true
           → Begun (known fixed w) link tag step → LeadsFor last_terms (now_of fixed w) link step tag
-      by_begun to_server begins (Parts closing asks own) =
+      by_begun to_server begins (Parts closing untold asks own) =
           subst (λ s. LeadsFor last_terms (now_of fixed w) link s tag) (sym asks)
           (subst (λ x. LeadsFor last_terms (now_of fixed w) link (Asks Quit) x) (sym own) tt)
       by_begun to_server begins (Wishes wish wished tagged asks) =

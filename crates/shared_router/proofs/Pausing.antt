@@ -5,8 +5,7 @@ use Rattle.std.proofs.Common.{refl, sym, ap, ◌∙◌}
 use Rattle.std.proofs.lemmas.Bool.{and_from, and_parts}
 use Rattle.std.proofs.lemmas.Slice.Eq.{bytes_eq-Decides}
 use Rattle.mx_base.specs.declared.names.LinkId.{LinkId}
-use Rattle.mx_wire.specs.Log.{Log, is_open}
-use Rattle.mx_wire.specs.Moments.{AllLawful}
+use Rattle.mx_wire.specs.Log.{is_open}
 use Rattle.packet_frame.specs.Packets.{spelling}
 use Rattle.ready_loop.specs.Drained.{write_dry}
 use Rattle.session_state.specs.Pins.{is_pinned, needs_reset}
@@ -20,17 +19,15 @@ use Rattle.log_story.specs.Tale.{Client, is_to_server}
 use Rattle.tale_world.specs.Policy.{for_session, next_question}
 use Rattle.tale_world.specs.Wishes.{next_wish, wish_for}
 use Rattle.router_promises.specs.Closes.{has_bytes, is_past_reset, is_past_reset_by, is_spoilt, was_amiss}
-use Rattle.router_promises.specs.Now.{wire_now}
+use Rattle.router_promises.specs.Now.{Now, link_now, wire_now}
 use Rattle.router_promises.specs.Rest.{owes_capture, owes_reset}
-use Rattle.shared_router.specs.Fixed.{Fixed, IsNumbered}
-use Rattle.shared_router.specs.Known.{Known, known, link_by, setup_by}
+use Rattle.router_promises.specs.Terms.{Terms, setup_in}
+use Rattle.shared_router.specs.Known.{Known, link_by, setup_by}
 use Rattle.shared_router.specs.Lends.{readied_now}
-use Rattle.shared_router.specs.Ours.{IsOurLog, MayWait}
+use Rattle.shared_router.specs.Ours.{MayWait}
 use Rattle.shared_router.specs.Owed.{Owed, close_by, farewell, is_let_go, is_refused, is_to_close, is_whole_step, nothing_owed, owed_next, owed_on, owed_on_client, owed_on_server, owed_there}
-use Rattle.shared_router.specs.Shared.{final_terms, world_at}
-use Rattle.shared_router.specs.Waited.{AskNothing, AsItWaits, MayAsk, OwesNoStep}
+use Rattle.shared_router.specs.Waited.{OwesNoStep}
 use Rattle.shared_router.specs.Wishes.{kept_due, standing_on, texts, wish_on}
-use Rattle.shared_router.proofs.Along.{as_it_waits}
 use Rattle.shared_router.proofs.Calming.{left_false, nothing_closes, right_false, stays_open, then_false}
 
 isnt : {A : Type 0} → true ≡ false → A
@@ -41,6 +38,13 @@ whole_is None written is = refl
 whole_is (Some (Asks command)) written is = refl
 whole_is (Some (Closes number)) written is = (bytes_eq-Decides written (spelling 0 (step_payload (Closes number)))).1 is
 whole_is (Some (Resets number)) written is = (bytes_eq-Decides written (spelling 0 (step_payload (Resets number)))).1 is
+
+-- A question may begin on a link: what stood there is whole, it wasn't told QUIT, and the story has it as one of use.
+pub record MayAsk (terms : Terms) (now : Now) (link : LinkId) : Type 0 where
+  pub begins : may_begin (setup_in terms) link (wire_now now link) now.tale ≡ true
+  pub whole : IsStep (wire_now now link).step (wire_now now link).written
+  pub stays : (wire_now now link).quits ≡ false
+  pub usable : (link_now (setup_in terms) now link).usable ≡ true
 
 module _ (k : Known) (link : LinkId) where
   abbrev there : Link
@@ -133,7 +137,8 @@ module _ (k : Known) (link : LinkId) where
       (right_false (is_refused k link) rest
       (right_false amiss (is_refused k link || rest)
       (right_false spoilt (amiss || (is_refused k link || rest))
-      (then_false (is_open link k.log) (spoilt || (amiss || (is_refused k link || rest))) stays opened))))
+      (right_false (wire_now k.now link).quits (spoilt || (amiss || (is_refused k link || rest)))
+      (then_false (is_open link k.log) ((wire_now k.now link).quits || (spoilt || (amiss || (is_refused k link || rest)))) stays opened)))))
 
   module _ (may : MayWait k) (to_server : is_to_server k.now.tale link ≡ true) (opened : is_open link k.log ≡ true) (goes : write_dry link k.log ≡ false)
       (ask : MayAsk k.terms k.now link) where
@@ -174,10 +179,3 @@ module _ (k : Known) (link : LinkId) where
 
     pub owes_none : OwesNoStep k.terms k.now link
     owes_none = record { reset = no_end there.carries refl; capture = no_capture there.carries refl }
-
-pub asks_nothing : (fixed : Fixed) (log : Log) → IsNumbered fixed → IsOurLog fixed log → AllLawful (AsItWaits AskNothing (final_terms fixed log)) log
-asks_nothing fixed log numbered our =
-    as_it_waits fixed numbered log AskNothing (λ before later e at may link to_server opened goes ask.
-    let none = owes_none (known fixed (world_at fixed before)) link may to_server opened goes
-    (record { begins = ask.begins; whole = ask.whole; stays = ask.stays; usable = ask.usable }) in
-    record { reset = none.reset; capture = none.capture }) our

@@ -111,8 +111,8 @@ module _ (k : Known) (key : LinkKey) (some : 0 < waiting k.terms k.now key) (ful
       let long : Bool = nat_le ((k.now.uses link).used + k.terms.router.proxy.idle_ms) k.now.clock in
       let let_go : is_let_go k link ≡ true = and_from _ _ vacant.1 (or_right soft _ (or_right long _ (and_from _ _ way no_room))) in
       and_from _ _ vacant.0
-      (or_right (is_spoilt k.terms k.log k.now link) _ (or_right (was_amiss (setup_by k) link k.now.tale.story) _
-      (or_right (is_refused k link) _ (or_right (is_past_reset (setup_by k) k.now link) _ let_go))))
+      (or_right (wire_now k.now link).quits _ (or_right (is_spoilt k.terms k.log k.now link) _ (or_right (was_amiss (setup_by k) link k.now.tale.story) _
+      (or_right (is_refused k link) _ (or_right (is_past_reset (setup_by k) k.now link) _ let_go)))))
 
   pub none_in_the_way : is_in k.terms.router (wire_now k.now link).server key.hostgroup ≡ true → is_of_key k.terms k.now key link ≡ true
   none_in_the_way lies = by_group (hostgroup_of k.terms.router (wire_now k.now link).server) refl lies where

@@ -1,8 +1,8 @@
 -- What is written on each link to a server is a front of its one spelling.
 use Rattle.std.specs.Prelude.{◌≡◌, ◌<◌, ℕ, zero, suc, ◌+◌, Bool, true, false, not, ◌&&◌, ◌||◌, drop, find, if◌then◌else◌, length, take, List, [], ◌∷◌, ◌++◌, Option, Some, None}
 use Rattle.std.specs.Option.{option_map_or}
-use Rattle.std.proofs.Common.{refl, sym, ap, ◌∙◌, subst, append_assoc, append-nil, arith}
-use Rattle.std.proofs.lemmas.List.{take-append-drop}
+use Rattle.std.proofs.Common.{refl, sym, ap, ◌∙◌, subst, append_assoc, append-nil, arith, length-append}
+use Rattle.std.proofs.lemmas.List.{take-append-drop, take-append-le, take_all}
 use Rattle.mx_base.specs.declared.names.LinkId.{LinkId}
 use Rattle.mx_base.specs.declared.tag.Tag.{Tag}
 use Rattle.mx_base.specs.declared.tag.Tag.TheVariants as tags
@@ -279,7 +279,12 @@ module _ (fixed : Fixed) (numbered : IsNumbered fixed) where
         → 0 < length bytes → IsClean wire there.stage there.live → IsClean more there.stage there.live
     rest_case None front some old = no_front bytes front some
     rest_case (Some t) front some old =
-        record { front = rest_front wire.written bytes wire.quits wire.step there.stage there old.front front some; mute = old.mute; ends = old.ends }
+        record {
+          front = rest_front wire.written bytes wire.quits wire.step there.stage there old.front front some;
+          mute = old.mute;
+          ends = old.ends;
+          some = λ begun. (let long = length-append wire.written bytes in omega (arith, long, some));
+        }
 
     module _ (to_server : is_to_server w.tale link ≡ true) (passes : Passes setup plan w.tale e) (decided : AreDecided w.decided (view_of setup w.tale))
         (some : 0 < length bytes) (fits : LawfulAfter Fits before (e ∷ later)) (on : On setup plan w.tale) where
@@ -306,11 +311,11 @@ module _ (fixed : Fixed) (numbered : IsNumbered fixed) where
 
     writes_well : Writes k link tag bytes → Passes setup plan w.tale e → AreDecided w.decided (view_of setup w.tale) → LawfulAfter Fits before (e ∷ later)
         → On setup plan w.tale → WritesWell setup plan w.tale e
-    writes_well writes passes decided fits on = λ to_server.
+    writes_well writes passes decided fits on = (fits.0.some, λ to_server.
         by_all to_server passes decided fits.0.some fits on (closes k link) wire.entered begins_now refl refl refl
-        (subst (λ b. Owes (owed_by b (closes k link) wire.entered begins_now)) to_server (writes.front, writes.tagged))
+        (subst (λ b. Owes (owed_by b (closes k link) wire.entered begins_now)) to_server (writes.front, writes.tagged)))
 
-  abbrev last_plan : Log → Plan
+  abbrev pub last_plan : Log → Plan
   last_plan log = plan_of (world_at fixed log).decided
 
   well_so : (before later : Log) (e : Entry) → AreBegun fixed (world_at fixed before) → IsOurs fixed before e → LawfulAfter Fits before (e ∷ later)
@@ -351,11 +356,23 @@ module _ (fixed : Fixed) (numbered : IsNumbered fixed) where
       (subst (λ (t : Tale). IsTestedFrom setup (last_plan whole) t later) (sym same) tested.1)
       (subst (λ (t : Tale). On setup (last_plan whole) t) (sym same) (step_stands setup (last_plan whole) w.tale e well on)))
 
+  -- before each entry, by the last plan
+  pub stands_at : (before later : Log) → length (before ++ later) < 18446744073709551616 → LawfulAfter (IsOurs fixed) [] (before ++ later)
+      → LawfulAfter Fits [] (before ++ later) → On setup (last_plan (before ++ later)) (world_at fixed before).tale
+  stands_at before later small ours fits =
+      let log : Log = before ++ later in
+      let same : take (length before) log ≡ before = take-append-le (length before) before later (omega arith) ∙ take_all (length before) before (omega arith) in
+      subst (λ (l : Log). On setup (last_plan log) (world_at fixed l).tale) same
+      (stands_from [] log log 0 (length before) refl (omega arith) (first_held fixed) (first_begun fixed) ours fits (tested fixed log ours fits) (first_stands setup (last_plan log)))
+
   pub says_kept : (log : Log) → length log < 18446744073709551616 → LawfulAfter (IsOurs fixed) [] log → LawfulAfter Fits [] log
       → AtEachMoment (RunsReadSo (final_terms fixed log)) log → AtEachMoment (headline.SaysSo (final_terms fixed log)) log
   says_kept log small ours fits reads = λ j.
+      let cut : take j log ++ drop j log ≡ log = take-append-drop j log in
       let on : On setup (last_plan log) (world_at fixed (take j log)).tale =
-      stands_from [] log log 0 j refl (omega arith) (first_held fixed) (first_begun fixed) ours fits (tested fixed log ours fits) (first_stands setup (last_plan log)) in
+      subst (λ (l : Log). On setup (last_plan l) (world_at fixed (take j log)).tale) cut
+      (stands_at (take j log) (drop j log) (subst (λ (l : Log). length l < 18446744073709551616) (sym cut) small)
+      (subst (LawfulAfter (IsOurs fixed) []) (sym cut) ours) (subst (LawfulAfter Fits []) (sym cut) fits)) in
       let same : tale_at (final_terms fixed log) (take j log) ≡ (world_at fixed (take j log)).tale =
       subst (λ (l : Log). tale_at (final_terms fixed l) (take j log) ≡ (world_at fixed (take j log)).tale) (take-append-drop j log) (tale_then fixed (take j log) (drop j log)) in
       says_so setup (last_plan log) (tale_at (final_terms fixed log) (take j log)) (reads j) (subst (λ (t : Tale). On setup (last_plan log) t) (sym same) on)

@@ -28,9 +28,9 @@ use Rattle.tale_world.specs.Policy.{next_question}
 use Rattle.tale_world.specs.Tested.{IsTestedFrom, Passes}
 use Rattle.tale_world.specs.Tests.{may_tell}
 use Rattle.tale_world.specs.Wishes.{Says, Sends, Wish, wish_for}
-use Rattle.router_promises.specs.Closes.{MayDrop, is_past_reset}
+use Rattle.router_promises.specs.Closes.{MayQuit, is_past_reset}
 use Rattle.router_promises.specs.Dues.{is_due, is_kept_due}
-use Rattle.router_promises.specs.Now.{Now, now_at, wire_now}
+use Rattle.router_promises.specs.Now.{Now, now_at, was_lost, wire_now}
 use Rattle.router_promises.specs.Steps.{is_for_due}
 use Rattle.router_promises.specs.Terms.{Terms, plan_in, setup_in, tale_at}
 use Rattle.shared_router.specs.Fixed.{Fixed, IsNumbered, setup_of}
@@ -42,7 +42,7 @@ use Rattle.shared_router.specs.Owed.{Owed, close_by, closes, farewell, is_whole_
 use Rattle.shared_router.specs.Sends.{MaySay, SendsAs, SendsFor, SendsSo}
 use Rattle.shared_router.specs.Shared.{final_terms, world_at}
 use Rattle.shared_router.specs.Wishes.{kept_due, standing_on, tag_of, texts, wish_on, wish_step, wish_tag}
-use Rattle.shared_router.proofs.Closing.{closed_so, drops_so}
+use Rattle.shared_router.proofs.Closing.{closed_so, untold_so}
 use Rattle.shared_router.proofs.Keeping.{begins_at, tested}
 use Rattle.shared_router.proofs.Lasting.{alike_at}
 use Rattle.shared_router.proofs.Parting.{tale_then}
@@ -107,16 +107,20 @@ tested_at s p (x ∷ before) later e tale is = tested_at s p before later e (tal
 -- What begins on a link: a QUIT where it is to be closed, or what is wished there.
 
 pub data Begun (k : Known) (link : LinkId) (tag : Tag) (step : StepText) : Type 0 where
-  Parts : closes k link ≡ true → step ≡ Asks Quit → tag ≡ tags.Own → Begun k link tag step
+  Parts : closes k link ≡ true → (wire_now k.now link).quits ≡ false → step ≡ Asks Quit → tag ≡ tags.Own → Begun k link tag step
   Wishes : (wish : Wish) → wish_on k link ≡ Some wish → tag ≡ wish_tag k wish → step ≡ wish_step wish → Begun k link tag step
 
 module _ (k : Known) (link : LinkId) (tag : Tag) (bytes : List ℕ) (step : StepText) (some : 0 < length bytes) (is : step ≡ step_by k link) where
   abbrev Owes : Owed → Type 0
   Owes owed = IsFront bytes owed.bytes × (tag ≡ owed.tag)
 
-  farewell_own : (b : Bool) → tag ≡ (if b then record { tag = tags.Own; bytes = spelling 0 (text_payload Quit) } else nothing_owed).tag → tag ≡ tags.Own
-  farewell_own true own = own
-  farewell_own false own = own
+  -- a QUIT is owed once
+  farewell_once : (may rest quits : Bool) → Owes (if may && (not quits && rest) then record { tag = tags.Own; bytes = spelling 0 (text_payload Quit) } else nothing_owed)
+      → (quits ≡ false) × (tag ≡ tags.Own)
+  farewell_once true true false owes = (refl, owes.1)
+  farewell_once true false false owes = no_front bytes owes.0 some
+  farewell_once true rest true owes = no_front bytes owes.0 some
+  farewell_once false rest quits owes = no_front bytes owes.0 some
 
   wished_begun : closes k link ≡ false → (o : Option Wish) → wish_on k link ≡ o → Owes (owed_next k link o) → Begun k link tag step
   wished_begun stays None at owes = no_front bytes owes.0 some
@@ -130,8 +134,9 @@ module _ (k : Known) (link : LinkId) (tag : Tag) (bytes : List ℕ) (step : Step
 
   server_begun : (c : Bool) → closes k link ≡ c → Owes (if c then farewell k link else owed_there k link true true) → Begun k link tag step
   server_begun true closing owes =
-      Parts closing (is ∙ ap (λ b. if b then Asks Quit else option_map_or wish_step (wish_on k link) (Closes 0)) closing)
-      (farewell_own (may_begin (setup_by k) link (wire_now k.now link) k.now.tale && _) owes.1)
+      let once = farewell_once (may_begin (setup_by k) link (wire_now k.now link) k.now.tale)
+      (not (was_lost k.log link) && is_whole_step (wire_now k.now link).step (wire_now k.now link).written) (wire_now k.now link).quits owes in
+      Parts closing once.0 (is ∙ ap (λ b. if b then Asks Quit else option_map_or wish_step (wish_on k link) (Closes 0)) closing) once.1
   server_begun false stays owes = whole_begun stays (is_whole_step (wire_now k.now link).step (wire_now k.now link).written) owes
 
   abbrev owed_by : (there entered begins : Bool) → Owed
@@ -233,14 +238,14 @@ module _ (fixed : Fixed) (numbered : IsNumbered fixed) where
     same = now_is fixed t before (now_same fixed numbered before (e ∷ later))
 
     module _ (fits : LawfulAfter Fits before (e ∷ later)) (passes : Passes (setup_of fixed) (plan_in t) (tale_at t before) e) (our : IsOurs fixed before e) where
-      drop_so : closes k link ≡ true → is_to_server w.tale link ≡ true → MayDrop t before k.now link
-      drop_so closing there = by_close (close_by k) refl closing where
-        by_close : (o : Option LinkId) → close_by k ≡ o → option_map_or (is_link_id link) o false ≡ true → MayDrop t before k.now link
+      quit_so : closes k link ≡ true → (wire_now k.now link).quits ≡ false → is_to_server w.tale link ≡ true → MayQuit t before k.now link
+      quit_so closing untold there = by_close (close_by k) refl closing where
+        by_close : (o : Option LinkId) → close_by k ≡ o → option_map_or (is_link_id link) o false ≡ true → MayQuit t before k.now link
         by_close None at is = isnt is
         by_close (Some other) at is =
-            subst (λ (l : Log). MayDrop t l k.now link) (log_at fixed before)
-            (drops_so fixed w.more.log k.now w (world_at fixed (before ++ e ∷ later)) (alike_at fixed numbered before (e ∷ later) fits) link there
-            (closed_so fixed numbered before link so_far (at ∙ ap (λ l. Some l) (sym (link_of link other is))) there))
+            subst (λ (l : Log). MayQuit t l k.now link) (log_at fixed before)
+            (untold_so fixed w.more.log k.now w (world_at fixed (before ++ e ∷ later)) (alike_at fixed numbered before (e ∷ later) fits) link there
+            (closed_so fixed numbered before link so_far (at ∙ ap (λ l. Some l) (sym (link_of link other is))) there) untold)
 
       sent_due : is_to_server w.tale link ≡ true → may_begin (setup_of fixed) link (w.tale.wires link) w.tale ≡ true
           → (client : ClientNo) (ordinal : ℕ) → tag ≡ tags.For client ordinal → is_for_due t k.now (record { client = client; ordinal = ordinal }) ≡ true
@@ -252,8 +257,8 @@ module _ (fixed : Fixed) (numbered : IsNumbered fixed) where
 
       by_begun : (step : StepText) → is_to_server w.tale link ≡ true → may_begin (setup_of fixed) link (w.tale.wires link) w.tale ≡ true
           → Begun k link tag step → SendsFor t before k.now link step tag
-      by_begun step there begins (Parts closing asks own) =
-          subst (λ s. SendsFor t before k.now link s tag) (sym asks) (subst (λ x. SendsFor t before k.now link (Asks Quit) x) (sym own) (drop_so closing there))
+      by_begun step there begins (Parts closing untold asks own) =
+          subst (λ s. SendsFor t before k.now link s tag) (sym asks) (subst (λ x. SendsFor t before k.now link (Asks Quit) x) (sym own) (quit_so closing untold there))
       by_begun step there begins (Wishes wish wished tagged asks) =
           subst (λ s. SendsFor t before k.now link s tag) (sym asks) (subst (λ x. SendsFor t before k.now link (wish_step wish) x) (sym tagged)
           (wish_sends k link t before refl wish wished (λ client ordinal is. sent_due there begins client ordinal (tagged ∙ is))))

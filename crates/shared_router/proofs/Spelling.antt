@@ -1,5 +1,5 @@
 -- What stands on links to servers is a front of its one spelling: what a tale's steps keep of that.
-use Rattle.std.specs.Prelude.{◌≡◌, ℕ, ◌-◌, Bool, true, false, not, fold, if◌then◌else◌, length, take, List, [], ◌∷◌, ◌++◌, Option, Some, None}
+use Rattle.std.specs.Prelude.{◌≡◌, ◌<◌, ℕ, ◌-◌, Bool, true, false, not, ◌||◌, fold, if◌then◌else◌, length, take, List, [], ◌∷◌, ◌++◌, Option, Some, None}
 use Rattle.std.specs.List.{list_any}
 use Rattle.std.proofs.Common.{refl, sym, ap, ◌∙◌, subst, append_assoc}
 use Rattle.mx_base.specs.declared.names.LinkId.{LinkId}
@@ -48,10 +48,15 @@ text_on quits step Quiet live = text_of_step quits step
 text_on quits step (Asked question) live = spelt (command_of question) (number_for question live)
 text_on quits step (Answered question) live = spelt (command_of question) (number_for question live)
 
+-- a command stands there that is asked or answered, or a STMT_CLOSE or a STMT_RESET
+abbrev pub has_begun : Option StepText → Stage → Bool
+has_begun step stage = is_mute step || not (is_quiet stage)
+
 pub record IsClean (wire : Wire) (stage : Stage) (live : ℕ → Option ℕ) : Type 0 where
   pub front : IsFront wire.written (text_on wire.quits wire.step stage live)
   pub mute : is_mute wire.step ≡ true → (is_quiet stage ≡ true) × (wire.quits ≡ false)
   pub ends : wire.quits ≡ true → is_quiet stage ≡ true
+  pub some : has_begun wire.step stage ≡ true → 0 < length wire.written
 
 -- in a login
 pub record IsEntering (login : Login) (wire : Wire) : Type 0 where
@@ -68,6 +73,19 @@ Stood wire login link = IsStanding wire.entered login wire link
 
 isnt : {A : Type 0} → false ≡ true → A
 isnt is = absurd (cc)
+
+mute_if : (step : Option StepText) (quiet : Bool) → quiet ≡ true → (is_mute step || not quiet) ≡ true → is_mute step ≡ true
+mute_if step true is begun = by_mute (is_mute step) begun where
+  by_mute : (b : Bool) → (b || false) ≡ true → b ≡ true
+  by_mute true begun = refl
+  by_mute false begun = begun
+mute_if step false is begun = isnt is
+
+reset_mute : (step : Option StepText) → is_reset_step step ≡ true → is_mute step ≡ true
+reset_mute (Some (Resets number)) is = refl
+reset_mute (Some (Closes number)) is = isnt is
+reset_mute (Some (Asks command)) is = isnt is
+reset_mute None is = isnt is
 
 quiet_so : (stage : Stage) → stage ≡ Quiet → is_quiet stage ≡ true
 quiet_so stage is = ap is_quiet is
@@ -215,7 +233,7 @@ module _ (setup : Setup) where
     ran_stood (Asked question) link false login wire is stood = stood
     ran_stood (Asked question) link true login wire is stood =
         let now : IsClean wire (Asked question) link.live = subst (λ (s : Stage). IsClean wire s link.live) is stood in
-        record { front = now.front; mute = now.mute; ends = now.ends }
+        record { front = now.front; mute = now.mute; ends = now.ends; some = now.some }
 
     pub ran_stands : (k : LinkId) (tale : Tale) → AllOn tale → AllOn (tell (Ran k) tale)
     ran_stands k tale all =
@@ -237,7 +255,7 @@ module _ (setup : Setup) where
     -- Bytes of a server: of one that is logged in, what stands there stays, or is answered.
 
     clean_read : (wire : Wire) (unread : List ℕ) (stage : Stage) (live : ℕ → Option ℕ) → IsClean wire stage live → IsClean (record wire { unread = unread }) stage live
-    clean_read wire unread stage live clean = record { front = clean.front; mute = clean.mute; ends = clean.ends }
+    clean_read wire unread stage live clean = record { front = clean.front; mute = clean.mute; ends = clean.ends; some = clean.some }
 
     heard_stand : (k : LinkId) (question : Question) (wire : Wire) (ending : Ending) (tale : Tale) → wire.entered ≡ true
         → (links_in tale.story k).stage ≡ Answered question → (is_to_server tale k ≡ true → IsClean wire (links_in tale.story k).stage (links_in tale.story k).live)
@@ -251,6 +269,8 @@ module _ (setup : Setup) where
           front = none_written _;
           mute = λ mute. (quiet_so (links_in story k).stage (heard_quiet (view_of setup tale) k reply (links_in tale.story k).stage question is), ((clean there).mute mute).1);
           ends = λ quits. quiet_so (links_in story k).stage (heard_quiet (view_of setup tale) k reply (links_in tale.story k).stage question is);
+          some = λ begun. isnt (sym (ap is_quiet is) ∙ ((clean there).mute (mute_if wire.step (is_quiet (links_in story k).stage)
+              (quiet_so (links_in story k).stage (heard_quiet (view_of setup tale) k reply (links_in tale.story k).stage question is)) begun)).0);
         })) all
     heard_stand k question wire (Going state) tale entered is clean all =
         one_on tale k wire tale.story (λ l other. refl)
@@ -289,6 +309,7 @@ module _ (setup : Setup) where
           front = none_written _;
           mute = λ mute. isnt mute;
           ends = λ quits. (clean there).ends quits;
+          some = λ begun. isnt (sym (ap not ((clean there).mute (reset_mute wire.step resets)).0) ∙ begun);
         })) all
     reset_stands k wire (Going state) tale entered resets clean all =
         one_on tale k wire tale.story (λ l other. refl)
@@ -318,6 +339,7 @@ module _ (setup : Setup) where
           front = none_written _;
           mute = λ mute. (refl, (is there).stays);
           ends = λ quits. refl;
+          some = λ begun. isnt (sym (ap (λ step. is_mute step || false) (is there).begun) ∙ begun);
         })) all
     enters_stand k wire (Goes said) tale entered is all =
         one_on tale k wire tale.story (λ l other. refl)

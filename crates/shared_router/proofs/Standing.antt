@@ -1,5 +1,5 @@
 -- What stands on links to servers is a front of its one spelling, behind each entry.
-use Rattle.std.specs.Prelude.{◌≡◌, ℕ, zero, suc, Bool, true, false, not, ◌&&◌, ◌||◌, fold, if◌then◌else◌, length, map, nat_eq, slice_get, slice_index_or, List, [], ◌∷◌, ◌++◌, Option, Some, None}
+use Rattle.std.specs.Prelude.{◌≡◌, ◌<◌, ℕ, zero, suc, Bool, true, false, not, ◌&&◌, ◌||◌, fold, if◌then◌else◌, length, map, nat_eq, slice_get, slice_index_or, List, [], ◌∷◌, ◌++◌, Option, Some, None}
 use Rattle.std.specs.List.{list_any}
 use Rattle.std.specs.Option.{option_map_or}
 use Rattle.std.proofs.Common.{refl, sym, ap, ◌∙◌, subst}
@@ -146,21 +146,22 @@ module _ (setup : Setup) (plan : Plan) where
 
   abbrev pub WritesWell : Tale → Entry → Type 0
   WritesWell tale (entry.Wrote k for bytes) =
-      is_to_server tale k ≡ true → WritesThere (may_begin setup k (tale.wires k) tale) k for bytes tale
+      (0 < length bytes) × (is_to_server tale k ≡ true → WritesThere (may_begin setup k (tale.wires k) tale) k for bytes tale)
   WritesWell tale _ = Unit {0}
 
-  starts_stand : (k : LinkId) (bytes : List ℕ) (wire : Wire) (tale : Tale) (es : List Happening) → wire.entered ≡ true → wire.written ≡ bytes
+  starts_stand : (k : LinkId) (bytes : List ℕ) (wire : Wire) (tale : Tale) (es : List Happening) → wire.entered ≡ true → 0 < length bytes → wire.written ≡ bytes
       → (links_in setup tale.story k).stage ≡ Quiet → Starts k bytes wire.quits wire.step (links_in setup tale.story k).live es → On tale
       → AllStand setup plan tale.links (put is_link_id tale.wires k wire) (es ++ tale.story)
-  starts_stand k bytes wire tale es entered is quiet (Tells front mute) all =
+  starts_stand k bytes wire tale es entered some is quiet (Tells front mute) all =
       one_on setup plan tale k wire tale.story (λ l other. refl)
       (λ there. subst (λ b. IsStanding b (plan.logins k) wire (links_in setup tale.story k)) (sym entered)
       (subst (λ (s : Stage). IsClean wire s (links_in setup tale.story k).live) (sym quiet) (record {
         front = subst (λ bs. IsFront bs (text_of_step wire.quits wire.step)) (sym is) front;
         mute = λ m. (refl, mute m);
         ends = λ quits. refl;
+        some = λ begun. subst (λ bs. 0 < length bs) (sym is) some;
       }))) all
-  starts_stand k bytes wire tale es entered is quiet (Closes number front mute) all =
+  starts_stand k bytes wire tale es entered some is quiet (Closes number front mute) all =
       let links = links_in setup tale.story in
       one_on setup plan tale k wire (Unprepared k number ∷ tale.story) (λ l other. other_put links k _ l other)
       (λ there. subst (λ (x : Link). Stood wire (plan.logins k) x) (sym (put_there links k (closed_number number (links k))))
@@ -169,8 +170,9 @@ module _ (setup : Setup) (plan : Plan) where
         front = subst (λ bs. IsFront bs (text_of_step wire.quits wire.step)) (sym is) front;
         mute = λ m. (refl, mute m);
         ends = λ quits. refl;
+        some = λ begun. subst (λ bs. 0 < length bs) (sym is) some;
       })))) all
-  starts_stand k bytes wire tale es entered is quiet (Asks question front plain stays) all =
+  starts_stand k bytes wire tale es entered some is quiet (Asks question front plain stays) all =
       let links = links_in setup tale.story in
       one_on setup plan tale k wire (Sent k question ∷ tale.story) (λ l other. other_put links k _ l other)
       (λ there. subst (λ (x : Link). Stood wire (plan.logins k) x) (sym (put_there links k (asked question (links k))))
@@ -178,16 +180,17 @@ module _ (setup : Setup) (plan : Plan) where
         front = subst (λ bs. IsFront bs (spelt (command_of question) (number_for question (links k).live))) (sym is) front;
         mute = λ m. isnt (sym plain ∙ m);
         ends = λ quits. isnt (sym stays ∙ quits);
+        some = λ begun. subst (λ bs. 0 < length bs) (sym is) some;
       }))) all
 
-  writes_stand : (k : LinkId) (for : Tag) (bytes : List ℕ) (tale : Tale) → is_to_server tale k ≡ true
+  writes_stand : (k : LinkId) (for : Tag) (bytes : List ℕ) (tale : Tale) → is_to_server tale k ≡ true → 0 < length bytes
       → WritesThere (may_begin setup k (tale.wires k) tale) k for bytes tale → On tale → On (writes setup plan k for bytes (tale.wires k) tale)
-  writes_stand k for bytes tale there well all = by_test (may_begin setup k (tale.wires k) tale) refl well where
+  writes_stand k for bytes tale there some well all = by_test (may_begin setup k (tale.wires k) tale) refl well where
     by_test : (b : Bool) → may_begin setup k (tale.wires k) tale ≡ b → WritesThere b k for bytes tale
         → On (if b then begins setup plan k for bytes (tale.wires k) tale else with_wire k (more_wire k bytes tale) tale)
     by_test true begins well =
         starts_stand k bytes (begun_wire k for bytes tale) tale (begun_on setup plan tale.moment (view_of setup tale) k (tale.wires k) for)
-        (left_of (tale.wires k).entered _ begins) refl
+        (left_of (tale.wires k).entered _ begins) some refl
         (quiet_is (links_in setup tale.story k).stage (left_of _ _ (right_of (tale.wires k).entered _ begins))) well all
     by_test false begins well = one_on setup plan tale k (more_wire k bytes tale) tale.story (λ l other. refl) (λ is. well) all
 
@@ -198,7 +201,7 @@ module _ (setup : Setup) (plan : Plan) where
   told_stand tale (entry.Wrote link for bytes) well all = by_there (is_to_server tale link) refl where
     by_there : (b : Bool) → is_to_server tale link ≡ b
         → On (if b then writes setup plan link for bytes (tale.wires link) tale else record tale { clients = map (client_gets link (length bytes)) tale.clients })
-    by_there true there = writes_stand link for bytes tale there (well there) all
+    by_there true there = writes_stand link for bytes tale there well.0 (well.1 there) all
     by_there false there = all
   told_stand tale (entry.Exec link) well all =
       ifs setup plan On (tale.wires link).entered _ _

@@ -94,11 +94,12 @@ some_not None is = refl
 some_not (Some x) is = absurd (cc)
 
 -- of the tests for closes
-usable_of : (opened spoilt amiss more : Bool) → (opened && (spoilt || (amiss || more))) ≡ false → opened ≡ true → (not spoilt && not amiss) ≡ true
-usable_of true false false more is there = refl
-usable_of true false true more is there = absurd (cc)
-usable_of true true amiss more is there = absurd (cc)
-usable_of false spoilt amiss more is there = isnt there
+usable_of : (opened quits spoilt amiss more : Bool) → (opened && (quits || (spoilt || (amiss || more)))) ≡ false → opened ≡ true → (not spoilt && not amiss) ≡ true
+usable_of true false false false more is there = refl
+usable_of true false false true more is there = absurd (cc)
+usable_of true false true amiss more is there = absurd (cc)
+usable_of true true spoilt amiss more is there = absurd (cc)
+usable_of false quits spoilt amiss more is there = isnt there
 
 left_of : (a b : Bool) → (a && b) ≡ true → a ≡ true
 left_of true b is = refl
@@ -210,7 +211,7 @@ module _ (fixed : Fixed) (numbered : IsNumbered fixed) where
         let none : close_by k ≡ None = some_not (close_by k) (or_parts (is_some (close_by k)) _ nothing).0 in
         let kept : is_to_close k link ≡ false = find_none (is_to_close k) link w.tale.links (or_none _ (find (is_to_close k) w.tale.links) none) there in
         subst (λ l. is_usable (terms_of fixed w) l (now_of fixed w) link ≡ true) (log_at fixed before)
-        (usable_of (is_open link w.more.log) (is_spoilt (terms_of fixed w) w.more.log (now_of fixed w) link) (was_amiss (setup_of fixed) link w.tale.story) _ kept
+        (usable_of (is_open link w.more.log) (w.tale.wires link).quits (is_spoilt (terms_of fixed w) w.more.log (now_of fixed w) link) (was_amiss (setup_of fixed) link w.tale.story) _ kept
         (subst (λ l. is_open link l ≡ true) (sym (log_at fixed before)) opened))
 
     pub step_is : Begins fixed w link e → is_to_server w.tale link ≡ true → may_begin (setup_of fixed) link (w.tale.wires link) w.tale ≡ true

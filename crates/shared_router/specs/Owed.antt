@@ -56,11 +56,14 @@ is_let_go k link =
 abbrev pub is_refused : Known → LinkId → Bool
 is_refused k link = was_refused (setup_by k) link k.now.tale.story && not (is_joined (link_by k link).carries)
 
+abbrev pub is_to_quit : Known → LinkId → Bool
+is_to_quit k link =
+    is_spoilt k.terms k.log k.now link
+    || (was_amiss (setup_by k) link k.now.tale.story || (is_refused k link || (is_past_reset (setup_by k) k.now link || is_let_go k link)))
+
+-- and what was told QUIT is closed, whatever became of its cause
 abbrev pub is_to_close : Known → LinkId → Bool
-is_to_close k link =
-    is_open link k.log
-    && (is_spoilt k.terms k.log k.now link
-    || (was_amiss (setup_by k) link k.now.tale.story || (is_refused k link || (is_past_reset (setup_by k) k.now link || is_let_go k link))))
+is_to_close k link = is_open link k.log && ((wire_now k.now link).quits || is_to_quit k link)
 
 -- clients first
 abbrev pub close_by : Known → Option LinkId

@@ -16,8 +16,9 @@ use Rattle.router_promises.specs.Running.{is_entering, opening_on}
 use Rattle.router_promises.specs.Terms.{Terms, plan_in}
 use Rattle.router_promises.specs.Wakes.{has_ended}
 
--- a link to a server can be used; and where it rests and carries nobody, it wasn't idle for long
+-- a link to a server wasn't told QUIT, and can be used; and where it rests and carries nobody, it wasn't idle for long
 pub record IsKept (terms : Terms) (log : Log) (now : Now) (link : LinkId) : Type 0 where
+  pub stays : (wire_now now link).quits ≡ false
   pub sound : is_usable terms log now link ≡ true
   pub young : is_resting terms log now link ≡ true → now.clock < (now.uses link).used + terms.router.proxy.idle_ms
 

@@ -10,14 +10,14 @@ use Rattle.private_model.specs.Names.{LinkId}
 use Rattle.log_story.specs.Plan.{Asks, Resets, StepText}
 use Rattle.log_story.specs.Servers.{may_begin}
 use Rattle.log_story.specs.Tale.{is_to_server}
-use Rattle.router_promises.specs.Closes.{MayDrop, is_past_reset}
+use Rattle.router_promises.specs.Closes.{MayQuit, is_past_reset}
 use Rattle.router_promises.specs.Now.{Now, now_at, wire_now}
 use Rattle.router_promises.specs.Steps.{IsReset, is_for_due}
 use Rattle.router_promises.specs.Terms.{Terms, plan_in, setup_in}
 
--- a QUIT ends a link that may be closed, and a STMT_RESET names a statement with long data
+-- a QUIT is said for a cause to close the link, and a STMT_RESET names a statement with long data
 abbrev pub MaySay : Terms → Log → Now → LinkId → StepText → Type 0
-MaySay terms log now link (Asks Quit) = MayDrop terms log now link
+MaySay terms log now link (Asks Quit) = MayQuit terms log now link
 MaySay terms log now link (Resets number) = IsReset now link number
 MaySay terms log now link _ = Unit {0}
 

@@ -8,14 +8,12 @@ use Rattle.mx_wire.specs.declared.entry.Entry.TheVariants.{Over, WaitFailed, Wok
 use Rattle.ready_loop.specs.Drained.{write_dry}
 use Rattle.log_story.specs.Honest.{IsStep}
 use Rattle.log_story.specs.Owed.{name_of}
-use Rattle.log_story.specs.Servers.{is_quiet, may_begin}
 use Rattle.log_story.specs.Tale.{Client, is_to_server}
-use Rattle.router_promises.specs.Closes.{is_joined}
 use Rattle.router_promises.specs.Due.{due_to}
 use Rattle.router_promises.specs.Ends.{was_answered}
 use Rattle.router_promises.specs.Keys.{LinkKey, how_many, is_idle, is_stepping, waiting}
 use Rattle.router_promises.specs.Now.{Now, link_now, now_at, wire_now}
-use Rattle.router_promises.specs.Rest.{IsBegunWhole, IsInWork, IsRead, is_failed_write, owes_capture, owes_reset}
+use Rattle.router_promises.specs.Rest.{IsBegunWhole, IsInWork, IsRead, is_answered_on, is_failed_write, owes_capture, owes_reset}
 use Rattle.router_promises.specs.Terms.{Terms, plan_in, setup_in}
 use Rattle.router_promises.specs.Wakes.{has_ended, wakes_at}
 
@@ -44,12 +42,15 @@ abbrev pub WakesSo : Terms → Log → Entry → Type 0
 WakesSo terms log (Woke until_ms now_ms) = until_ms ≡ wakes_at terms log (now_at terms log)
 WakesSo terms log _ = Unit {0}
 
--- A question may begin on a link: it wasn't told QUIT, what stood there is whole, and the story has it as one of use.
-pub record MayAsk (terms : Terms) (now : Now) (link : LinkId) : Type 0 where
-  pub begins : may_begin (setup_in terms) link (wire_now now link) now.tale ≡ true
-  pub whole : IsStep (wire_now now link).step (wire_now now link).written
-  pub stays : (wire_now now link).quits ≡ false
-  pub usable : (link_now (setup_in terms) now link).usable ≡ true
+-- What began on a link is written whole: a question, a STMT_CLOSE or a STMT_RESET.
+pub record IsBegunThere (terms : Terms) (now : Now) (link : LinkId) : Type 0 where
+  pub begun : IsBegunWhole (setup_in terms) now link (link_now (setup_in terms) now link).stage
+  pub closed : IsStep (wire_now now link).step (wire_now now link).written
+
+-- on each open link to a server that takes more
+abbrev pub AreWhole : Terms → Log → Now → Type 0
+AreWhole terms log now =
+    (link : LinkId) → is_to_server now.tale link ≡ true → is_open link log ≡ true → write_dry link log ≡ false → IsBegunThere terms now link
 
 -- neither the end of a session that was left is owed there nor its client's insert id
 pub record OwesNoStep (terms : Terms) (now : Now) (link : LinkId) : Type 0 where
@@ -58,27 +59,22 @@ pub record OwesNoStep (terms : Terms) (now : Now) (link : LinkId) : Type 0 where
 
 abbrev pub AskNothing : Terms → Log → Now → Type 0
 AskNothing terms log now =
-    (link : LinkId) → is_to_server now.tale link ≡ true → is_open link log ≡ true → write_dry link log ≡ false → MayAsk terms now link
-    → OwesNoStep terms now link
+    (link : LinkId) → is_to_server now.tale link ≡ true → is_open link log ≡ true → write_dry link log ≡ false
+    → is_answered_on (setup_in terms) now link ≡ true → OwesNoStep terms now link
+
+-- no write to a client failed that goes on
+abbrev pub AreUnbroken : Terms → Log → Now → Type 0
+AreUnbroken terms log now =
+    All (λ (client : Client). is_open client.link log ≡ true → has_ended terms now client ≡ false → list_any is_failed_write (of_link client.link log) ≡ false)
+    now.tale.clients
 
 -- What is left of rest, beside the parts that are laws of their own.
 
--- No QUIT stands on a link to a server; where the link takes more, what began there is whole, and a question may begin where nothing
--- stands and a session goes on.
-pub record IsDoneOn (terms : Terms) (log : Log) (now : Now) (link : LinkId) : Type 0 where
-  pub stays : (wire_now now link).quits ≡ false
-  pub begun : write_dry link log ≡ false → IsBegunWhole (setup_in terms) now link (link_now (setup_in terms) now link).stage
-  pub closed : write_dry link log ≡ false → IsStep (wire_now now link).step (wire_now now link).written
-  pub asks : write_dry link log ≡ false → is_quiet (link_now (setup_in terms) now link).stage ≡ true
-      → is_joined (link_now (setup_in terms) now link).carries ≡ true → MayAsk terms now link
-
--- no write to a client failed that goes on, and its last message that was taken up is answered or in work
-pub record IsDoneFor (terms : Terms) (log : Log) (now : Now) (client : Client) : Type 0 where
-  pub unbroken : has_ended terms now client ≡ false → list_any is_failed_write (of_link client.link log) ≡ false
-  pub worked : has_ended terms now client ≡ false → was_answered terms now client ≡ false
-      → IsInWork terms log now client ((plan_in terms).routes (name_of client client.taken))
+-- the last message of a client that was taken up is answered or in work
+abbrev pub IsWorked : Terms → Log → Now → Client → Type 0
+IsWorked terms log now client = has_ended terms now client ≡ false → was_answered terms now client ≡ false
+    → IsInWork terms log now client ((plan_in terms).routes (name_of client client.taken))
 
 pub record AreDone (terms : Terms) (log : Log) (now : Now) : Type 0 where
-  pub links : (link : LinkId) → is_to_server now.tale link ≡ true → is_open link log ≡ true → IsDoneOn terms log now link
-  pub clients : All (λ (client : Client). is_open client.link log ≡ true → IsDoneFor terms log now client) now.tale.clients
+  pub clients : All (λ (client : Client). is_open client.link log ≡ true → IsWorked terms log now client) now.tale.clients
   pub idle : (key : LinkKey) → 0 < how_many is_idle terms log now key → waiting terms now key ≤ how_many is_stepping terms log now key

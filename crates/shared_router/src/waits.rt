@@ -12,7 +12,8 @@ ghost use Rattle.shared_router.specs.Fixed.{Fixed, IsNumbered};
 ghost use Rattle.shared_router.specs.Ours.{IsOurLog};
 ghost use Rattle.shared_router.specs.Rests.{HasEnough, IsCalm, SaysLogin};
 ghost use Rattle.shared_router.specs.Shared.{final_terms};
-ghost use Rattle.shared_router.specs.Waited.{AreDone, AreRead, AreTold, AskNothing, AsItWaits, WakesSo};
+ghost use Rattle.shared_router.specs.Spelt.{RunsReadSo};
+ghost use Rattle.shared_router.specs.Waited.{AreDone, AreRead, AreTold, AreUnbroken, AreWhole, AskNothing, AsItWaits, WakesSo};
 
 /// Where the loop waits, each open link was read dry, or may be left: it is that of a client that ended, or that has a message in work and
 /// a mebibyte behind it; or it carries a client for whom a mebibyte is unwritten.
@@ -33,8 +34,20 @@ pub fn wakes_in_time()
     ensures { (fixed : Fixed) (log : Log) → IsNumbered fixed → IsOurLog fixed log → AllLawful (WakesSo (final_terms fixed log)) log }
 {}
 
-/// Where the loop waits, on each open link to a server that takes more and on which a question may begin, no session that was left is to be
-/// ended, and no insert id is to be asked for.
+/// Where the loop waits, no write failed on the open link of a client that goes on.
+pub fn goes_on_unbroken()
+    ensures { (fixed : Fixed) (log : Log) → IsNumbered fixed → IsOurLog fixed log → AllLawful (AsItWaits AreUnbroken (final_terms fixed log)) log }
+{}
+
+/// Where the loop waits, on each open link to a server that takes more, what began there is written whole: where each execute reads as it is
+/// spelt.
+pub fn writes_what_it_begins()
+    ensures { (fixed : Fixed) (log : Log) → IsNumbered fixed → IsOurLog fixed log → AtEachMoment (RunsReadSo (final_terms fixed log)) log
+        → AllLawful (AsItWaits AreWhole (final_terms fixed log)) log }
+{}
+
+/// Where the loop waits, on each open link to a server that takes more and where all is answered, no session that was left is to be ended, and no
+/// insert id is to be asked for.
 pub fn asks_for_nothing()
     ensures { (fixed : Fixed) (log : Log) → IsNumbered fixed → IsOurLog fixed log
         → AllLawful (AsItWaits AskNothing (final_terms fixed log)) log }
@@ -51,5 +64,6 @@ pub fn shares_enough()
 /// These parts, with what is left of rest (`AreDone`), are the whole of it.
 pub fn rests_by_parts()
     ensures { (terms : Terms) (log : Log) (now : Now) → IsCalm terms log now → AreRead terms log now → AreTold terms log now
-        → ((link : LinkId) → SaysLogin terms log now link) → AskNothing terms log now → AreDone terms log now → IsAtRest terms log now }
+        → ((link : LinkId) → SaysLogin terms log now link) → AreUnbroken terms log now → AreWhole terms log now → AskNothing terms log now
+        → AreDone terms log now → IsAtRest terms log now }
 {}

@@ -3,7 +3,7 @@ use Rattle.std.specs.Prelude.{Bool, List, None, Option, Some, [], false, fold, i
 use Rattle.std.specs.List.{list_any}
 use Rattle.std.specs.Option.{option_map_or}
 use Rattle.std.proofs.Common.{refl, sym, ap, ◌∙◌, inl, inr}
-use Rattle.std.proofs.lemmas.Bool.{and_parts, cases_Bool, not-true, or_parts}
+use Rattle.std.proofs.lemmas.Bool.{and_parts, cases_Bool, not-true, or_parts, or_right}
 use Rattle.std.proofs.lemmas.List.Folds.{list_any-append}
 use Rattle.mx_base.specs.declared.names.LinkId.{LinkId}
 use Rattle.mx_base.specs.declared.tag.Tag.{Tag}
@@ -16,30 +16,35 @@ use Rattle.reply_track.specs.Runs.{Ending}
 use Rattle.reply_track.specs.Runs.Ending.{Going, Ended, Failed}
 use Rattle.reply_track.specs.declared.reply.ReplyKind.TheVariants as kind
 use Rattle.server_side.specs.Login.{Opening, Goes, LogsIn, Fails, opening}
-use Rattle.private_model.proofs.Maps.{link_of}
+use Rattle.private_model.proofs.Maps.{link_of, same_link}
 use Rattle.private_model.specs.Commands.{Command, Reply}
 use Rattle.private_model.specs.Names.{ClientNo, Hostgroup, MessageName, ServerId, SessionName}
 use Rattle.private_model.specs.Lawful.{IsLawful, MayCome}
 use Rattle.private_model.specs.Story.{BecameDue, Broke, Capture, Dropped, Due, End, Freed, Gone, Happening, Heard, Left, LoggedIn, Mirrored, Own, Prep, Question, Ran, Sent, Statement, Story, Sync, Unprepared, message_of}
 use Rattle.private_model.specs.Story.{command_of, is_client, is_link_id, is_name, put}
-use Rattle.private_model.specs.View.{Answered, Asked, Carried, Joined, Lent, Link, Nobody, Quiet, Setup, Stage, View, closed_number, freed, heard, no_link, present, ran_by, session_in, view_after, view_heard, view_step}
+use Rattle.private_model.specs.View.{Answered, Asked, Carried, Joined, Lent, Link, Nobody, Quiet, Setup, Stage, View, closed_number, freed, heard, new_link, no_link, present, ran_by, session_in, view_after, view_heard, view_step}
 use Rattle.log_story.specs.Clients.{client_goes_on, client_leaves, clients_are_ended, clients_go_on, copied, due_by, ended_if_now, is_up}
 use Rattle.log_story.specs.Clients.{is_event_of, next_taken, taken_by, taken_up}
 use Rattle.log_story.specs.Executes.{Request, requested}
 use Rattle.log_story.specs.Owed.{messages, name_of}
 use Rattle.log_story.specs.Plan.{Asks, Closes, Plan, Resets, Route, StepText, com_reset, gives_up, is_before, is_now, job_of, own_at}
-use Rattle.log_story.specs.Servers.{begins, begun_by, begun_on, copy_by, due_in, ended_by, entered_by, freed_if_done, heard_by, hears, is_done, kind_by, links_are_freed, may_begin, of_due, or_broke}
+use Rattle.log_story.specs.Servers.{begins, begun_by, begun_on, copy_by, due_in, ended_by, entered_by, freed_if_done, heard_by, hears, is_done, kind_by, links_are_freed, logged_in_as, may_begin, of_due, or_broke}
 use Rattle.log_story.specs.Servers.{quits_by, quits_for, read_as, reads_on, reset_by, runs_first, step_for, stepped, with_run, writes}
 use Rattle.log_story.specs.Tale.{Client, Tale, Wire, counted, first_tale, is_reset_step, is_to_server, link_in, new_wire, tell, view_of, with_client, with_wire}
 use Rattle.log_story.specs.Telling.{is_lost_or_left, server_says, story_of, tale_step, told, wire_with}
 use Rattle.log_story.proofs.Rules.{may_free}
 use Rattle.tale_world.specs.Tested.{IsTested, IsTestedFrom, Passes, has_broken, is_broken}
 use Rattle.tale_world.specs.Tests.{may_tell}
+use Rattle.tale_world.proofs.Used.{IsUsed, StaysUsed, used_after}
 use Rattle.tale_world.proofs.Testing.{AreBegun, IsOfView, tells_so}
 use Rattle.server_rule.specs.Servers.{is_some_of}
 
 isnt : {A : Type 0} → false ≡ true → A
 isnt is = absurd (cc)
+
+or_assoc : (a b c : Bool) → ((a || b) || c) ≡ (a || (b || c))
+or_assoc true b c = refl
+or_assoc false b c = refl
 
 if_either : {A : Type 0} (P : A → Type 0) (b : Bool) (x y : A) → (b ≡ true → P x) → (b ≡ false → P y) → P (if b then x else y)
 if_either P true x y first second = first refl
@@ -62,7 +67,8 @@ due-of plan moment ordinal n (Some other) due is = by_test (nat_eq other.ordinal
 unbroken-past : (es story : Story) → has_broken (es ++ story) ≡ false → has_broken story ≡ false
 unbroken-past es story none = (or_parts (list_any is_broken es) _ (sym (list_any-append is_broken es story) ∙ none)).1
 
-module _ (setup : Setup) (plan : Plan) where
+-- of links that are lost or closed it isn't said that they are of use
+module _ (setup : Setup) (plan : Plan) (lost : LinkId → Bool) where
   begun_broke : {A : Type 0} (happens : A → List Happening) (story : Story) (found : Option A) → ((a : A) → found ≡ Some a → AreBegun setup (happens a) story)
       → AreBegun setup (or_broke happens found) story
   begun_broke happens story None each = (tt, tt)
@@ -132,6 +138,7 @@ module _ (setup : Setup) (plan : Plan) where
   abbrev IsPlain : Happening → Type 0
   IsPlain (LoggedIn link server account) = ⊥
   IsPlain (Sent link question) = ⊥
+  IsPlain (Gone link) = lost link ≡ true
   IsPlain _ = Unit {0}
 
   put_fresh : (links : LinkId → Link) (link : LinkId) (of : Link → Link) → of no_link ≡ no_link → (l : LinkId) → links l ≡ no_link
@@ -181,28 +188,42 @@ module _ (setup : Setup) (plan : Plan) where
   else_fresh view (Freed link) l other fresh = plain_fresh view (Freed link) tt l fresh
   else_fresh view (Unprepared link number) l other fresh = plain_fresh view (Unprepared link number) tt l fresh
   else_fresh view (Dropped link) l other fresh = fresh
-  else_fresh view (Gone link) l other fresh = plain_fresh view (Gone link) tt l fresh
+  else_fresh view (Gone link) l other fresh = put_fresh view.links link (λ x. record x { usable = false }) refl l fresh
   else_fresh view (BecameDue client hostgroup ordinal key command multiplex) l other fresh = fresh
   else_fresh view (Left client) l other fresh = fresh
   else_fresh view (Mirrored client job) l other fresh = fresh
   else_fresh view Broke l other fresh = fresh
 
-  -- What holds of a tale: its story is lawful, if no rule was broken.
+  gone_else : (l link : LinkId) → lost link ≡ true → lost l ≡ false → is_link_id l link ≡ false
+  gone_else l link is stays = elim (cases_Bool (is_link_id l link)) [
+    | inl same ↦ isnt (sym stays ∙ ap lost (link_of l link same) ∙ is)
+    | inr other ↦ other
+  ]
+
+  plain_stays : (e : Happening) (l : LinkId) → IsPlain e → lost l ≡ false → StaysUsed setup e l
+  plain_stays (LoggedIn link server account) l plain stays = absurd plain
+  plain_stays (Sent link question) l plain stays = absurd plain
+  plain_stays (Gone link) l plain stays = gone_else l link plain stays
+  plain_stays _ l plain stays = tt
+
+  -- What holds of a tale: its story is lawful, if no rule was broken; and a link on which the router is logged in is of use until it is lost.
 
   pub record IsSound (tale : Tale) : Type 0 where
     pub lawful : has_broken tale.story ≡ false → IsLawful setup tale.story
     pub fresh : (l : LinkId) → (tale.wires l).entered ≡ false → (view_of setup tale).links l ≡ no_link
     pub outside : (l : LinkId) → is_to_server tale l ≡ false → (tale.wires l).entered ≡ false
+    pub used : (l : LinkId) → (tale.wires l).entered ≡ true → lost l ≡ false → IsUsed setup (view_of setup tale) l
 
   told_so : (e : Happening) (tale : Tale) → IsPlain e → MayCome setup (view_of setup tale) e → IsSound tale → IsSound (tell e tale)
   told_so e tale plain comes sound = record {
     lawful = λ unbroken. (sound.lawful (unbroken-past (e ∷ []) tale.story unbroken), comes);
     fresh = λ l out. plain_fresh (view_of setup tale) e plain l (sound.fresh l out);
     outside = sound.outside;
+    used = λ l in_it stays. used_after setup (view_of setup tale) e l (plain_stays e l plain stays) (sound.used l in_it stays);
   }
 
   broke_so : (tale : Tale) → IsSound tale → IsSound (tell Broke tale)
-  broke_so tale sound = record { lawful = λ unbroken. isnt (sym unbroken); fresh = sound.fresh; outside = sound.outside }
+  broke_so tale sound = record { lawful = λ unbroken. isnt (sym unbroken); fresh = sound.fresh; outside = sound.outside; used = sound.used }
 
   same_put : (wires : LinkId → Wire) (link : LinkId) (wire : Wire) → wire.entered ≡ (wires link).entered → (l : LinkId)
       → (put is_link_id wires link wire l).entered ≡ (wires l).entered
@@ -217,6 +238,7 @@ module _ (setup : Setup) (plan : Plan) where
     lawful = sound.lawful;
     fresh = λ l out. sound.fresh l (sym (same_put tale.wires link wire same l) ∙ out);
     outside = λ l no. same_put tale.wires link wire same l ∙ sound.outside l no;
+    used = λ l in_it stays. sound.used l (sym (same_put tale.wires link wire same l) ∙ in_it) stays;
   }
 
   -- Clients.
@@ -226,7 +248,7 @@ module _ (setup : Setup) (plan : Plan) where
   AreSound (Some tale) = IsSound tale
 
   clients_so : (clients : List Client) (tale : Tale) → IsSound tale → IsSound (record tale { clients = clients })
-  clients_so clients tale sound = record { lawful = sound.lawful; fresh = sound.fresh; outside = sound.outside }
+  clients_so clients tale sound = record { lawful = sound.lawful; fresh = sound.fresh; outside = sound.outside; used = sound.used }
 
   copied_so : (message : MessageName) (command : Command) (mirror : Option Hostgroup) (tale : Tale) → IsSound tale → IsSound (copied message command mirror tale)
   copied_so message command None tale sound = sound
@@ -297,12 +319,18 @@ module _ (setup : Setup) (plan : Plan) where
       | inr other ↦ ap (λ b. (if b then new_wire server else tale.wires l).entered) other
           ∙ sound.outside l (or_parts (list_any (is_link_id l) tale.links) _ (sym (list_any-append (is_link_id l) tale.links (link ∷ [])) ∙ no)).0
     ];
+    used = λ l in_it stays. elim (cases_Bool (is_link_id l link)) [
+      | inl here ↦ isnt (ap (λ b. (if b then new_wire server else tale.wires l).entered) (sym here) ∙ in_it)
+      | inr other ↦ sound.used l (sym (ap (λ b. (if b then new_wire server else tale.wires l).entered) other) ∙ in_it) stays
+    ];
   }
 
   -- the router logs in
   logged_in_so : (e : Happening) (link : LinkId) (wire : Wire) (tale : Tale) → is_to_server tale link ≡ true → wire.entered ≡ true
-      → ((l : LinkId) → is_link_id l link ≡ false → IsElsewhere e l) → MayCome setup (view_of setup tale) e → IsSound tale → IsSound (tell e (with_wire link wire tale))
-  logged_in_so e link wire tale there entered elsewhere comes sound = record {
+      → ((l : LinkId) → is_link_id l link ≡ false → IsElsewhere e l) → ((l : LinkId) → StaysUsed setup e l)
+      → ((l : LinkId) → is_link_id l link ≡ true → IsUsed setup (view_step setup (view_of setup tale) e) l)
+      → MayCome setup (view_of setup tale) e → IsSound tale → IsSound (tell e (with_wire link wire tale))
+  logged_in_so e link wire tale there entered elsewhere stays_used now_used comes sound = record {
     lawful = λ unbroken. (sound.lawful (unbroken-past (e ∷ []) tale.story unbroken), comes);
     fresh = λ l out. elim (cases_Bool (is_link_id l link)) [
       | inl here ↦ isnt (sym out ∙ ap (λ b. (if b then wire else tale.wires l).entered) here ∙ entered)
@@ -313,12 +341,17 @@ module _ (setup : Setup) (plan : Plan) where
       | inl here ↦ isnt (sym no ∙ ap (λ k. is_to_server tale k) (link_of l link here) ∙ there)
       | inr other ↦ ap (λ b. (if b then wire else tale.wires l).entered) other ∙ sound.outside l no
     ];
+    used = λ l in_it stays. elim (cases_Bool (is_link_id l link)) [
+      | inl here ↦ now_used l here
+      | inr other ↦ used_after setup (view_of setup tale) e l (stays_used l) (sound.used l (sym (ap (λ b. (if b then wire else tale.wires l).entered) other) ∙ in_it) stays)
+    ];
   }
 
   entered_so : (link : LinkId) (wire : Wire) (at : Opening) (tale : Tale) → is_to_server tale link ≡ true → (tale.wires link).entered ≡ false
       → wire.entered ≡ (tale.wires link).entered → IsSound tale → IsSound (entered_by plan link wire at tale)
   entered_so link wire (LogsIn said rest) tale there out same sound =
-      logged_in_so _ link (record wire { entered = true; unread = rest; written = [] }) tale there refl (λ l other. other) (sound.fresh link out) sound
+      logged_in_so _ link (record wire { entered = true; unread = rest; written = [] }) tale there refl (λ l other. other) (λ l. tt)
+      (λ l here. ap (λ b. (if b then new_link wire.server (logged_in_as (plan.logins link)) else link_in setup tale l).usable) here) (sound.fresh link out) sound
   entered_so link wire (Goes said) tale there out same sound = wire_so link wire tale same sound
   entered_so link wire (Fails said fault) tale there out same sound = wire_so link wire tale same sound
 
@@ -366,26 +399,26 @@ module _ (setup : Setup) (plan : Plan) where
 
   abbrev AreBegunOn : LinkId → List Happening → Type 0
   AreBegunOn link [] = Unit {0}
-  AreBegunOn link (e ∷ es) = AreBegunOn link es × ((l : LinkId) → is_link_id l link ≡ false → IsElsewhere e l)
+  AreBegunOn link (e ∷ es) = AreBegunOn link es × (((l : LinkId) → StaysUsed setup e l) × ((l : LinkId) → is_link_id l link ≡ false → IsElsewhere e l))
 
   on_broke : {A : Type 0} (link : LinkId) (happens : A → List Happening) (found : Option A) → ((a : A) → AreBegunOn link (happens a)) → AreBegunOn link (or_broke happens found)
-  on_broke link happens None each = (tt, λ l other. tt)
+  on_broke link happens None each = (tt, (λ l. tt, λ l other. tt))
   on_broke link happens (Some a) each = each a
 
   on_due : (moment ordinal : ℕ) (link : LinkId) (view : View) (n : SessionName) (question : Due → Question) → AreBegunOn link (of_due plan moment view link ordinal n question)
-  on_due moment ordinal link view n question = on_broke link _ (due_in plan moment ordinal n (view.dues n)) (λ due. (tt, λ l other. other))
+  on_due moment ordinal link view n question = on_broke link _ (due_in plan moment ordinal n (view.dues n)) (λ due. (tt, (λ l. tt, λ l other. other)))
 
   on_stepped : (link : LinkId) (question : Command → Question) (step : StepText) → AreBegunOn link (stepped link question step)
-  on_stepped link question (Asks command) = (tt, λ l other. other)
-  on_stepped link question (Closes number) = (tt, λ l other. tt)
+  on_stepped link question (Asks command) = (tt, (λ l. tt, λ l other. other))
+  on_stepped link question (Closes number) = (tt, (λ l. tt, λ l other. tt))
   on_stepped link question (Resets number) = tt
 
   on_copy : (moment : ℕ) (link : LinkId) (view : View) (n : SessionName) (carried : Carried) → AreBegunOn link (copy_by plan moment view link n carried)
   on_copy moment link view n (Joined who) =
       if_either (AreBegunOn link) (is_client who.client n.client) (Sent link (End who) ∷ []) (of_due plan moment view link 1 n (Statement n))
-      (λ is. (tt, λ l other. other)) (λ is. on_due moment 1 link view n (Statement n))
-  on_copy moment link view n Nobody = on_broke link _ (due_in plan moment 1 n (view.dues n)) (λ due. ((tt, λ l other. other), λ l other. tt))
-  on_copy moment link view n (Lent who) = on_broke link _ (due_in plan moment 1 n (view.dues n)) (λ due. ((tt, λ l other. other), λ l other. tt))
+      (λ is. (tt, (λ l. tt, λ l other. other))) (λ is. on_due moment 1 link view n (Statement n))
+  on_copy moment link view n Nobody = on_broke link _ (due_in plan moment 1 n (view.dues n)) (λ due. ((tt, (λ l. tt, λ l other. other)), (λ l. tt, λ l other. tt)))
+  on_copy moment link view n (Lent who) = on_broke link _ (due_in plan moment 1 n (view.dues n)) (λ due. ((tt, (λ l. tt, λ l other. other)), (λ l. tt, λ l other. tt)))
 
   begun_there : (moment : ℕ) (link : LinkId) (begun : ℕ) (for : Tag) (view : View) → AreBegunOn link (begun_by setup plan moment view link begun for)
   begun_there moment link begun (tag.For client ordinal) view =
@@ -399,21 +432,25 @@ module _ (setup : Setup) (plan : Plan) where
       on_broke link _ (plan.routes (record { client = client; ordinal = ordinal }))
       (λ route. on_broke link _ route.mirror (λ hostgroup. on_copy moment link view (present view job hostgroup) (view.links link).carries))
   begun_there moment link begun (tag.Sync client hostgroup) view = on_stepped link (Sync (present view client hostgroup)) (plan.steps link begun)
-  begun_there moment link begun (tag.End client hostgroup) view = (tt, λ l other. other)
+  begun_there moment link begun (tag.End client hostgroup) view = (tt, (λ l. tt, λ l other. other))
   begun_there moment link begun tag.Own view =
       if_either (AreBegunOn link) (quits_by (plan.steps link begun)) [] (stepped link Own (plan.steps link begun)) (λ is. tt)
       (λ is. on_stepped link Own (plan.steps link begun))
-  begun_there moment link begun tag.Reply view = (tt, λ l other. tt)
+  begun_there moment link begun tag.Reply view = (tt, (λ l. tt, λ l other. tt))
 
   begun_on_there : (moment : ℕ) (link : LinkId) (wire : Wire) (for : Tag) (view : View) → AreBegunOn link (begun_on setup plan moment view link wire for)
   begun_on_there moment link wire for view =
       if_either (AreBegunOn link) (is_some_of wire.unread && not (quits_for for (plan.steps link wire.begun))) (Broke ∷ [])
-      (begun_by setup plan moment view link wire.begun for) (λ is. (tt, λ l other. tt)) (λ is. begun_there moment link wire.begun for view)
+      (begun_by setup plan moment view link wire.begun for) (λ is. (tt, (λ l. tt, λ l other. tt))) (λ is. begun_there moment link wire.begun for view)
 
   else_begun : (es : List Happening) (link l : LinkId) (story : Story) → AreBegunOn link es → is_link_id l link ≡ false → (view_after setup story).links l ≡ no_link
       → (view_after setup (es ++ story)).links l ≡ no_link
   else_begun [] link l story on other fresh = fresh
-  else_begun (e ∷ es) link l story on other fresh = else_fresh (view_after setup (es ++ story)) e l (on.1 l other) (else_begun es link l story on.0 other fresh)
+  else_begun (e ∷ es) link l story on other fresh = else_fresh (view_after setup (es ++ story)) e l (on.1.1 l other) (else_begun es link l story on.0 other fresh)
+
+  used_begun : (es : List Happening) (link l : LinkId) (story : Story) → AreBegunOn link es → IsUsed setup (view_after setup story) l → IsUsed setup (view_after setup (es ++ story)) l
+  used_begun [] link l story on used = used
+  used_begun (e ∷ es) link l story on used = used_after setup (view_after setup (es ++ story)) e l (on.1.0 l) (used_begun es link l story on.0 used)
 
   begins_so : (link : LinkId) (for : Tag) (bytes : List ℕ) (wire : Wire) (tale : Tale) → wire.entered ≡ true → (tale.wires link).entered ≡ true
       → may_tell setup (begun_on setup plan tale.moment (view_of setup tale) link wire for) tale.story ≡ true → IsSound tale
@@ -430,6 +467,7 @@ module _ (setup : Setup) (plan : Plan) where
           | inr other ↦ else_begun es link l tale.story (begun_on_there tale.moment link wire for (view_of setup tale)) other (next.fresh l out)
         ];
         outside = next.outside;
+        used = λ l in_it stays. used_begun es link l tale.story (begun_on_there tale.moment link wire for (view_of setup tale)) (next.used l in_it stays);
       }
 
   writes_so : (link : LinkId) (for : Tag) (bytes : List ℕ) (tale : Tale) → (may_begin setup link (tale.wires link) tale ≡ true
@@ -443,43 +481,85 @@ module _ (setup : Setup) (plan : Plan) where
 
   -- Each entry.
 
-  losing_so : (link : LinkId) (tale : Tale) → IsSound tale → IsSound (is_lost_or_left link tale)
-  losing_so link tale sound =
-      if_either IsSound (is_to_server tale link) (tell (Gone link) tale) (fold (client_leaves link) tale tale.clients) (λ is. told_so _ _ tt tt sound)
+  losing_so : (link : LinkId) (tale : Tale) → lost link ≡ true → IsSound tale → IsSound (is_lost_or_left link tale)
+  losing_so link tale gone sound =
+      if_either IsSound (is_to_server tale link) (tell (Gone link) tale) (fold (client_leaves link) tale tale.clients) (λ is. told_so _ _ gone tt sound)
       (λ is. folds IsSound (client_leaves link) (λ other client found. if_either IsSound (is_link_id client.link link) (tell (Left client.number) other) other
       (λ it. told_so _ _ tt tt found) (λ it. found)) tale.clients tale sound)
 
-  entry_so : (tale : Tale) (e : Entry) → Passes setup plan tale e → IsSound tale → IsSound (told setup plan tale e)
-  entry_so tale (entry.Accepted port link salt) passes sound = clients_so _ tale sound
-  entry_so tale (entry.Opened server address link) passes sound = opened_so server link tale passes sound
-  entry_so tale (entry.Got link bytes) passes sound =
+  -- what is lost by the entry is one of those
+  abbrev pub IsLostBy : Entry → Type 0
+  IsLostBy (entry.Ended link) = lost link ≡ true
+  IsLostBy (entry.ReadFailed link) = lost link ≡ true
+  IsLostBy (entry.WriteFailed link) = lost link ≡ true
+  IsLostBy (entry.Closed link) = lost link ≡ true
+  IsLostBy _ = Unit {0}
+
+  entry_so : (tale : Tale) (e : Entry) → Passes setup plan tale e → IsLostBy e → IsSound tale → IsSound (told setup plan tale e)
+  entry_so tale (entry.Accepted port link salt) passes gone sound = clients_so _ tale sound
+  entry_so tale (entry.Opened server address link) passes gone sound = opened_so server link tale passes sound
+  entry_so tale (entry.Got link bytes) passes gone sound =
       if_either IsSound (is_to_server tale link) _ _ (λ there. says_so link bytes tale there sound) (λ other. clients_so _ tale sound)
-  entry_so tale (entry.Wrote link for bytes) passes sound =
+  entry_so tale (entry.Wrote link for bytes) passes gone sound =
       if_either IsSound (is_to_server tale link) _ _ (λ there. writes_so link for bytes tale (passes there) sound) (λ other. clients_so _ tale sound)
-  entry_so tale (entry.Exec link) passes sound =
+  entry_so tale (entry.Exec link) passes gone sound =
       if_either IsSound (tale.wires link).entered _ _
       (λ there. if_either (λ e. IsSound (tell e tale)) (tale.wires link).quits (Dropped link) (Ran link) (λ quits. told_so _ _ tt tt sound)
       (λ goes. told_so _ _ tt tt sound)) (λ other. sound)
-  entry_so tale (entry.Drop link) passes sound = told_so _ _ tt tt sound
-  entry_so tale (entry.Ended link) passes sound = losing_so link tale sound
-  entry_so tale (entry.ReadFailed link) passes sound = losing_so link tale sound
-  entry_so tale (entry.WriteFailed link) passes sound = losing_so link tale sound
-  entry_so tale (entry.Closed link) passes sound = losing_so link tale sound
-  entry_so tale _ passes sound = sound
+  entry_so tale (entry.Drop link) passes gone sound = told_so _ _ tt tt sound
+  entry_so tale (entry.Ended link) passes gone sound = losing_so link tale gone sound
+  entry_so tale (entry.ReadFailed link) passes gone sound = losing_so link tale gone sound
+  entry_so tale (entry.WriteFailed link) passes gone sound = losing_so link tale gone sound
+  entry_so tale (entry.Closed link) passes gone sound = losing_so link tale gone sound
+  entry_so tale _ passes gone sound = sound
 
   counted_so : (tale : Tale) → IsSound tale → IsSound (counted tale)
-  counted_so tale sound = record { lawful = sound.lawful; fresh = sound.fresh; outside = sound.outside }
+  counted_so tale sound = record { lawful = sound.lawful; fresh = sound.fresh; outside = sound.outside; used = sound.used }
 
-  pub step_so : (tale : Tale) (e : Entry) → Passes setup plan tale e → IsSound tale → IsSound (tale_step setup plan tale e)
-  step_so tale e passes sound =
+  pub step_so : (tale : Tale) (e : Entry) → Passes setup plan tale e → IsLostBy e → IsSound tale → IsSound (tale_step setup plan tale e)
+  step_so tale e passes gone sound =
       let heard : Tale = counted (told setup plan tale e) in
-      let gone : Tale = clients_go_on setup plan (view_of setup tale) e (links_are_freed setup plan heard) in
-      freeing_so (clients_are_ended plan gone) (ending_so gone (go_on_so (view_of setup tale) e (links_are_freed setup plan heard)
-      (freeing_so heard (counted_so (told setup plan tale e) (entry_so tale e passes sound)))))
+      let called : Tale = clients_go_on setup plan (view_of setup tale) e (links_are_freed setup plan heard) in
+      freeing_so (clients_are_ended plan called) (ending_so called (go_on_so (view_of setup tale) e (links_are_freed setup plan heard)
+      (freeing_so heard (counted_so (told setup plan tale e) (entry_so tale e passes gone sound)))))
 
-  pub log_so : (log : Log) (tale : Tale) → IsTestedFrom setup plan tale log → IsSound tale → IsSound (fold (tale_step setup plan) tale log)
-  log_so [] tale tested sound = sound
-  log_so (e ∷ log) tale tested sound = log_so log (tale_step setup plan tale e) tested.1 (step_so tale e tested.0 sound)
+-- which links a log's entries lose
+
+abbrev pub loses : Entry → LinkId → Bool
+loses (entry.Ended link) l = is_link_id l link
+loses (entry.ReadFailed link) l = is_link_id l link
+loses (entry.WriteFailed link) l = is_link_id l link
+loses (entry.Closed link) l = is_link_id l link
+loses _ l = false
+
+abbrev pub lost_in : Log → LinkId → Bool
+lost_in log l = list_any (λ e. loses e l) log
+
+module _ (setup : Setup) (plan : Plan) where
+  lost_by : (lost : LinkId → Bool) (e : Entry) → IsLostBy setup plan (λ l. lost l || loses e l) e
+  lost_by lost (entry.Ended link) = or_right (lost link) _ (same_link link)
+  lost_by lost (entry.ReadFailed link) = or_right (lost link) _ (same_link link)
+  lost_by lost (entry.WriteFailed link) = or_right (lost link) _ (same_link link)
+  lost_by lost (entry.Closed link) = or_right (lost link) _ (same_link link)
+  lost_by lost _ = tt
+
+  more_lost : (lost more : LinkId → Bool) (tale : Tale) → ((l : LinkId) → more l ≡ false → lost l ≡ false) → IsSound setup plan lost tale → IsSound setup plan more tale
+  more_lost lost more tale fewer sound =
+      record { lawful = sound.lawful; fresh = sound.fresh; outside = sound.outside; used = λ l in_it stays. sound.used l in_it (fewer l stays) }
+
+  pub log_so : (log : Log) (lost : LinkId → Bool) (tale : Tale) → IsTestedFrom setup plan tale log → IsSound setup plan lost tale
+      → IsSound setup plan (λ l. lost l || lost_in log l) (fold (tale_step setup plan) tale log)
+  log_so [] lost tale tested sound = more_lost lost (λ l. lost l || false) tale (λ l stays. (or_parts (lost l) false stays).0) sound
+  log_so (e ∷ log) lost tale tested sound =
+      let more : LinkId → Bool = λ l. lost l || loses e l in
+      more_lost (λ l. more l || lost_in log l) (λ l. lost l || lost_in (e ∷ log) l) (fold (tale_step setup plan) (tale_step setup plan tale e) log)
+      (λ l stays. or_assoc (lost l) (loses e l) (lost_in log l) ∙ stays)
+      (log_so log more (tale_step setup plan tale e) tested.1
+      (step_so setup plan more tale e tested.0 (lost_by lost e) (more_lost lost more tale (λ l stays. (or_parts (lost l) (loses e l) stays).0) sound)))
+
+  pub sound_so : (log : Log) → IsTested setup plan log → IsSound setup plan (lost_in log) (fold (tale_step setup plan) first_tale log)
+  sound_so log tested = log_so log (λ l. false) first_tale tested
+      (record { lawful = λ none. tt; fresh = λ l out. refl; outside = λ l no. refl; used = λ l in_it stays. isnt in_it })
 
   pub lawful_so : (log : Log) → IsTested setup plan log → has_broken (story_of setup plan log) ≡ false → IsLawful setup (story_of setup plan log)
-  lawful_so log tested unbroken = (log_so log first_tale tested (record { lawful = λ none. tt; fresh = λ l out. refl; outside = λ l no. refl })).lawful unbroken
+  lawful_so log tested unbroken = (sound_so log tested).lawful unbroken

@@ -4,6 +4,7 @@ pub mod Telling
 pub mod Following
 pub mod Planned
 pub mod Testing
+pub mod Used
 pub mod Lawfully
 pub mod Tested
 pub mod Links
