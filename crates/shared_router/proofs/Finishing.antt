@@ -45,7 +45,7 @@ use Rattle.shared_router.proofs.Keeping.{tested, tested_before}
 use Rattle.shared_router.proofs.Parting.{tale_then}
 use Rattle.shared_router.proofs.Pausing.{MayAsk, owes_none}
 use Rattle.shared_router.proofs.Saying.{last_plan, stands_at}
-use Rattle.shared_router.proofs.Spelling.{IsClean, IsStanding, Stood, is_mute, text_of_step, text_on}
+use Rattle.shared_router.proofs.Spelling.{Cleanly, IsStanding, Stood, is_mute, text_of_step, text_on}
 use Rattle.shared_router.proofs.Standing.{On}
 use Rattle.shared_router.proofs.Wholly.{empty_rest, spelt_rest, whole_front, whole_so}
 use Rattle.shared_router.proofs.Staying.{log_at}
@@ -86,7 +86,7 @@ module _ (k : Known) (link : LinkId) (login : Login) where
 
   -- What stands there is a front of its one spelling, and has a tag; it is no link where the router isn't logged in, else it is of use.
   pub record IsKnown : Type 0 where
-    pub stood : Stood wire login there
+    pub stood : Stood k.terms.router wire login there
     pub tagged : IsTagged link k.log wire
     pub fresh : wire.entered ≡ false → there ≡ no_link
     pub used : wire.entered ≡ true → there.usable ≡ true
@@ -117,8 +117,8 @@ module _ (k : Known) (link : LinkId) (login : Login) where
       by_tag None is none = isnt is
       by_tag (Some tag) is none = none
 
-    clean : wire.entered ≡ true → IsClean wire there.stage there.live
-    clean entered = subst (λ b. IsStanding b login wire there) entered so.stood
+    clean : wire.entered ≡ true → Cleanly k.terms.router wire there
+    clean entered = subst (λ b. IsStanding k.terms.router b login wire there) entered so.stood
 
     -- a STMT_CLOSE or a STMT_RESET
 
@@ -126,7 +126,7 @@ module _ (k : Known) (link : LinkId) (login : Login) where
         (text : (quits : Bool) → text_of_step quits (Some step) ≡ spelling 0 (step_payload step))
         (begun : (l : Link) → begun_there (Some step) Quiet l ≡ spelling 0 (step_payload step)) (small : length (step_payload step) ≤ 1073741824) where
       its_login : wire.entered ≡ false → wire.entered ≡ true
-      its_login out = (let standing : IsStanding false login wire there = subst (λ b. IsStanding b login wire there) out so.stood in no_step step (sym standing.begun ∙ at))
+      its_login out = (let standing : IsStanding k.terms.router false login wire there = subst (λ b. IsStanding k.terms.router b login wire there) out so.stood in no_step step (sym standing.begun ∙ at))
 
       entered : wire.entered ≡ true
       entered = by_test wire.entered refl where
@@ -255,10 +255,10 @@ module _ (fixed : Fixed) (numbered : IsNumbered fixed) (log : Log) (our : IsOurL
     sound : IsSound (setup_of fixed) plan (lost_in before) w.tale
     sound = subst (IsSound (setup_of fixed) plan (lost_in before)) same
         (sound_so (setup_of fixed) plan before
-        (subst (λ (l : Log). IsTested (setup_of fixed) plan l) cut (tested_before (setup_of fixed) plan (length before) log first_tale (tested fixed log our.ours our.fits))))
+        (subst (λ (l : Log). IsTested (setup_of fixed) plan l) cut (tested_before (setup_of fixed) plan (length before) log first_tale (tested fixed log (let few : length log < 281474976710656 = our.bounded in omega (arith, few)) our.ours our.fits))))
 
-    stands : On (setup_of fixed) plan w.tale
-    stands = subst (λ (l : Log). On (setup_of fixed) (last_plan fixed numbered l) w.tale) at.is
+    stands : On fixed.router (setup_of fixed) plan w.tale
+    stands = subst (λ (l : Log). On fixed.router (setup_of fixed) (last_plan fixed numbered l) w.tale) at.is
         (stands_at fixed numbered before (e ∷ later)
         (let few : length log < 281474976710656 = our.bounded in let long : length (before ++ e ∷ later) ≡ length log = ap length at.is in omega (arith, few, long))
         (subst (LawfulAfter (IsOurs fixed) []) (sym at.is) our.ours) (subst (LawfulAfter Fits []) (sym at.is) our.fits))
@@ -293,14 +293,14 @@ module _ (fixed : Fixed) (numbered : IsNumbered fixed) (log : Log) (our : IsOurL
 
   pub asks_nothing : AllLawful (AsItWaits AskNothing (final_terms fixed log)) log
   asks_nothing = as_it_waits fixed numbered log AskNothing (λ before later e at may link to_server opened goes answered.
-      let k : Known = known fixed (world_at fixed before) in
-      let none : is_joined (link_by k link).carries ≡ true → OwesNoStep k.terms k.now link = λ joined.
-      owes_none k link may to_server opened goes
-      (may_ask k link ((last_plan fixed numbered log).logins link) (known_so before later e at may link to_server opened) may to_server opened goes answered joined) in
-      by_carries k link (link_by k link).carries refl none) our
+      let w : World More = world_at fixed before in
+      by_carries w link (link_by (known fixed w) link).carries refl (λ joined.
+      owes_none (known fixed w) link may to_server opened goes
+      (may_ask (known fixed w) link ((last_plan fixed numbered log).logins link) (known_so before later e at may link to_server opened) may to_server opened goes answered joined))) our
     where
-      by_carries : (k : Known) (link : LinkId) (carried : Carried) → (link_by k link).carries ≡ carried
-          → (is_joined (link_by k link).carries ≡ true → OwesNoStep k.terms k.now link) → OwesNoStep (final_terms fixed log) k.now link
-      by_carries k link Nobody is none = record { reset = ap (owes_reset (setup_of fixed) k.now) is; capture = ap (owes_capture (setup_of fixed) k.now) is }
-      by_carries k link (Lent n) is none = record { reset = ap (owes_reset (setup_of fixed) k.now) is; capture = ap (owes_capture (setup_of fixed) k.now) is }
-      by_carries k link (Joined n) is none = (let owes = none (ap is_joined is) in record { reset = owes.reset; capture = owes.capture })
+      by_carries : (w : World More) (link : LinkId) (carried : Carried) → (link_by (known fixed w) link).carries ≡ carried
+          → (is_joined (link_by (known fixed w) link).carries ≡ true → OwesNoStep (known fixed w).terms (known fixed w).now link)
+          → OwesNoStep (final_terms fixed log) (known fixed w).now link
+      by_carries w link Nobody is none = record { reset = ap (owes_reset (setup_of fixed) (known fixed w).now) is; capture = ap (owes_capture (setup_of fixed) (known fixed w).now) is }
+      by_carries w link (Lent n) is none = record { reset = ap (owes_reset (setup_of fixed) (known fixed w).now) is; capture = ap (owes_capture (setup_of fixed) (known fixed w).now) is }
+      by_carries w link (Joined n) is none = (let owes = none (ap is_joined is) in record { reset = owes.reset; capture = owes.capture })

@@ -38,7 +38,7 @@ use Rattle.shared_router.proofs.Saying.{on_front}
 use Rattle.shared_router.proofs.Seated.{AreLike, clients_by, step_like, told_clients}
 use Rattle.shared_router.proofs.Single.{both-each}
 use Rattle.shared_router.proofs.Staying.{log_at}
-use Rattle.shared_router.proofs.Tagging.{no_front}
+use Rattle.shared_router.proofs.Passing.{no_front}
 
 nothing_first : (xs : List ℕ) → IsFront [] xs
 nothing_first xs = record { rest = xs; is = refl }
@@ -204,7 +204,7 @@ module _ (fixed : Fixed) (before later : Log) (link : LinkId) (tag : Tag) (bytes
         each-so (λ (c : Client). (c.link ≡ link → IsFront bytes (drop (length (written_of c.link before)) (due_then c))) × Was c) IsNow w_then.tale.clients
         (λ c both. still_here c both.0 both.1)
         (both-each (λ (c : Client). c.link ≡ link → IsFront bytes (drop (length (written_of c.link before)) (due_then c))) Was w_then.tale.clients
-        (goes_so fixed before (wrote ∷ later) link bytes now.some fits there ours.0.front) fronts)
+        (goes_so fixed before (wrote ∷ later) link bytes now.some fits there ours.front) fronts)
 
 module _ (fixed : Fixed) where
   still : (before later : Log) (e : Entry) → LawfulAfter Fits [] before → Fits before e → IsOurs fixed before e

@@ -274,7 +274,7 @@ module _ (terms : Terms) where
     until_all (x ∷ xs) [] on within stay = absurd on
     until_all (x ∷ xs) (y ∷ ys) on within stay = (until_there x y on.0 within.0 stay.0, until_all xs ys on.1 within.1 stay.1)
 
-  tale_more : (log : Log) (e : Entry) → tale_at terms (log ++ e ∷ []) ≡ tale_step setup_there plan_there (tale_at terms log) e
+  pub tale_more : (log : Log) (e : Entry) → tale_at terms (log ++ e ∷ []) ≡ tale_step setup_there plan_there (tale_at terms log) e
   tale_more log e = fold_more (tale_step setup_there plan_there) log (e ∷ []) first_tale
 
   until_from : (before later : Log) → AreNumbered 1 (tale_at terms before).clients → Each (IsWithin setup_there plan_there) (tale_at terms before).clients

@@ -31,6 +31,7 @@ use Rattle.shared_router.specs.Known.{Known}
 use Rattle.shared_router.specs.More.{More}
 use Rattle.shared_router.specs.Shared.{shared}
 use Rattle.shared_router.proofs.Decidedly.{AreDecided, GoesTo, are_more, keeps_more}
+use Rattle.shared_router.proofs.Lonely.{Lone, more_lone}
 use Rattle.shared_router.proofs.Numbered.{AreNumbered, IsOld, numbered_moves, old_moves}
 use Rattle.shared_router.proofs.Walks.{Keeping, MayTell, Stays, ending_keeps, if_either}
 
@@ -50,6 +51,7 @@ pub record IsHeld (setup : Setup) (n : ℕ) (d : Decided) (clients : List Client
   pub decided : AreDecided d (view_after setup story)
   pub numbered : AreNumbered 1 clients
   pub few : length clients ≤ n
+  pub lone : Lone setup story
   pub unbroken : has_broken story ≡ false
 
 -- the same but for breaches
@@ -58,6 +60,7 @@ pub record IsLoose (setup : Setup) (n : ℕ) (d : Decided) (clients : List Clien
   pub decided : AreDecided d (view_after setup story)
   pub numbered : AreNumbered 1 clients
   pub few : length clients ≤ n
+  pub lone : Lone setup story
 
 pub isnt : {A : Type 0} → false ≡ true → A
 isnt is = absurd (cc)
@@ -108,7 +111,7 @@ unbroken_told setup (e ∷ es) past told none =
 
 module _ (setup : Setup) (n : ℕ) (d : Decided) where
   pub more_loose : (clients : List Client) (past : Story) (e : Happening) → MayTell (view_after setup past) e → IsLoose setup n d clients past → IsLoose setup n d clients (e ∷ past)
-  more_loose clients past e may held = record { tabled = held.tabled; decided = keeps_more d setup past e may held.decided; numbered = held.numbered; few = held.few }
+  more_loose clients past e may held = record { tabled = held.tabled; decided = keeps_more d setup past e may held.decided; numbered = held.numbered; few = held.few; lone = more_lone setup past e may held.lone }
 
   pub moves_loose : (clients : List Client) (past : Story) (f : Client → Client) → Stays f → IsLoose setup n d clients past → IsLoose setup n d (map f clients) past
   moves_loose clients past f stays held = record {
@@ -116,19 +119,20 @@ module _ (setup : Setup) (n : ℕ) (d : Decided) where
     decided = held.decided;
     numbered = numbered_moves f stays 1 clients held.numbered;
     few = let same : length (map f clients) ≡ length clients = length-map clients f in omega (arith, same, held.few);
+    lone = held.lone;
   }
 
   abbrev pub loosely : Keeping setup
   loosely = record { holds = IsLoose setup n d; more = more_loose; moves = moves_loose }
 
   pub breaks_loose : (clients : List Client) (past : Story) → IsLoose setup n d clients past → IsLoose setup n d clients (Broke ∷ past)
-  breaks_loose clients past held = record { tabled = held.tabled; decided = held.decided; numbered = held.numbered; few = held.few }
+  breaks_loose clients past held = record { tabled = held.tabled; decided = held.decided; numbered = held.numbered; few = held.few; lone = held.lone }
 
   pub loose : (clients : List Client) (story : Story) → IsHeld setup n d clients story → IsLoose setup n d clients story
-  loose clients story held = record { tabled = held.tabled; decided = held.decided; numbered = held.numbered; few = held.few }
+  loose clients story held = record { tabled = held.tabled; decided = held.decided; numbered = held.numbered; few = held.few; lone = held.lone }
 
   pub whole : (clients : List Client) (story : Story) → IsLoose setup n d clients story → has_broken story ≡ false → IsHeld setup n d clients story
-  whole clients story held none = record { tabled = held.tabled; decided = held.decided; numbered = held.numbered; few = held.few; unbroken = none }
+  whole clients story held none = record { tabled = held.tabled; decided = held.decided; numbered = held.numbered; few = held.few; lone = held.lone; unbroken = none }
 
   pub more_held : (clients : List Client) (past : Story) (e : Happening) → MayTell (view_after setup past) e → IsHeld setup n d clients past → IsHeld setup n d clients (e ∷ past)
   more_held clients past e may held =
@@ -191,6 +195,7 @@ module _ (fixed : Fixed) where
         decided = are_more w.decided d (view_of setup w.tale) more held.decided;
         numbered = held.numbered;
         few = held.few;
+        lone = held.lone;
         unbroken = held.unbroken;
       } in
       if_either (λ (t : Tale). IsHeld setup n d t.clients t.story) (is_done (plan_of d) w.tale.moment (view_of setup w.tale) (w.tale.wires link) (link_in setup w.tale link))
@@ -243,6 +248,7 @@ module _ (fixed : Fixed) where
     };
     numbered = held.numbered;
     few = held.few;
+    lone = held.lone;
     unbroken = held.unbroken;
   }
 
@@ -286,5 +292,6 @@ module _ (fixed : Fixed) where
         decided = record { due = λ k due is. goes_as w.decided (decided_ends by w e) (message_of k due) k.hostgroup refl refl (held.decided.due k due is); stands = held.decided.stands; answered = held.decided.answered };
         numbered = held.numbered;
         few = held.few;
+        lone = held.lone;
         unbroken = held.unbroken;
       })

@@ -87,6 +87,10 @@ pub mod Gathering
 pub mod Broken
 pub mod Blank
 pub mod Starting
+pub mod Wishing
+pub mod Passing
+pub mod Grouping
+pub mod Lonely
 pub mod Fronted
 pub mod Adding
 pub mod Furthering

@@ -18,19 +18,15 @@ use Rattle.private_model.specs.Names.{Hostgroup, MessageName, SessionName}
 use Rattle.private_model.specs.Story.{Broke, Due, Happening, Own, Prep, Question, Sent, Statement, Sync, command_of, message_of}
 use Rattle.private_model.specs.View.{Carried, Joined, Lent, Link, Nobody, Setup, View, present}
 use Rattle.server_rule.specs.Classes.{Reads}
-use Rattle.server_rule.specs.Servers.{is_some_of}
 use Rattle.session_state.specs.Pins.{is_pinned}
 use Rattle.log_story.specs.Plan.{Asks, Closes, Plan, Resets, Route, StepText, own_at}
 use Rattle.log_story.specs.Servers.{begun_on, due_in, is_quiet, may_begin, of_due, or_broke}
 use Rattle.log_story.specs.Tale.{Tale, is_to_server, view_of}
-use Rattle.log_story.specs.Telling.{tale_step}
 use Rattle.tale_world.specs.Decided.{Agrees, plan_of}
 use Rattle.tale_world.specs.Deciding.{World}
 use Rattle.tale_world.specs.Policy.{Readied, next_question}
-use Rattle.tale_world.specs.Tested.{IsTestedFrom, Passes as PassesAt}
-use Rattle.tale_world.specs.Tests.{is_joined, is_lent, is_nobody, is_own_step, is_set, is_step_of, may_tell}
+use Rattle.tale_world.specs.Tests.{is_joined, is_lent, is_nobody, is_own_step, is_set, is_step_of, may_begin_question}
 use Rattle.tale_world.specs.Wishes.{Says, Sends, Wish, before_question, wish_for}
-use Rattle.tale_world.proofs.Following.{stepped}
 use Rattle.router_promises.specs.Dues.{is_due, is_unsent}
 use Rattle.router_promises.specs.Keys.{LinkKey, is_key, key_for, key_of}
 use Rattle.router_promises.specs.Now.{Now, now_at, present_now, wire_now}
@@ -45,27 +41,23 @@ use Rattle.shared_router.specs.More.{More, now_of, terms_of}
 use Rattle.shared_router.specs.Ours.{IsOurs}
 use Rattle.shared_router.specs.Shared.{final_terms, shared, world_at}
 use Rattle.shared_router.specs.Waits.{Waits}
-use Rattle.shared_router.specs.Wishes.{kept_due, ordinal_due, standing_on, tag_of, texts, wish_on, wish_step, wish_tag}
+use Rattle.shared_router.specs.Wishes.{is_present, kept_due, ordinal_due, standing_on, tag_of, texts, wish_step, wish_tag}
 use Rattle.shared_router.proofs.Beginning.{isnt, left_of, no_some, right_of, says_mute, some_of}
 use Rattle.shared_router.proofs.Clearing.{IsOfMany, prep_clears, state_clears}
 use Rattle.shared_router.proofs.Decidedly.{AreDecided, GoesTo}
-use Rattle.shared_router.proofs.Holding.{IsHeld}
-use Rattle.shared_router.proofs.Keeping.{begins_at, tested}
 use Rattle.shared_router.proofs.Lasting.{alike_at}
 use Rattle.shared_router.proofs.Later.{AreAlike, due_same, key_same, waiters_same}
 use Rattle.shared_router.proofs.Leading.{Asked, Captures, Ends, ForJoined, ForLent, ForWaiter, MayLead, Prepares, Source, States, Steps, carrying, source_of}
 use Rattle.shared_router.proofs.Listed.{readied_listed}
-use Rattle.shared_router.proofs.Parting.{agrees_then, even_at, world_more}
-use Rattle.shared_router.proofs.Prompting.{first_held, step_held}
+use Rattle.shared_router.proofs.Parting.{agrees_then}
+use Rattle.shared_router.proofs.Prompting.{IsReached, first_reached, reached_next}
 use Rattle.shared_router.proofs.Readying.{readied_near, readied_waits}
 use Rattle.shared_router.proofs.Room.{link_key_is}
-use Rattle.shared_router.proofs.Routing.{agrees_behind}
 use Rattle.shared_router.proofs.Same.{now_is, now_same}
-use Rattle.shared_router.proofs.Sending.{Begun, Parts, Wishes, begun_so}
-use Rattle.shared_router.proofs.Speaking.{IsOwn, Passes, own_present, tells, tells_same}
-use Rattle.shared_router.proofs.Stepping.{AreBegun, begun_then, first_begun}
+use Rattle.shared_router.proofs.Passing.{Begun, Parts, Wishes, begun_so}
+use Rattle.shared_router.proofs.Stepping.{AreBegun}
 use Rattle.shared_router.proofs.Tagging.{step_is}
-use Rattle.shared_router.proofs.Voicing.{own_lent}
+use Rattle.shared_router.proofs.Wishing.{IsWished, Stands, kept_at, readied_at, wished}
 
 -- What the test of a step says of it.
 
@@ -74,8 +66,8 @@ text_there reads nothing tx [] is = isnt (sym (nothing tx) ∙ is)
 text_there reads nothing tx (x ∷ text) is = refl
 
 module _ (fixed : Fixed) (ids : SpellsIds fixed) (nothing : ReadsNothing fixed.router.reads) (w last : World More) (alike : AreAlike fixed w.tale w last) (link : LinkId)
-    (bytes : List ℕ) (decided : AreDecided w.decided (view_of (setup_of fixed) w.tale)) (agrees : Agrees w.decided w.tale.moment (plan_of last.decided))
-    (to_server : is_to_server w.tale link ≡ true) (stays : (w.tale.wires link).quits ≡ false) where
+    (decided : AreDecided w.decided (view_of (setup_of fixed) w.tale)) (agrees : Agrees w.decided w.tale.moment (plan_of last.decided))
+    (to_server : is_to_server w.tale link ≡ true) where
   abbrev setup : Setup
   setup = setup_of fixed
 
@@ -97,68 +89,44 @@ module _ (fixed : Fixed) (ids : SpellsIds fixed) (nothing : ReadsNothing fixed.r
   abbrev there : Link
   there = view.links link
 
-  abbrev Tells : Tag → StepText → Type 0
-  Tells tag step = Passes fixed w plan link bytes (tells fixed w plan link bytes tag step)
-
-  abbrev Told : List Happening → Type 0
-  Told es = may_tell setup es w.tale.story ≡ true
-
-  unbroken : (b : Bool) (es : List Happening) → Told (if b then Broke ∷ [] else es) → Told es
-  unbroken true es told = isnt told
-  unbroken false es told = told
+  abbrev May : Question → Type 0
+  May q = may_begin_question setup view there q ≡ true
 
   -- the test
 
-  own_tested : (c : Command) → Told (Sent link (Own c) ∷ []) → is_own_step setup.reads c ≡ true
-  own_tested c told = right_of (is_nobody there.carries || is_lent there.carries) _ (right_of (is_quiet there.stage) _ (right_of there.usable _ told))
+  own_tested : (c : Command) → May (Own c) → is_own_step setup.reads c ≡ true
+  own_tested c may = right_of (is_nobody there.carries || is_lent there.carries) _ (right_of (is_quiet there.stage) _ (right_of there.usable _ may))
 
-  own_leads : (c : Command) → Tells tags.Own (Asks c) → MayLead c
-  own_leads (InitDb schema) told = own_tested (InitDb schema) (unbroken (is_some_of (w.tale.wires link).unread && true) (Sent link (Own (InitDb schema)) ∷ []) told)
-  own_leads (Query text) told =
-      text_there setup.reads nothing false text (own_tested (Query text) (unbroken (is_some_of (w.tale.wires link).unread && true) (Sent link (Own (Query text)) ∷ []) told))
-  own_leads (FieldList rest) told = tt
-  own_leads (SetId n) told = tt
-  own_leads ReadId told = tt
-  own_leads (Prepare text) told = tt
-  own_leads (Run text schema settings args) told = tt
-  own_leads Reset told = tt
-  own_leads Quit told = tt
+  own_leads : (c : Command) → May (Own c) → MayLead c
+  own_leads (InitDb schema) may = own_tested (InitDb schema) may
+  own_leads (Query text) may = text_there setup.reads nothing false text (own_tested (Query text) may)
+  own_leads (FieldList rest) may = tt
+  own_leads (SetId n) may = tt
+  own_leads ReadId may = tt
+  own_leads (Prepare text) may = tt
+  own_leads (Run text schema settings args) may = tt
+  own_leads Reset may = tt
+  own_leads Quit may = tt
 
-  sync_tested : (n : SessionName) (c : Command) → Tells (tags.Sync n.client n.hostgroup) (Asks c)
-      → is_step_of setup.reads c (view.held (present view n.client n.hostgroup)).pin (view.held (present view n.client n.hostgroup)).id ≡ true
-  sync_tested n c told =
-      let m : SessionName = present view n.client n.hostgroup in
-      let begun : Told (Sent link (Sync m c) ∷ []) = unbroken (is_some_of (w.tale.wires link).unread && true) (Sent link (Sync m c) ∷ []) told in
-      right_of (is_pinned (view.held m).pin) _ (right_of (is_joined m there.carries) _ (right_of (is_quiet there.stage) _ (right_of there.usable _ begun)))
+  sync_tested : (n : SessionName) (c : Command) → May (Sync n c) → is_step_of setup.reads c (view.held n).pin (view.held n).id ≡ true
+  sync_tested n c may =
+      right_of (is_pinned (view.held n).pin) _ (right_of (is_joined n there.carries) _ (right_of (is_quiet there.stage) _ (right_of there.usable _ may)))
 
-  sync_leads : (n : SessionName) (c : Command) → Tells (tags.Sync n.client n.hostgroup) (Asks c) → MayLead c
-  sync_leads n (InitDb schema) told = sync_tested n (InitDb schema) told
-  sync_leads n (Query text) told = text_there setup.reads nothing (view.held (present view n.client n.hostgroup)).pin.tx text (sync_tested n (Query text) told)
-  sync_leads n (FieldList rest) told = tt
-  sync_leads n (SetId id) told = tt
-  sync_leads n ReadId told = tt
-  sync_leads n (Prepare text) told = tt
-  sync_leads n (Run text schema settings args) told = tt
-  sync_leads n Reset told = tt
-  sync_leads n Quit told = tt
+  sync_leads : (n : SessionName) (c : Command) → May (Sync n c) → MayLead c
+  sync_leads n (InitDb schema) may = sync_tested n (InitDb schema) may
+  sync_leads n (Query text) may = text_there setup.reads nothing (view.held n).pin.tx text (sync_tested n (Query text) may)
+  sync_leads n (FieldList rest) may = tt
+  sync_leads n (SetId id) may = tt
+  sync_leads n ReadId may = tt
+  sync_leads n (Prepare text) may = tt
+  sync_leads n (Run text schema settings args) may = tt
+  sync_leads n Reset may = tt
+  sync_leads n Quit may = tt
 
   -- what is due by one is due by the other
 
   due_then : (n : SessionName) → is_due k.terms w.tale n ≡ true → is_due t w.tale n ≡ true
   due_then n is = due_same fixed w.more.log now w last alike n ∙ is
-
-  kept_by : (b : Bool) (o : Option Due) (due : Due) → (if b then o else None) ≡ Some due → (b ≡ true) × (o ≡ Some due)
-  kept_by true o due at = (refl, at)
-  kept_by false o due at = no_some due at
-
-  kept_at : (n : SessionName) (due : Due) → (kept_due k).dues n ≡ Some due → (is_due k.terms w.tale n ≡ true) × (view.dues n ≡ Some due)
-  kept_at n due at = kept_by (is_due k.terms w.tale n) (view.dues n) due at
-
-  waits_due : (r : Readied) → Waits k r → is_due k.terms w.tale r.name ≡ true
-  waits_due r waits =
-      let m : SessionName = present view r.name.client r.name.hostgroup in
-      let unsent : is_unsent k.terms w.tale m ≡ true = left_of (is_unsent k.terms w.tale m) _ waits.waits in
-      ap (λ n. is_due k.terms w.tale n) (sym waits.present) ∙ left_of (is_due k.terms w.tale m) _ unsent
 
   -- steps
 
@@ -188,52 +156,26 @@ module _ (fixed : Fixed) (ids : SpellsIds fixed) (nothing : ReadsNothing fixed.r
           ∙ readied_listed k link r readied key (subst (λ (x : LinkKey). is_key its x ≡ true) (sym same) (subst (λ (x : LinkKey). is_key x its ≡ true) same near)) test
           (λ m client. ap (λ n. wants_there t now link n c)
           (ap (λ a. present_now setup now a key.hostgroup) client ∙ ap (λ (x : LinkKey). present_now setup now r.name.client x.hostgroup) same ∙ waits.present)
-          ∙ wants_so r.name r.due c (waits_due r waits) waits.due wanted)
+          ∙ wants_so r.name r.due c (readied_at k r waits).waits waits.due wanted)
 
   -- preparations
 
-  abbrev prep_of : SessionName → Due → Question
-  prep_of m d = Prep m d.key (setup.keys d.key).text
-
-  abbrev asked_by : SessionName → (ordinal : ℕ) → Option Route → List Happening
-  asked_by n ordinal o =
-      or_broke (λ (route : Route). let m = present view n.client route.hostgroup in of_due plan w.tale.moment view link ordinal m (prep_of m)) o
-
-  module _ (n : SessionName) (due : Due) (own : IsOwn fixed w plan link bytes n) (goes : GoesTo w.decided (message_of n due) n.hostgroup) where
-    abbrev here : SessionName
-    here = present view n.client n.hostgroup
-
-    routed_there : plan.routes (message_of n due) ≡ Some goes.route
-    routed_there = agrees.routes (message_of n due) (Some goes.route) goes.routed
-
-    by_due : (o : Option Due) → Told (or_broke (λ (d : Due). Sent link (prep_of here d) ∷ []) (due_in plan w.tale.moment due.ordinal here o)) → here ≡ n
-    by_due None told = isnt told
-    by_due (Some d) told = by_test (nat_eq d.ordinal due.ordinal && not (is_some (own_at plan w.tale.moment (message_of here d)))) told where
-      by_test : (b : Bool) → Told (or_broke (λ (x : Due). Sent link (prep_of here x) ∷ []) (if b then Some d else None)) → here ≡ n
-      by_test true on = own.prepares d.key (setup.keys d.key).text on
-      by_test false on = isnt on
-
-    prep_present : (c : Command) → Tells (tags.Prep n.client due.ordinal) (Asks c) → here ≡ n
-    prep_present c told =
-        by_due (view.dues here)
-        (subst Told (ap (asked_by n due.ordinal) routed_there
-        ∙ ap (λ (h : Hostgroup). of_due plan w.tale.moment view link due.ordinal (present view n.client h) (prep_of (present view n.client h))) goes.there)
-        (unbroken (is_some_of (w.tale.wires link).unread && true) (asked_by n due.ordinal (plan.routes (message_of n due))) told))
-
-    prep_wanted : (c : Command) → view.dues n ≡ Some due → is_due k.terms w.tale n ≡ true → prepares_first there due.command due.key ≡ true
-        → Tells (tags.Prep n.client due.ordinal) (Asks c) → is_prep_wanted t now link (message_of n due) ≡ true
-    prep_wanted c at is first told =
-        ap (λ o. option_map_or (λ (route : Route). wants_prepared t now link (present_now setup now n.client route.hostgroup) due.ordinal) o false) routed_there
-        ∙ ap (λ (h : Hostgroup). wants_prepared t now link (present_now setup now n.client h) due.ordinal) goes.there
-        ∙ ap (λ m. wants_prepared t now link m due.ordinal) (prep_present c told)
-        ∙ and_from (is_due t w.tale n) _ (due_then n is)
-        (ap (λ o. option_map_or (λ (d : Due). nat_eq d.ordinal due.ordinal && prepares_first there d.command d.key) o false) at
-        ∙ and_from (nat_eq due.ordinal due.ordinal) _ (same_number due.ordinal) first)
+  prep_wanted : (n : SessionName) (due : Due) → Stands k n due → present view n.client n.hostgroup ≡ n → prepares_first there due.command due.key ≡ true
+      → is_prep_wanted t now link (message_of n due) ≡ true
+  prep_wanted n due stands here first =
+      let goes : GoesTo w.decided (message_of n due) n.hostgroup = decided.due n due stands.at in
+      ap (λ o. option_map_or (λ (route : Route). wants_prepared t now link (present_now setup now n.client route.hostgroup) due.ordinal) o false)
+      (agrees.routes (message_of n due) (Some goes.route) goes.routed)
+      ∙ ap (λ (h : Hostgroup). wants_prepared t now link (present_now setup now n.client h) due.ordinal) goes.there
+      ∙ ap (λ m. wants_prepared t now link m due.ordinal) here
+      ∙ and_from (is_due t w.tale n) _ (due_then n stands.waits)
+      (ap (λ o. option_map_or (λ (d : Due). nat_eq d.ordinal due.ordinal && prepares_first there d.command d.key) o false) stands.at
+      ∙ and_from (nat_eq due.ordinal due.ordinal) _ (same_number due.ordinal) first)
 
   -- Questions.
 
   abbrev Good : Question → Type 0
-  Good q = Tells (tag_of k q) (Asks (command_of q)) → LeadsFor t now link (Asks (command_of q)) (tag_of k q)
+  Good q = May q → is_present k q ≡ true → LeadsFor t now link (Asks (command_of q)) (tag_of k q)
 
   step_good : (c : Command) → (MayLead c → is_wanted t now link c there.carries ≡ true) → MayLead c → IsWantedThere t now link (Asks c)
   step_good (InitDb schema) each may = each may
@@ -249,43 +191,38 @@ module _ (fixed : Fixed) (ids : SpellsIds fixed) (nothing : ReadsNothing fixed.r
   carried_so : (c : Command) (carried : Carried) → there.carries ≡ carried → is_wanted t now link c carried ≡ true → is_wanted t now link c there.carries ≡ true
   carried_so c carried is wanted = ap (is_wanted t now link c) is ∙ wanted
 
-  prep_good : (n : SessionName) (due : Due) → view.dues n ≡ Some due → is_due k.terms w.tale n ≡ true → IsOwn fixed w plan link bytes n → prepares_first there due.command due.key ≡ true
-      → Good (Prep n due.key (setup.keys due.key).text)
-  prep_good n due at is own first told =
-      let same : ordinal_due (view.dues n) ≡ due.ordinal = ap ordinal_due at in
-      let c : Command = command_of (Prep n due.key (setup.keys due.key).text) in
-      subst (λ i. is_prep_wanted t now link (record { client = n.client; ordinal = i }) ≡ true) (sym same)
-      (prep_wanted n due own (decided.due n due at) c at is first (subst (λ i. Tells (tags.Prep n.client i) (Asks c)) same told))
+  prep_good : (n : SessionName) (due : Due) → Stands k n due → prepares_first there due.command due.key ≡ true → Good (Prep n due.key (setup.keys due.key).text)
+  prep_good n due stands first may here =
+      subst (λ i. is_prep_wanted t now link (record { client = n.client; ordinal = i }) ≡ true) (sym (ap ordinal_due stands.at))
+      (prep_wanted n due stands (sym (named n (present view n.client n.hostgroup) here)) first)
 
   waiter_good : (r : Readied) (q : Question) → readied_now k link ≡ Some r → there.carries ≡ Nobody → Asked setup (carrying Nobody there) (view.held r.name) r.name r.due Own q → Good q
-  waiter_good r q readied carried (Steps c each) told = step_good c (λ may. carried_so c Nobody carried (waiter_wants r c readied (each may))) (own_leads c told)
-  waiter_good r q readied carried (Prepares first) told =
-      let waits : Waits k r = readied_waits k link r readied in
-      prep_good r.name r.due waits.due (waits_due r waits) (own_present fixed w plan link bytes r.name waits.present) first told
-  waiter_good r q readied carried States told = tt
+  waiter_good r q readied carried (Steps c each) may here = step_good c (λ leads. carried_so c Nobody carried (waiter_wants r c readied (each leads))) (own_leads c may)
+  waiter_good r q readied carried (Prepares first) may here = prep_good r.name r.due (readied_at k r (readied_waits k link r readied)) first may here
+  waiter_good r q readied carried States may here = tt
 
   lent_good : (n : SessionName) (due : Due) (q : Question) → (kept_due k).dues n ≡ Some due → there.carries ≡ Lent n
       → Asked setup (carrying (Lent n) there) (view.held n) n due Own q → Good q
-  lent_good n due q at carried (Steps c each) told =
-      step_good c (λ may. carried_so c (Lent n) carried (wants_so n due c (kept_at n due at).0 (kept_at n due at).1 (each may))) (own_leads c told)
-  lent_good n due q at carried (Prepares first) told =
-      prep_good n due (kept_at n due at).1 (kept_at n due at).0 (own_lent fixed w plan link bytes decided agrees stays n carried) first told
-  lent_good n due q at carried States told = tt
+  lent_good n due q at carried (Steps c each) may here =
+      let stands : Stands k n due = kept_at k n due at in
+      step_good c (λ leads. carried_so c (Lent n) carried (wants_so n due c stands.waits stands.at (each leads))) (own_leads c may)
+  lent_good n due q at carried (Prepares first) may here = prep_good n due (kept_at k n due at) first may here
+  lent_good n due q at carried States may here = tt
 
-  joined_good : (n : SessionName) (due : Due) (q : Question) → (kept_due k).dues n ≡ Some due → present view n.client n.hostgroup ≡ n → there.carries ≡ Joined n
+  joined_good : (n : SessionName) (due : Due) (q : Question) → (kept_due k).dues n ≡ Some due → there.carries ≡ Joined n
       → Asked setup (carrying (Joined n) there) (view.held n) n due (Sync n) q → Good q
-  joined_good n due q at stands carried (Steps c each) told =
-      step_good c (λ may. carried_so c (Joined n) carried (wants_so n due c (kept_at n due at).0 (kept_at n due at).1 (each may))) (sync_leads n c told)
-  joined_good n due q at stands carried (Prepares first) told =
-      prep_good n due (kept_at n due at).1 (kept_at n due at).0 (own_present fixed w plan link bytes n stands) first told
-  joined_good n due q at stands carried States told = tt
+  joined_good n due q at carried (Steps c each) may here =
+      let stands : Stands k n due = kept_at k n due at in
+      step_good c (λ leads. carried_so c (Joined n) carried (wants_so n due c stands.waits stands.at (each leads))) (sync_leads n c may)
+  joined_good n due q at carried (Prepares first) may here = prep_good n due (kept_at k n due at) first may here
+  joined_good n due q at carried States may here = tt
 
   source_good : (c : Carried) (q : Question) → there.carries ≡ c → Source setup (kept_due k) there (readied_now k link) c q → Good q
   source_good c q carried (ForWaiter r x is asked) = waiter_good r q is carried asked
   source_good c q carried (ForLent n due x at asked) = lent_good n due q at carried asked
-  source_good c q carried (ForJoined n due x here at asked) = joined_good n due q at (sym (named n (present view n.client n.hostgroup) here)) carried asked
-  source_good c q carried (Captures n) = λ told. tt
-  source_good c q carried (Ends n) = λ told. tt
+  source_good c q carried (ForJoined n due x here at asked) = joined_good n due q at carried asked
+  source_good c q carried (Captures n) = λ may here. tt
+  source_good c q carried (Ends n) = λ may here. tt
 
   question_good : (q : Question) → next_question texts fixed.ids setup (kept_due k) there (readied_now k link) ≡ Some q → Good q
   question_good q is = source_good there.carries q refl (source_of fixed.ids ids setup (kept_due k) there (readied_now k link) q there.carries is)
@@ -331,9 +268,9 @@ module _ (fixed : Fixed) (ids : SpellsIds fixed) (nothing : ReadsNothing fixed.r
 
   source_clear : (c : Carried) (q : Question) → Source setup (kept_due k) there (readied_now k link) c q → Clear q
   source_clear c q (ForWaiter r x is asked) =
-      let waits : Waits k r = readied_waits k link r is in own_clear r.name r.due Nobody q waits.due (waits_due r waits) asked
-  source_clear c q (ForLent n due x at asked) = own_clear n due (Lent n) q (kept_at n due at).1 (kept_at n due at).0 asked
-  source_clear c q (ForJoined n due x here_now at asked) = sync_clear n due (Joined n) q (kept_at n due at).1 (kept_at n due at).0 asked
+      let stands : Stands k r.name r.due = readied_at k r (readied_waits k link r is) in own_clear r.name r.due Nobody q stands.at stands.waits asked
+  source_clear c q (ForLent n due x at asked) = own_clear n due (Lent n) q (kept_at k n due at).at (kept_at k n due at).waits asked
+  source_clear c q (ForJoined n due x here_now at asked) = sync_clear n due (Joined n) q (kept_at k n due at).at (kept_at k n due at).waits asked
   source_clear c q (Captures n) = λ number is. no_some (Closes number) is
   source_clear c q (Ends n) = λ number is. no_some (Closes number) is
 
@@ -341,36 +278,20 @@ module _ (fixed : Fixed) (ids : SpellsIds fixed) (nothing : ReadsNothing fixed.r
   question_clear q is = source_clear there.carries q (source_of fixed.ids ids setup (kept_due k) there (readied_now k link) q there.carries is)
 
   abbrev GoodWish : Wish → Type 0
-  GoodWish wish = Tells (wish_tag k wish) (wish_step wish) → LeadsFor t now link (wish_step wish) (wish_tag k wish)
+  GoodWish wish = LeadsFor t now link (wish_step wish) (wish_tag k wish)
 
   text_good : (q : Question) (text : StepText) → Clear q → before_question there (standing_on k link) q ≡ Some text → IsWantedThere t now link text
   text_good q (Asks command) clear is = isnt (says_mute there (standing_on k link) q (Asks command) is)
   text_good q (Closes number) clear is = clear number is
   text_good q (Resets number) clear is = tt
 
-  asked_good : (q : Question) → Good q → Clear q → GoodWish (wish_for there (standing_on k link) q)
-  asked_good q good clear = by_before (before_question there (standing_on k link) q) refl where
-    by_before : (o : Option StepText) → before_question there (standing_on k link) q ≡ o → GoodWish (option_map_or (λ text. Says text) o (Sends q))
-    by_before None before = good
-    by_before (Some text) before = λ told. text_good q text clear before
-
-  next_good : (o : Option Question) (wish : Wish) → next_question texts fixed.ids setup (kept_due k) there (readied_now k link) ≡ o
-      → option_map (wish_for there (standing_on k link)) o ≡ Some wish → GoodWish wish
-  next_good None wish at is = no_some wish is
-  next_good (Some q) wish at is = subst GoodWish (some_of _ wish is) (asked_good q (question_good q at) (question_clear q at))
-
-  pub wish_good : (wish : Wish) → wish_on k link ≡ Some wish → GoodWish wish
-  wish_good wish is = by_quits (w.tale.wires link).quits is where
-    by_quits : (b : Bool) → (if b then None else option_map (wish_for there (standing_on k link)) (next_question texts fixed.ids setup (kept_due k) there (readied_now k link))) ≡ Some wish
-        → GoodWish wish
-    by_quits true now_is = no_some wish now_is
-    by_quits false now_is = next_good (next_question texts fixed.ids setup (kept_due k) there (readied_now k link)) wish refl now_is
+  pub wish_good : (wish : Wish) → IsWished k link wish → GoodWish wish
+  wish_good wish is = subst GoodWish is.is (by_before (before_question there (standing_on k link) is.question) refl) where
+    by_before : (o : Option StepText) → before_question there (standing_on k link) is.question ≡ o → GoodWish (option_map_or (λ text. Says text) o (Sends is.question))
+    by_before None before = question_good is.question is.asks is.may is.present
+    by_before (Some text) before = text_good is.question text (question_clear is.question is.asks) before
 
 -- Along a log.
-
-stays_of : (b : Bool) (o : Option Wish) (wish : Wish) → (if b then None else o) ≡ Some wish → b ≡ false
-stays_of false o wish is = refl
-stays_of true o wish is = absurd (cc)
 
 module _ (fixed : Fixed) (numbered : IsNumbered fixed) (ids : SpellsIds fixed) (nothing : ReadsNothing fixed.router.reads) where
   module _ (before later : Log) (link : LinkId) (tag : Tag) (bytes : List ℕ) (begun : AreBegun fixed (world_at fixed before))
@@ -393,7 +314,7 @@ module _ (fixed : Fixed) (numbered : IsNumbered fixed) (ids : SpellsIds fixed) (
     same_now : now_at last_terms before ≡ now_of fixed w
     same_now = now_is fixed last_terms before (now_same fixed numbered before (e ∷ later))
 
-    module _ (fits : LawfulAfter Fits before (e ∷ later)) (passes : PassesAt (setup_of fixed) (plan_of last.decided) w.tale e) (our : IsOurs fixed before e) where
+    module _ (fits : LawfulAfter Fits before (e ∷ later)) (our : IsOurs fixed before e) where
       abbrev step : StepText
       step = (plan_of last.decided).steps link (w.tale.wires link).begun
 
@@ -402,21 +323,16 @@ module _ (fixed : Fixed) (numbered : IsNumbered fixed) (ids : SpellsIds fixed) (
       by_begun to_server begins (Parts closing untold asks own) =
           subst (λ s. LeadsFor last_terms (now_of fixed w) link s tag) (sym asks)
           (subst (λ x. LeadsFor last_terms (now_of fixed w) link (Asks Quit) x) (sym own) tt)
-      by_begun to_server begins (Wishes wish wished tagged asks) =
-          let told : begun_on (setup_of fixed) (plan_of last.decided) w.tale.moment (view_of (setup_of fixed) w.tale) link (w.tale.wires link) tag
-          ≡ tells fixed w (plan_of last.decided) link bytes (wish_tag (known fixed w) wish) (wish_step wish) =
-          sym (tells_same fixed w (plan_of last.decided) link bytes tag) ∙ ap (tells fixed w (plan_of last.decided) link bytes tag) asks
-          ∙ ap (λ x. tells fixed w (plan_of last.decided) link bytes x (wish_step wish)) tagged in
+      by_begun to_server begins (Wishes wish at tagged asks) =
           subst (λ s. LeadsFor last_terms (now_of fixed w) link s tag) (sym asks) (subst (λ x. LeadsFor last_terms (now_of fixed w) link (wish_step wish) x) (sym tagged)
-          (wish_good fixed ids nothing w last (alike_at fixed numbered before (e ∷ later) fits) link bytes decided (agrees_then fixed before (e ∷ later)) to_server
-          (stays_of (w.tale.wires link).quits _ wish wished) wish wished
-          (subst (λ es. may_tell (setup_of fixed) es w.tale.story ≡ true) told (passes to_server begins))))
+          (wish_good fixed ids nothing w last (alike_at fixed numbered before (e ∷ later) fits) link decided (agrees_then fixed before (e ∷ later)) to_server
+          wish (wished (known fixed w) link wish at)))
 
       here_so : is_to_server w.tale link ≡ true → may_begin (setup_of fixed) link (w.tale.wires link) w.tale ≡ true → LeadsFor last_terms (now_of fixed w) link step tag
       here_so there begins =
           by_begun there begins
           (begun_so (known fixed w) link tag bytes step fits.0.some
-          (step_is fixed numbered before later link tag bytes begun (begins_at fixed w link e there begins our.1) there begins) our.0 there begins)
+          (step_is fixed numbered before later link tag bytes begun there begins) our there begins)
 
       by_begins : is_to_server (now_at last_terms before).tale link ≡ true → (b : Bool) → begins_there ≡ b → LeadsAs last_terms (now_at last_terms before) link tag b
       by_begins to_server false at = tt
@@ -427,35 +343,19 @@ module _ (fixed : Fixed) (numbered : IsNumbered fixed) (ids : SpellsIds fixed) (
 
   leads_by : (before later : Log) (e : Entry) → AreBegun fixed (world_at fixed before)
       → AreDecided (world_at fixed before).decided (view_of (setup_of fixed) (world_at fixed before).tale) → LawfulAfter Fits before (e ∷ later)
-      → PassesAt (setup_of fixed) (plan_of (world_at fixed (before ++ e ∷ later)).decided) (world_at fixed before).tale e
       → IsOurs fixed before e → LeadsSo (final_terms fixed (before ++ e ∷ later)) before e
-  leads_by before later (entry.Wrote link tag bytes) begun decided fits passes our = λ there.
-      by_begins before later link tag bytes begun decided fits passes our there (begins_there before later link tag bytes begun decided) refl
-  leads_by before later _ begun decided fits passes our = tt
+  leads_by before later (entry.Wrote link tag bytes) begun decided fits our = λ there.
+      by_begins before later link tag bytes begun decided fits our there (begins_there before later link tag bytes begun decided) refl
+  leads_by before later _ begun decided fits our = tt
 
-  abbrev HeldAt : ℕ → Log → Type 0
-  HeldAt n before = IsHeld (setup_of fixed) n (world_at fixed before).decided (world_at fixed before).tale.clients (world_at fixed before).tale.story
-
-  leads_from : (before later log : Log) (n : ℕ) → before ++ later ≡ log → n + length later < 18446744073709551616 → HeldAt n before → AreBegun fixed (world_at fixed before)
-      → LawfulAfter Fits before later → IsTestedFrom (setup_of fixed) (plan_of (world_at fixed log).decided) (world_at fixed before).tale later
-      → LawfulAfter (IsOurs fixed) before later → LawfulAfter (LeadsSo (final_terms fixed log)) before later
-  leads_from before [] log n is small held begun fits tests our = tt
-  leads_from before (e ∷ later) log n is small held begun fits tests our =
-      let v : World More = world_at fixed before in
-      let one = step_held fixed n v e (omega arith) held our.0 in
-      let plan : Plan = plan_of (world_at fixed log).decided in
-      let moved : (world_at fixed (before ++ e ∷ [])).tale ≡ tale_step (setup_of fixed) plan v.tale e =
-      ap (λ (x : World More). x.tale) (world_more fixed before (e ∷ []))
-      ∙ (stepped (setup_of fixed) (shared fixed) v e plan (even_at fixed before) (agrees_behind fixed numbered before later e log is)).same in (
-        subst (λ l. LeadsSo (final_terms fixed l) before e) is
-            (leads_by before later e begun held.decided fits
-            (subst (λ (l : Log). PassesAt (setup_of fixed) (plan_of (world_at fixed l).decided) v.tale e) (sym is) tests.0) our.0),
-        leads_from (before ++ e ∷ []) later log (suc n) (append_assoc before (e ∷ []) later ∙ is) (omega arith)
-            (subst (λ (x : World More). IsHeld (setup_of fixed) (suc n) x.decided x.tale.clients x.tale.story) (sym (world_more fixed before (e ∷ []))) one.held)
-            (begun_then fixed before e fits.0 begun) fits.1
-            (subst (λ (x : Tale). IsTestedFrom (setup_of fixed) plan x later) (sym moved) tests.1) our.1,
-      )
+  leads_from : (before later log : Log) (n : ℕ) → before ++ later ≡ log → n + length later < 18446744073709551616 → IsReached fixed n before
+      → LawfulAfter Fits before later → LawfulAfter (IsOurs fixed) before later → LawfulAfter (LeadsSo (final_terms fixed log)) before later
+  leads_from before [] log n is small reached fits our = tt
+  leads_from before (e ∷ later) log n is small reached fits our = (
+    subst (λ l. LeadsSo (final_terms fixed l) before e) is (leads_by before later e reached.begun reached.held.decided fits our.0),
+    leads_from (before ++ e ∷ []) later log (suc n) (append_assoc before (e ∷ []) later ∙ is) (omega arith) (reached_next fixed n before e (omega arith) reached our.0 fits.0) fits.1 our.1,
+  )
 
   pub leads_kept : (log : Log) → length log < 18446744073709551616 → LawfulAfter (IsOurs fixed) [] log → LawfulAfter Fits [] log
       → LawfulAfter (LeadsSo (final_terms fixed log)) [] log
-  leads_kept log small our fits = leads_from [] log log 0 refl (omega arith) (first_held fixed) (first_begun fixed) fits (tested fixed log our fits) our
+  leads_kept log small our fits = leads_from [] log log 0 refl (omega arith) (first_reached fixed) fits our

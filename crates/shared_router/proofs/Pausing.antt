@@ -1,33 +1,38 @@
 -- Where the loop waits, no session that was left is to be ended on a link on which a question may begin, and no insert id is to be asked for.
 use Rattle.std.specs.Prelude.{◌≡◌, ℕ, Bool, true, false, not, ◌&&◌, ◌||◌, find, is_none, is_some, if◌then◌else◌, List, Option, Some, None}
-use Rattle.std.specs.Option.{option_map, option_map_or}
+use Rattle.std.specs.Option.{option_and_then, option_map, option_map_or}
 use Rattle.std.proofs.Common.{refl, sym, ap, ◌∙◌}
 use Rattle.std.proofs.lemmas.Bool.{and_from, and_parts}
 use Rattle.std.proofs.lemmas.Slice.Eq.{bytes_eq-Decides}
 use Rattle.mx_base.specs.declared.names.LinkId.{LinkId}
 use Rattle.mx_wire.specs.Log.{is_open}
 use Rattle.packet_frame.specs.Packets.{spelling}
+use Rattle.private_model.proofs.Maps.{same_name}
+use Rattle.reply_track.specs.declared.reply.ReplyKind.TheVariants as kind
+use Rattle.server_rule.specs.Servers.{is_some_of}
 use Rattle.ready_loop.specs.Drained.{write_dry}
 use Rattle.session_state.specs.Pins.{is_pinned, needs_reset}
 use Rattle.private_model.specs.Names.{SessionName}
 use Rattle.private_model.specs.Story.{Capture, End, Question, is_link_id, is_name}
-use Rattle.private_model.specs.View.{Carried, Joined, Lent, Link, Nobody, Setup, View, present}
+use Rattle.private_model.specs.View.{Answered, Asked, Carried, Joined, Lent, Link, Nobody, Quiet, Setup, Stage, View, present}
 use Rattle.log_story.specs.Honest.{IsStep}
 use Rattle.log_story.specs.Plan.{Asks, Closes, Resets, StepText, step_payload}
-use Rattle.log_story.specs.Servers.{is_quiet, may_begin}
-use Rattle.log_story.specs.Tale.{Client, is_to_server}
+use Rattle.log_story.specs.Servers.{is_quiet, may_begin, read_as, written_in}
+use Rattle.log_story.specs.Tale.{Client, Wire, is_reset_step, is_to_server}
 use Rattle.tale_world.specs.Policy.{for_session, next_question}
-use Rattle.tale_world.specs.Wishes.{next_wish, wish_for}
-use Rattle.router_promises.specs.Closes.{has_bytes, is_past_reset, is_past_reset_by, is_spoilt, was_amiss}
-use Rattle.router_promises.specs.Now.{Now, link_now, wire_now}
+use Rattle.tale_world.specs.Tests.{fits, is_joined, may_begin_question}
+use Rattle.tale_world.specs.Wishes.{Wish, wish_for}
+use Rattle.router_promises.specs.Closes.{has_bad_bytes, has_bytes, is_bad, is_bad_at, is_past_reset, is_past_reset_by, is_spoilt, was_amiss}
+use Rattle.router_promises.specs.Now.{Now, link_now, was_lost, wire_now}
 use Rattle.router_promises.specs.Rest.{owes_capture, owes_reset}
+use Rattle.router_promises.specs.Running.{is_failed, opening_on}
 use Rattle.router_promises.specs.Terms.{Terms, setup_in}
-use Rattle.shared_router.specs.Known.{Known, link_by, setup_by}
+use Rattle.shared_router.specs.Known.{Known, link_by, setup_by, view_by}
 use Rattle.shared_router.specs.Lends.{readied_now}
 use Rattle.shared_router.specs.Ours.{MayWait}
 use Rattle.shared_router.specs.Owed.{Owed, close_by, farewell, is_let_go, is_refused, is_to_close, is_whole_step, nothing_owed, owed_next, owed_on, owed_on_client, owed_on_server, owed_there}
 use Rattle.shared_router.specs.Waited.{OwesNoStep}
-use Rattle.shared_router.specs.Wishes.{kept_due, standing_on, texts, wish_on}
+use Rattle.shared_router.specs.Wishes.{asked_on, if_may, is_present, kept_due, may_go, standing_on, texts, wish_on}
 use Rattle.shared_router.proofs.Calming.{left_false, nothing_closes, right_false, stays_open, then_false}
 
 isnt : {A : Type 0} → true ≡ false → A
@@ -46,6 +51,18 @@ pub record MayAsk (terms : Terms) (now : Now) (link : LinkId) : Type 0 where
   pub stays : (wire_now now link).quits ≡ false
   pub usable : (link_now (setup_in terms) now link).usable ≡ true
 
+-- nothing unread lies where nothing stands and no bytes are bad
+unread_none : (wire : Wire) (stage : Stage) (resets other : Bool) → is_quiet stage ≡ true → not resets ≡ true → (if resets then other else is_bad_at wire stage) ≡ false
+    → has_bytes wire.unread ≡ false
+unread_none wire Quiet false other quiet plain is = is
+unread_none wire Quiet true other quiet plain is = isnt (sym plain)
+unread_none wire (Asked question) resets other quiet plain is = isnt (sym quiet)
+unread_none wire (Answered question) resets other quiet plain is = isnt (sym quiet)
+
+unknown : (id : Option ℕ) → is_none id ≡ true → not (is_some id) ≡ true
+unknown None is = refl
+unknown (Some id) is = isnt (sym is)
+
 module _ (k : Known) (link : LinkId) where
   abbrev there : Link
   there = link_by k link
@@ -56,7 +73,8 @@ module _ (k : Known) (link : LinkId) where
   abbrev setup : Setup
   setup = setup_by k
 
-  module _ (calm : close_by k ≡ None) (to_server : is_to_server k.now.tale link ≡ true) (may : MayAsk k.terms k.now link) where
+  module _ (calm : close_by k ≡ None) (to_server : is_to_server k.now.tale link ≡ true) (may : MayAsk k.terms k.now link)
+      (sound : is_spoilt k.terms k.log k.now link ≡ false) where
     abbrev begins_now : Bool
     begins_now = may_begin setup link (wire_now k.now link) k.now.tale
 
@@ -84,22 +102,43 @@ module _ (k : Known) (link : LinkId) where
     abbrev asks_of : SessionName → Option Question
     asks_of n = for_session texts k.fixed.ids setup view (with_carries (Joined n)) n
 
+    read : has_bytes (wire_now k.now link).unread ≡ false
+    read =
+        let wire : Wire = wire_now k.now link in
+        let rest = (and_parts (is_quiet there.stage) _ (and_parts wire.entered _ may.begins).1).1 in
+        let bad : Bool = has_bad_bytes setup k.now link in
+        let none : bad ≡ false = left_false bad _ (right_false (not wire.entered && is_failed (opening_on k.terms k.now.tale link)) _ (right_false (was_lost k.log link) _ sound)) in
+        unread_none wire there.stage (is_reset_step wire.step) (is_bad (read_as kind.Command wire)) quiet (and_parts (not (is_some_of (written_in wire.written).rest)) _ rest).1
+        (then_false wire.entered _ none entered)
+
     -- what is wished is what its session asks
-    wish_is : (n : SessionName) → there.carries ≡ Joined n → wish_on k link ≡ option_map (wish_for there (standing_on k link)) (asks_of n)
-    wish_is n carried =
-        ap (λ b. if b then None else next_wish texts k.fixed.ids setup view there (standing_on k link) (readied_now k link)) may.stays
-        ∙ ap (λ c. option_map (wish_for there (standing_on k link)) (next_question texts k.fixed.ids setup view (with_carries c) (readied_now k link))) carried
-        ∙ ap (λ b. option_map (wish_for there (standing_on k link)) (if not b then None else asks_of n))
-        (and_from (is_quiet there.stage) there.usable quiet may.usable)
+
+    abbrev as_wish : Option Question → Option Wish
+    as_wish = option_map (wish_for there (standing_on k link))
+
+    wish_is : (n : SessionName) (q : Question) → there.carries ≡ Joined n → asks_of n ≡ Some q → may_go k link q ≡ true
+        → wish_on k link ≡ Some (wish_for there (standing_on k link) q)
+    wish_is n q carried asks goes =
+        ap (λ b. if b || has_bytes (wire_now k.now link).unread then None else as_wish (asked_on k link)) may.stays
+        ∙ ap (λ b. if b then None else as_wish (asked_on k link)) read
+        ∙ ap (λ c. as_wish (option_and_then (if_may k link) (next_question texts k.fixed.ids setup view (with_carries c) (readied_now k link)))) carried
+        ∙ ap (λ b. as_wish (option_and_then (if_may k link) (if not b then None else asks_of n))) (and_from (is_quiet there.stage) there.usable quiet may.usable)
+        ∙ ap (λ o. as_wish (option_and_then (if_may k link) o)) asks
+        ∙ ap (λ b. as_wish (if b then Some q else None)) goes
+
+    go_on : (q : Question) → fits setup (view_by k) there q ≡ true → is_present k q ≡ true → may_go k link q ≡ true
+    go_on q fit present =
+        and_from (may_begin_question setup (view_by k) there q) (is_present k q)
+        (and_from there.usable _ may.usable (and_from (is_quiet there.stage) (fits setup (view_by k) there q) quiet fit)) present
 
     -- so where it asks for one, bytes are owed
-    owes_end : (n : SessionName) → there.carries ≡ Joined n → asks_of n ≡ Some (End n) → has_bytes (owed_on k link).bytes ≡ true
+    owes_end : (n : SessionName) → there.carries ≡ Joined n → asks_of n ≡ Some (End n) → fits setup (view_by k) there (End n) ≡ true → has_bytes (owed_on k link).bytes ≡ true
     unfolding spelling
-    owes_end n carried asks = ap (λ o. has_bytes o.bytes) (owed_is ∙ ap (owed_next k link) (wish_is n carried ∙ ap (option_map (wish_for there (standing_on k link))) asks))
+    owes_end n carried asks fit = ap (λ o. has_bytes o.bytes) (owed_is ∙ ap (owed_next k link) (wish_is n (End n) carried asks (go_on (End n) fit refl)))
 
-    owes_id : (n : SessionName) → there.carries ≡ Joined n → asks_of n ≡ Some (Capture n) → has_bytes (owed_on k link).bytes ≡ true
+    owes_id : (n : SessionName) → there.carries ≡ Joined n → asks_of n ≡ Some (Capture n) → fits setup (view_by k) there (Capture n) ≡ true → has_bytes (owed_on k link).bytes ≡ true
     unfolding spelling
-    owes_id n carried asks = ap (λ o. has_bytes o.bytes) (owed_is ∙ ap (owed_next k link) (wish_is n carried ∙ ap (option_map (wish_for there (standing_on k link))) asks))
+    owes_id n carried asks fit = ap (λ o. has_bytes o.bytes) (owed_is ∙ ap (owed_next k link) (wish_is n (Capture n) carried asks (go_on (Capture n) fit refl)))
 
   abbrev is_there : SessionName → Bool
   is_there n = is_name n (present view n.client n.hostgroup)
@@ -127,6 +166,13 @@ module _ (k : Known) (link : LinkId) where
   not_lasting : is_past_reset setup k.now link ≡ false → (n : SessionName) → there.carries ≡ Joined n → not (is_there n) ≡ true → view.lasting n ≡ false
   not_lasting past n carried left = then_false (not (is_there n)) (view.lasting n) (ap (is_past_reset_by setup k.now link) (sym carried) ∙ past) left
 
+  kept_sound : is_to_close k link ≡ false → is_open link k.log ≡ true → is_spoilt k.terms k.log k.now link ≡ false
+  kept_sound stays opened =
+      let spoilt : Bool = is_spoilt k.terms k.log k.now link in
+      let rest : Bool = was_amiss setup link k.now.tale.story || (is_refused k link || (is_past_reset setup k.now link || is_let_go k link)) in
+      left_false spoilt rest (right_false (wire_now k.now link).quits (spoilt || rest)
+      (then_false (is_open link k.log) ((wire_now k.now link).quits || (spoilt || rest)) stays opened))
+
   kept_clean : is_to_close k link ≡ false → is_open link k.log ≡ true → is_past_reset setup k.now link ≡ false
   kept_clean stays opened =
       let spoilt : Bool = is_spoilt k.terms k.log k.now link in
@@ -148,18 +194,36 @@ module _ (k : Known) (link : LinkId) where
     never : {A : Type 0} → has_bytes (owed_on k link).bytes ≡ true → A
     never has = isnt (sym (may.written link opened has) ∙ goes)
 
+    sound : is_spoilt k.terms k.log k.now link ≡ false
+    sound = kept_sound (stays_open k may.acted link to_server) opened
+
     past : is_past_reset setup k.now link ≡ false
     past = kept_clean (stays_open k may.acted link to_server) opened
 
     end_asked : (n : SessionName) → there.carries ≡ Joined n → (not (is_there n) && needs_reset (view.held n).pin) ≡ true
-        → asks_of calm_now to_server ask n ≡ Some (End n)
+        → asks_of calm_now to_server ask sound n ≡ Some (End n)
     end_asked n carried is =
         ends_so n (is_there n) (is_pinned (view.held n).pin) (is_some (view.held n).id) (needs_reset (view.held n).pin) (view.lasting n) _ is
         (not_lasting past n carried (and_parts (not (is_there n)) (needs_reset (view.held n).pin) is).0)
 
     id_asked : (n : SessionName) → (is_there n && (not (is_pinned (view.held n).pin) && is_none (view.held n).id)) ≡ true
-        → asks_of calm_now to_server ask n ≡ Some (Capture n)
+        → asks_of calm_now to_server ask sound n ≡ Some (Capture n)
     id_asked n is = captures_so n (is_there n) (is_pinned (view.held n).pin) (view.held n).id (needs_reset (view.held n).pin) (view.lasting n) _ is
+
+    joined : (n : SessionName) → there.carries ≡ Joined n → is_joined n there.carries ≡ true
+    joined n is = ap (is_joined n) is ∙ same_name n
+
+    end_fits : (n : SessionName) → there.carries ≡ Joined n → (not (is_there n) && needs_reset (view.held n).pin) ≡ true → fits setup (view_by k) there (End n) ≡ true
+    end_fits n is owes =
+        let parts = and_parts (not (is_there n)) (needs_reset (view.held n).pin) owes in
+        and_from (is_joined n there.carries) _ (joined n is) (and_from (not (is_there n)) _ parts.0
+        (and_from (needs_reset (view.held n).pin) _ parts.1 (ap not (not_lasting past n is parts.0))))
+
+    id_fits : (n : SessionName) → there.carries ≡ Joined n → (is_there n && (not (is_pinned (view.held n).pin) && is_none (view.held n).id)) ≡ true
+        → fits setup (view_by k) there (Capture n) ≡ true
+    id_fits n is owes =
+        let parts = and_parts (not (is_pinned (view.held n).pin)) (is_none (view.held n).id) (and_parts (is_there n) _ owes).1 in
+        and_from (is_joined n there.carries) _ (joined n is) (and_from (not (is_pinned (view.held n).pin)) _ parts.0 (unknown (view.held n).id parts.1))
 
     false_if : (b : Bool) → (b ≡ true → true ≡ false) → b ≡ false
     false_if true so = isnt (so refl)
@@ -169,13 +233,13 @@ module _ (k : Known) (link : LinkId) where
     no_end Nobody is = refl
     no_end (Lent n) is = refl
     no_end (Joined n) is = false_if (not (is_there n) && needs_reset (view.held n).pin)
-        (λ owes. never (owes_end calm_now to_server ask n is (end_asked n is owes)))
+        (λ owes. never (owes_end calm_now to_server ask sound n is (end_asked n is owes) (end_fits n is owes)))
 
     no_capture : (c : Carried) → there.carries ≡ c → owes_capture setup k.now c ≡ false
     no_capture Nobody is = refl
     no_capture (Lent n) is = refl
     no_capture (Joined n) is = false_if (is_there n && (not (is_pinned (view.held n).pin) && is_none (view.held n).id))
-        (λ owes. never (owes_id calm_now to_server ask n is (id_asked n owes)))
+        (λ owes. never (owes_id calm_now to_server ask sound n is (id_asked n owes) (id_fits n is owes)))
 
     pub owes_none : OwesNoStep k.terms k.now link
     owes_none = record { reset = no_end there.carries refl; capture = no_capture there.carries refl }

@@ -9,6 +9,7 @@ use Rattle.mx_base.specs.declared.tag.Tag.{Tag}
 use Rattle.mx_base.specs.declared.tag.Tag.TheVariants as tag
 use Rattle.mx_wire.specs.Log.{Log}
 use Rattle.mx_wire.specs.Moments.{LawfulAfter}
+use Rattle.mx_wire.specs.Tells.{Fits}
 use Rattle.mx_wire.specs.declared.entry.Entry.{Entry}
 use Rattle.mx_wire.specs.declared.entry.Entry.TheVariants as entry
 use Rattle.private_model.proofs.Maps.{message_is, same_message}
@@ -22,7 +23,7 @@ use Rattle.log_story.specs.Servers.{begins, begun_by, begun_on, may_begin, or_br
 use Rattle.log_story.specs.Tale.{Client, Tale, Wire, is_to_server, new_client, view_of, with_wire}
 use Rattle.tale_world.specs.Decided.{Decided, plan_of}
 use Rattle.tale_world.specs.Deciding.{Deciding, World}
-use Rattle.tale_world.specs.Tested.{has_broken}
+use Rattle.tale_world.specs.Tested.{PassesBy, has_broken}
 use Rattle.tale_world.specs.Tests.{may_tell}
 use Rattle.tale_world.specs.World.{are_taken, decided_last, decided_next, decided_told, go_on, goes_on, is_asked, is_called}
 use Rattle.tale_world.specs.World.{is_counted, is_ended, is_tagged, is_told, next_of, tagged, taken_once, with_step, with_taken}
@@ -32,10 +33,12 @@ use Rattle.shared_router.specs.Causes.{known_before}
 use Rattle.shared_router.specs.Fixed.{Fixed, setup_of}
 use Rattle.shared_router.specs.Judged.{ArePrompt, IsPrompt, IsPromptAt, PromptSo, heard, looked_last}
 use Rattle.shared_router.specs.More.{More}
-use Rattle.shared_router.specs.Ours.{IsOurs, OursBy}
+use Rattle.shared_router.specs.Ours.{IsOurs}
 use Rattle.shared_router.specs.Shared.{shared, world_at}
 use Rattle.shared_router.proofs.Decidedly.{are_more, first_decided}
-use Rattle.shared_router.proofs.Keeping.{begins_at}
+use Rattle.shared_router.proofs.Passing.{passes_so}
+use Rattle.shared_router.proofs.Stepping.{AreBegun, begun_then, first_begun}
+use Rattle.shared_router.proofs.Lonely.{first_lone}
 use Rattle.shared_router.proofs.Numbered.{AreNumbered, IsIn, IsOld, IsReady, latest_in, numbered_comes, old_comes, old_moves}
 use Rattle.shared_router.proofs.Numbered.{there_in}
 use Rattle.shared_router.proofs.Parting.{first, next, world_more}
@@ -108,6 +111,7 @@ module _ (fixed : Fixed) where
         };
         numbered = held.numbered;
         few = held.few;
+        lone = held.lone;
         unbroken = held.unbroken;
       }
 
@@ -273,41 +277,42 @@ module _ (fixed : Fixed) where
   if_tabled true x y clients one other = one refl
   if_tabled false x y clients one other = other
 
-  told_tabled : (n : ℕ) (w : World More) (e : Entry) → Held n w → OursBy fixed w e → IsTabled (decided_told setup by w e) w.tale.clients
-  told_tabled n w (entry.Opened server address link) held ours =
+  told_tabled : (n : ℕ) (w : World More) (e : Entry) → Held n w → PassesBy setup by w e → IsTabled (decided_told setup by w e) w.tale.clients
+  told_tabled n w (entry.Opened server address link) held passes =
       record { routes = held.tabled.routes; own = held.tabled.own; lone = held.tabled.lone; counted = held.tabled.counted }
-  told_tabled n w (entry.Got link bytes) held ours =
+  told_tabled n w (entry.Got link bytes) held passes =
       record { routes = held.tabled.routes; own = held.tabled.own; lone = held.tabled.lone; counted = held.tabled.counted }
-  told_tabled n w (entry.Wrote link for bytes) held ours =
+  told_tabled n w (entry.Wrote link for bytes) held passes =
       if_tabled (is_to_server w.tale link && may_begin setup link (w.tale.wires link) w.tale) (with_step by w link for bytes) w.decided w.tale.clients
       (λ both. let parts = and_parts (is_to_server w.tale link) _ both in
       step_tabled n w link for bytes held
       (subst (λ b. may_tell setup (begun_on setup (plan_of (if b then with_step by w link for bytes else w.decided)) w.tale.moment (view_of setup w.tale) link (w.tale.wires link) for) w.tale.story ≡ true) both
-      ((begins_at fixed w link (entry.Wrote link for bytes) parts.0 parts.1 ours.1).passes parts.0 parts.1)))
+      (passes parts.0 parts.1)))
       held.tabled
-  told_tabled n w _ held ours = held.tabled
+  told_tabled n w _ held passes = held.tabled
 
-  told_held : (n : ℕ) (w : World More) (e : Entry) → Held n w → OursBy fixed w e → Held (suc n) (is_told setup by w e)
-  told_held n w e held ours = entry_keeps setup (plan_of d) (holding setup (suc n) d) w.tale e (comes e) (says e ours refl) start where
+  told_held : (n : ℕ) (w : World More) (e : Entry) → Held n w → PassesBy setup by w e → Held (suc n) (is_told setup by w e)
+  told_held n w e held passes = entry_keeps setup (plan_of d) (holding setup (suc n) d) w.tale e (comes e) (says e passes refl) start where
     d : Decided
     d = decided_told setup by w e
 
     start : IsHeld setup (suc n) d w.tale.clients w.tale.story
     start = record {
-      tabled = told_tabled n w e held ours;
+      tabled = told_tabled n w e held passes;
       decided = are_more w.decided d (view_of setup w.tale) (told-more setup by w e) held.decided;
       numbered = held.numbered;
       few = omega (arith, held.few);
+      lone = held.lone;
       unbroken = held.unbroken;
     }
 
     passed : (link : LinkId) (for : Tag) (bytes : List ℕ) → entry.Wrote link for bytes ≡ e → is_to_server w.tale link ≡ true → may_begin setup link (w.tale.wires link) w.tale ≡ true
-        → OursBy fixed w (entry.Wrote link for bytes)
+        → PassesBy setup by w (entry.Wrote link for bytes)
         → has_broken (begun_on setup (plan_of d) w.tale.moment (view_of setup w.tale) link (w.tale.wires link) for ++ w.tale.story) ≡ false
-    passed link for bytes same there begins ours =
+    passed link for bytes same there begins passes =
         unbroken_told setup (begun_on setup (plan_of d) w.tale.moment (view_of setup w.tale) link (w.tale.wires link) for) w.tale.story
         (subst (λ (x : Entry). may_tell setup (begun_on setup (plan_of (decided_told setup by w x)) w.tale.moment (view_of setup w.tale) link (w.tale.wires link) for) w.tale.story ≡ true) same
-        ((begins_at fixed w link (entry.Wrote link for bytes) there begins ours.1).passes there begins)) held.unbroken
+        (passes there begins)) held.unbroken
 
     comes : (x : Entry) → Comes setup (plan_of d) (holding setup (suc n) d) w.tale x
     comes (entry.Accepted port link salt) =
@@ -317,23 +322,24 @@ module _ (fixed : Fixed) where
           decided = start.decided;
           numbered = numbered_comes 1 w.tale.clients one held.numbered (omega arith);
           few = let size : length (w.tale.clients ++ one ∷ []) ≡ length w.tale.clients + 1 = length-append w.tale.clients (one ∷ []) in omega (arith, size, held.few);
+          lone = held.lone;
           unbroken = held.unbroken;
         }
     comes _ = tt
 
-    says : (x : Entry) → OursBy fixed w x → x ≡ e → Says setup (plan_of d) (holding setup (suc n) d) w.tale x
-    says (entry.Wrote link for bytes) ours same = λ there.
+    says : (x : Entry) → PassesBy setup by w x → x ≡ e → Says setup (plan_of d) (holding setup (suc n) d) w.tale x
+    says (entry.Wrote link for bytes) passes same = λ there.
         let written = writes setup (plan_of d) link for bytes (w.tale.wires link) w.tale in
         whole setup (suc n) d written.clients written.story
         (writes_keeps setup (plan_of d) (loosely setup (suc n) d) (breaks_loose setup (suc n) d) link for bytes (w.tale.wires link) w.tale (loose setup (suc n) d w.tale.clients w.tale.story start))
-        (by_begins (may_begin setup link (w.tale.wires link) w.tale) (λ begins. passed link for bytes same there begins ours))
+        (by_begins (may_begin setup link (w.tale.wires link) w.tale) (λ begins. passed link for bytes same there begins passes))
       where
         by_begins : (b : Bool) → (b ≡ true → has_broken (begun_on setup (plan_of d) w.tale.moment (view_of setup w.tale) link (w.tale.wires link) for ++ w.tale.story) ≡ false)
             → has_broken (if b then begins setup (plan_of d) link for bytes (w.tale.wires link) w.tale
             else with_wire link (record (w.tale.wires link) { written = (w.tale.wires link).written ++ bytes }) w.tale).story ≡ false
-        by_begins true passes = passes refl
-        by_begins false passes = held.unbroken
-    says _ ours same = tt
+        by_begins true passed = passed refl
+        by_begins false passed = held.unbroken
+    says _ passes same = tt
 
   -- what is old stays so as an entry is told
   abbrev old_keeping : (m : MessageName) → Keeping setup
@@ -356,20 +362,20 @@ module _ (fixed : Fixed) where
 
   -- Each entry.
 
-  pub heard_held : (n : ℕ) (w : World More) (e : Entry) → Held n w → OursBy fixed w e → Held (suc n) (heard fixed w e)
-  heard_held n w e held ours =
+  pub heard_held : (n : ℕ) (w : World More) (e : Entry) → Held n w → PassesBy setup by w e → Held (suc n) (heard fixed w e)
+  heard_held n w e held passes =
       let told_then : World More = is_told setup by w e in
       are_freed_held fixed (suc n) (is_counted by told_then e)
-      (counted_held fixed (suc n) told_then e (λ m given. old_told w e m (work_old fixed (known_before fixed told_then) told_then.more.servers e m given)) (told_held n w e held ours))
+      (counted_held fixed (suc n) told_then e (λ m given. old_told w e m (work_old fixed (known_before fixed told_then) told_then.more.servers e m given)) (told_held n w e held passes))
 
   pub record IsStepHeld (n : ℕ) (w : World More) (e : Entry) : Type 0 where
     pub held : Held (suc n) (next fixed w e)
     pub prompt : IsPromptAt fixed w e
 
-  pub step_held : (n : ℕ) (w : World More) (e : Entry) → suc n < 18446744073709551616 → Held n w → OursBy fixed w e → IsStepHeld n w e
-  step_held n w e small held ours =
+  pub step_held : (n : ℕ) (w : World More) (e : Entry) → suc n < 18446744073709551616 → Held n w → PassesBy setup by w e → IsStepHeld n w e
+  step_held n w e small held passes =
       let c : World More = heard fixed w e in
-      let on_c = heard_held n w e held ours in
+      let on_c = heard_held n w e held passes in
       let all = all_go (suc n) (view_of setup w.tale) e 1 c.tale.clients c small on_c on_c.numbered (all_ready c.tale.clients c.tale.clients on_c.numbered (λ x there. there)) in
       let d : World More = go_on setup by (view_of setup w.tale) e c in
       record { held = are_freed_held fixed (suc n) (is_ended by d e) (ending_held fixed (suc n) d e all.held); prompt = all.prompt }
@@ -382,31 +388,49 @@ module _ (fixed : Fixed) where
     decided = first_decided _ setup;
     numbered = tt;
     few = omega arith;
+    lone = first_lone setup;
     unbroken = refl;
   }
 
-  prompts_from : (before later : Log) (n : ℕ) → n + length later < 18446744073709551616 → Held n (world_at fixed before) → LawfulAfter (IsOurs fixed) before later
-      → LawfulAfter (PromptSo fixed) before later
-  prompts_from before [] n small held ours = tt
-  prompts_from before (e ∷ later) n small held ours =
-      let one = step_held n (world_at fixed before) e (omega arith) held ours.0 in (
-        one.prompt,
-        prompts_from (before ++ e ∷ []) later (suc n) (omega arith) (subst (λ (v : World More). Held (suc n) v) (sym (world_more fixed before (e ∷ []))) one.held) ours.1,
-      )
+  -- a world that holds so much, and in which only steps that began were decided
+  pub record IsReached (n : ℕ) (log : Log) : Type 0 where
+    pub held : Held n (world_at fixed log)
+    pub begun : AreBegun fixed (world_at fixed log)
 
-  pub prompts_kept : (log : Log) → length log < 18446744073709551616 → LawfulAfter (IsOurs fixed) [] log → LawfulAfter (PromptSo fixed) [] log
-  prompts_kept log small ours = prompts_from [] log 0 (omega arith) first_held ours
+  pub first_reached : IsReached 0 []
+  first_reached = record { held = first_held; begun = first_begun fixed }
+
+  pub reached_step : (n : ℕ) (before : Log) (e : Entry) → suc n < 18446744073709551616 → IsReached n before → IsOurs fixed before e → Fits before e
+      → IsStepHeld n (world_at fixed before) e
+  reached_step n before e small is ours fits = step_held n (world_at fixed before) e small is.held (passes_so fixed before e is.begun is.held.decided ours fits)
+
+  pub reached_next : (n : ℕ) (before : Log) (e : Entry) → suc n < 18446744073709551616 → IsReached n before → IsOurs fixed before e → Fits before e
+      → IsReached (suc n) (before ++ e ∷ [])
+  reached_next n before e small is ours fits = record {
+    held = subst (λ (v : World More). Held (suc n) v) (sym (world_more fixed before (e ∷ []))) (reached_step n before e small is ours fits).held;
+    begun = begun_then fixed before e fits is.begun;
+  }
+
+  prompts_from : (before later : Log) (n : ℕ) → n + length later < 18446744073709551616 → IsReached n before → LawfulAfter (IsOurs fixed) before later → LawfulAfter Fits before later
+      → LawfulAfter (PromptSo fixed) before later
+  prompts_from before [] n small is ours fits = tt
+  prompts_from before (e ∷ later) n small is ours fits = (
+    (reached_step n before e (omega arith) is ours.0 fits.0).prompt,
+    prompts_from (before ++ e ∷ []) later (suc n) (omega arith) (reached_next n before e (omega arith) is ours.0 fits.0) ours.1 fits.1,
+  )
+
+  pub prompts_kept : (log : Log) → length log < 18446744073709551616 → LawfulAfter (IsOurs fixed) [] log → LawfulAfter Fits [] log → LawfulAfter (PromptSo fixed) [] log
+  prompts_kept log small ours fits = prompts_from [] log 0 (omega arith) first_reached ours fits
 
   -- no breach is told at any moment
-  whole_from : (before later : Log) (n k : ℕ) → n + length later < 18446744073709551616 → Held n (world_at fixed before) → LawfulAfter (IsOurs fixed) before later
+  whole_from : (before later : Log) (n k : ℕ) → n + length later < 18446744073709551616 → IsReached n before → LawfulAfter (IsOurs fixed) before later → LawfulAfter Fits before later
       → has_broken (world_at fixed (before ++ take k later)).tale.story ≡ false
-  whole_from before later n zero small held ours = subst (λ (l : Log). has_broken (world_at fixed l).tale.story ≡ false) (sym (append-nil before)) held.unbroken
-  whole_from before [] n (suc k) small held ours = subst (λ (l : Log). has_broken (world_at fixed l).tale.story ≡ false) (sym (append-nil before)) held.unbroken
-  whole_from before (e ∷ later) n (suc k) small held ours =
-      let one = step_held n (world_at fixed before) e (omega arith) held ours.0 in
+  whole_from before later n zero small is ours fits = subst (λ (l : Log). has_broken (world_at fixed l).tale.story ≡ false) (sym (append-nil before)) is.held.unbroken
+  whole_from before [] n (suc k) small is ours fits = subst (λ (l : Log). has_broken (world_at fixed l).tale.story ≡ false) (sym (append-nil before)) is.held.unbroken
+  whole_from before (e ∷ later) n (suc k) small is ours fits =
       subst (λ (l : Log). has_broken (world_at fixed l).tale.story ≡ false) (append_assoc before (e ∷ []) (take k later))
-      (whole_from (before ++ e ∷ []) later (suc n) k (omega arith) (subst (λ (v : World More). Held (suc n) v) (sym (world_more fixed before (e ∷ []))) one.held) ours.1)
+      (whole_from (before ++ e ∷ []) later (suc n) k (omega arith) (reached_next n before e (omega arith) is ours.0 fits.0) ours.1 fits.1)
 
-  pub unbroken_at : (log : Log) (k : ℕ) → length log < 18446744073709551616 → LawfulAfter (IsOurs fixed) [] log
+  pub unbroken_at : (log : Log) (k : ℕ) → length log < 18446744073709551616 → LawfulAfter (IsOurs fixed) [] log → LawfulAfter Fits [] log
       → has_broken (world_at fixed (take k log)).tale.story ≡ false
-  unbroken_at log k small ours = whole_from [] log 0 k (omega arith) first_held ours
+  unbroken_at log k small ours fits = whole_from [] log 0 k (omega arith) first_reached ours fits

@@ -25,14 +25,13 @@ use Rattle.log_story.specs.Tale.{Client, Tale, Wire, is_to_server, link_in, view
 use Rattle.log_story.specs.Telling.{tale_step}
 use Rattle.tale_world.specs.Decided.{Agrees, plan_of}
 use Rattle.tale_world.specs.Deciding.{World}
-use Rattle.tale_world.specs.Tested.{IsTestedFrom, Passes}
-use Rattle.tale_world.specs.Tests.{may_tell}
 use Rattle.tale_world.specs.Wishes.{Wish}
 use Rattle.tale_world.proofs.Following as following
 use Rattle.tale_world.proofs.Following.{stepped}
 use Rattle.router_promises.specs.Headline as headline
 use Rattle.router_promises.specs.Now.{was_lost}
-use Rattle.router_promises.specs.Running.{is_entering, opening_on}
+use Rattle.router_promises.specs.Router.{Router}
+use Rattle.router_promises.specs.Running.{hostgroup_of, is_entering, opening_on}
 use Rattle.router_promises.specs.Tags.{last_tag}
 use Rattle.router_promises.specs.Terms.{tale_at}
 use Rattle.shared_router.specs.Fixed.{Fixed, IsNumbered, setup_of}
@@ -44,18 +43,17 @@ use Rattle.shared_router.specs.Shared.{final_terms, shared, world_at}
 use Rattle.shared_router.specs.Spelt.{ReadsAsked, ReadsRun, RunsRead, RunsReadSo, spelt}
 use Rattle.shared_router.specs.Wishes.{wish_on, wish_step, wish_tag}
 use Rattle.shared_router.proofs.Decidedly.{AreDecided}
-use Rattle.shared_router.proofs.Keeping.{tested}
 use Rattle.shared_router.proofs.Lasting.{alike_at}
 use Rattle.shared_router.proofs.Parting.{agrees_then, even_at, tale_then, world_more}
-use Rattle.shared_router.proofs.Holding.{IsHeld}
-use Rattle.shared_router.proofs.Prompting.{first_held, step_held}
+use Rattle.shared_router.proofs.Passing.{no_front, step_told}
+use Rattle.shared_router.proofs.Prompting.{IsReached, first_reached, reached_next}
 use Rattle.shared_router.proofs.Routing.{agrees_behind}
-use Rattle.shared_router.proofs.Speaking.{Right, quit_starts, tells, tells_same}
-use Rattle.shared_router.proofs.Spelling.{IsClean, IsEntering, IsStanding, is_mute, text_on}
+use Rattle.shared_router.proofs.Speaking.{Right, quit_starts, tells_same}
+use Rattle.shared_router.proofs.Spelling.{Cleanly, IsEntering, IsStanding, is_mute, text_on}
 use Rattle.shared_router.proofs.Standing.{On, Starts, WritesThere, WritesWell, first_stands, step_stands}
-use Rattle.shared_router.proofs.Stepping.{AreBegun, begun_then, first_begun, none_begun}
-use Rattle.shared_router.proofs.Tagging.{no_front, step_told}
+use Rattle.shared_router.proofs.Stepping.{AreBegun, none_begun}
 use Rattle.shared_router.proofs.Voicing.{wish_well}
+use Rattle.shared_router.proofs.Wishing.{wished}
 
 isnt : {A : Type 0} → false ≡ true → A
 isnt is = absurd (cc)
@@ -147,9 +145,9 @@ nothing_so false (Some (Resets number)) Quiet live written is front = tt
 nothing_so false step (Asked question) live written is front = tt
 nothing_so false step (Answered question) live written is front = tt
 
-standing_said : (entered : Bool) (login : Login) (wire : Wire) (link : Link) → ReadsAsked link.stage link.live → IsStanding entered login wire link → IsSaid entered login wire link
-standing_said false login wire link reads stood = stood.front
-standing_said true login wire link reads stood =
+standing_said : (router : Router) (entered : Bool) (login : Login) (wire : Wire) (link : Link) → ReadsAsked link.stage link.live → IsStanding router entered login wire link → IsSaid entered login wire link
+standing_said router false login wire link reads stood = stood.front
+standing_said router true login wire link reads stood =
     let at_quiet : is_quiet link.stage ≡ true → IsFront wire.written (text_on wire.quits wire.step Quiet link.live) =
     λ quiet. subst (λ (s : Stage). IsFront wire.written (text_on wire.quits wire.step s link.live)) (quiet_is link.stage quiet) stood.front in
     record {
@@ -159,9 +157,9 @@ standing_said true login wire link reads stood =
       nothing = λ stays. nothing_so wire.quits wire.step link.stage link.live wire.written stays stood.front;
     }
 
-pub says_so : (setup : Setup) (plan : Plan) (tale : Tale) → RunsRead setup tale → On setup plan tale → SaysSo setup plan tale
-says_so setup plan tale reads all link there =
-    standing_said (tale.wires link).entered (plan.logins link) (tale.wires link) (link_in setup tale link) (reads link there) (all link there)
+pub says_so : (router : Router) (setup : Setup) (plan : Plan) (tale : Tale) → RunsRead setup tale → On router setup plan tale → SaysSo setup plan tale
+says_so router setup plan tale reads all link there =
+    standing_said router (tale.wires link).entered (plan.logins link) (tale.wires link) (link_in setup tale link) (reads link there) (all link there)
 
 module _ (fixed : Fixed) (numbered : IsNumbered fixed) where
   abbrev setup : Setup
@@ -196,18 +194,18 @@ module _ (fixed : Fixed) (numbered : IsNumbered fixed) where
     step_is to_server begins =
         let here : following.IsStep setup (shared fixed) w e plan = stepped setup (shared fixed) w e plan (even_at fixed before) (agrees_behind fixed numbered before later e log refl) in
         here.told.steps link wire.begun (step_by k link)
-        (step_told fixed numbered w link tag bytes (is_to_server w.tale link) begins_now to_server begins (none_begun fixed w link begun))
+        (step_told fixed w link tag bytes (is_to_server w.tale link) begins_now to_server begins (none_begun fixed w link begun))
 
     abbrev Owes : Owed → Type 0
     Owes owed = IsFront bytes owed.bytes × (tag ≡ owed.tag)
 
     -- what was begun as it is known
-    finish : (other : Tag) (step : StepText) → tag ≡ other → plan.steps link wire.begun ≡ step → Right fixed w plan link bytes other step → WritesThere setup plan true link tag bytes w.tale
+    finish : (other : Tag) (step : StepText) → tag ≡ other → plan.steps link wire.begun ≡ step → Right fixed w plan link bytes other step → WritesThere fixed.router setup plan true link tag bytes w.tale
     finish other step same is right =
         let by_step : Right fixed w plan link bytes other (plan.steps link wire.begun) = subst (Right fixed w plan link bytes other) (sym is) right in
         let by_tag : Right fixed w plan link bytes tag (plan.steps link wire.begun) =
         subst (λ t. Right fixed w plan link bytes t (plan.steps link wire.begun)) (sym same) by_step in
-        subst (Starts link bytes (wire.quits || quits_for tag (plan.steps link wire.begun)) (step_for tag (plan.steps link wire.begun)) there.live)
+        subst (Starts link bytes (hostgroup_of fixed.router wire.server) (wire.quits || quits_for tag (plan.steps link wire.begun)) (step_for tag (plan.steps link wire.begun)) there.live)
         (tells_same fixed w plan link bytes tag) by_tag
 
     agrees : Agrees w.decided w.tale.moment plan
@@ -226,7 +224,7 @@ module _ (fixed : Fixed) (numbered : IsNumbered fixed) where
     parting_so false front some = no_front bytes front some
 
     farewell_well : closes k link ≡ true → is_to_server w.tale link ≡ true → begins_now ≡ true → Owes (parting farewell_test) → 0 < length bytes
-        → WritesThere setup plan true link tag bytes w.tale
+        → WritesThere fixed.router setup plan true link tag bytes w.tale
     farewell_well closing to_server begins owes some =
         let told : farewell_test ≡ true = parting_so farewell_test owes.0 some in
         let own : tag ≡ tags.Own = owes.1 ∙ ap (λ b. (parting b).tag) told in
@@ -237,26 +235,18 @@ module _ (fixed : Fixed) (numbered : IsNumbered fixed) where
 
     -- what is wished
 
-    stays_of : (b : Bool) (o : Option Wish) (wish : Wish) → (if b then None else o) ≡ Some wish → b ≡ false
-    stays_of false o wish is = refl
-    stays_of true o wish is = absurd (cc)
-
     module _ (closing : closes k link ≡ false) (to_server : is_to_server w.tale link ≡ true) (begins : begins_now ≡ true)
-        (passes : may_tell setup (begun_on setup plan w.tale.moment (view_of setup w.tale) link wire tag) w.tale.story ≡ true)
-        (decided : AreDecided w.decided (view_of setup w.tale)) (some : 0 < length bytes) where
-      wish_case : (o : Option Wish) → wish_on k link ≡ o → Owes (owed_next k link o) → WritesThere setup plan true link tag bytes w.tale
-      wish_case None wished owes = no_front bytes owes.0 some
-      wish_case (Some wish) wished owes =
+        (decided : AreDecided w.decided (view_of setup w.tale)) (clean : Cleanly fixed.router wire there) (some : 0 < length bytes) where
+      wish_case : (o : Option Wish) → wish_on k link ≡ o → Owes (owed_next k link o) → WritesThere fixed.router setup plan true link tag bytes w.tale
+      wish_case None at owes = no_front bytes owes.0 some
+      wish_case (Some wish) at owes =
           let step : plan.steps link wire.begun ≡ wish_step wish =
           step_is to_server begins ∙ ap (λ b. if b then Asks Quit else option_map_or wish_step (wish_on k link) (Closes 0)) closing
-          ∙ ap (λ o. option_map_or wish_step o (Closes 0)) wished in
-          let told : begun_on setup plan w.tale.moment (view_of setup w.tale) link wire tag ≡ tells fixed w plan link bytes (wish_tag k wish) (wish_step wish) =
-          sym (tells_same fixed w plan link bytes tag) ∙ ap (tells fixed w plan link bytes tag) step ∙ ap (λ t. tells fixed w plan link bytes t (wish_step wish)) owes.1 in
+          ∙ ap (λ o. option_map_or wish_step o (Closes 0)) at in
           finish (wish_tag k wish) (wish_step wish) owes.1 step
-          (wish_well fixed w plan link bytes decided agrees (stays_of wire.quits _ wish wished) wish wished owes.0
-          (subst (λ es. may_tell setup es w.tale.story ≡ true) told passes))
+          (wish_well fixed w plan link bytes decided agrees clean.carried wish (wished k link wish at) owes.0)
 
-      whole_case : (b : Bool) → Owes (if b then owed_next k link (wish_on k link) else nothing_owed) → WritesThere setup plan true link tag bytes w.tale
+      whole_case : (b : Bool) → Owes (if b then owed_next k link (wish_on k link) else nothing_owed) → WritesThere fixed.router setup plan true link tag bytes w.tale
       whole_case true owes = wish_case (wish_on k link) refl owes
       whole_case false owes = no_front bytes owes.0 some
 
@@ -276,55 +266,59 @@ module _ (fixed : Fixed) (numbered : IsNumbered fixed) where
     login_case false front some same old = no_front bytes front some
 
     rest_case : (last : Option Tag) → IsFront bytes (option_map_or (λ t. record { tag = t; bytes = drop (length wire.written) (begun_there wire.step there.stage there) }) last nothing_owed).bytes
-        → 0 < length bytes → IsClean wire there.stage there.live → IsClean more there.stage there.live
+        → 0 < length bytes → Cleanly fixed.router wire there → Cleanly fixed.router more there
     rest_case None front some old = no_front bytes front some
     rest_case (Some t) front some old =
         record {
           front = rest_front wire.written bytes wire.quits wire.step there.stage there old.front front some;
           mute = old.mute;
           ends = old.ends;
+          stands = old.stands;
+          carried = old.carried;
           some = λ begun. (let long = length-append wire.written bytes in omega (arith, long, some));
         }
 
-    module _ (to_server : is_to_server w.tale link ≡ true) (passes : Passes setup plan w.tale e) (decided : AreDecided w.decided (view_of setup w.tale))
-        (some : 0 < length bytes) (fits : LawfulAfter Fits before (e ∷ later)) (on : On setup plan w.tale) where
-      stood : (entered : Bool) → wire.entered ≡ entered → IsStanding entered (plan.logins link) wire there
-      stood entered is = subst (λ b. IsStanding b (plan.logins link) wire there) is (on link to_server)
+    module _ (to_server : is_to_server w.tale link ≡ true) (decided : AreDecided w.decided (view_of setup w.tale))
+        (some : 0 < length bytes) (fits : LawfulAfter Fits before (e ∷ later)) (on : On fixed.router setup plan w.tale) where
+      stood : (entered : Bool) → wire.entered ≡ entered → IsStanding fixed.router entered (plan.logins link) wire there
+      stood entered is = subst (λ b. IsStanding fixed.router b (plan.logins link) wire there) is (on link to_server)
 
       by_all : (c entered begins : Bool) → closes k link ≡ c → wire.entered ≡ entered → begins_now ≡ begins
-          → Owes (if c then parting farewell_test else owed_there k link entered begins) → WritesThere setup plan begins link tag bytes w.tale
+          → Owes (if c then parting farewell_test else owed_there k link entered begins) → WritesThere fixed.router setup plan begins link tag bytes w.tale
       by_all true entered true closing in_it begin owes = farewell_well closing to_server begin owes some
       by_all true entered false closing in_it begin owes = isnt (sym begin ∙ left_of begins_now _ (parting_so farewell_test owes.0 some))
       by_all false false true closing in_it begin owes = isnt (sym in_it ∙ left_of wire.entered _ begin)
       by_all false false false closing in_it begin owes =
-          subst (λ b. IsStanding b (plan.logins link) more there) (sym in_it)
+          subst (λ b. IsStanding fixed.router b (plan.logins link) more there) (sym in_it)
           (login_case (is_entering k.terms w.tale link) owes.0 some ((alike_at fixed numbered before (e ∷ later) fits).logins link to_server) (stood false in_it))
       by_all false true true closing in_it begin owes =
-          whole_case closing to_server begin (passes to_server begin) decided some (is_whole_step wire.step wire.written) owes
+          whole_case closing to_server begin decided (stood true in_it) some (is_whole_step wire.step wire.written) owes
       by_all false true false closing in_it begin owes =
-          subst (λ b. IsStanding b (plan.logins link) more there) (sym in_it) (rest_case (last_tag link w.more.log) owes.0 some (stood true in_it))
+          subst (λ b. IsStanding fixed.router b (plan.logins link) more there) (sym in_it) (rest_case (last_tag link w.more.log) owes.0 some (stood true in_it))
 
     abbrev owed_by : (is_server c entered begins : Bool) → Owed
     owed_by is_server c entered begins =
         if is_server then (if c then parting farewell_test else owed_there k link entered begins)
         else owed_on_client k (find (λ (client : Client). is_link_id client.link link) w.tale.clients)
 
-    writes_well : Writes k link tag bytes → Passes setup plan w.tale e → AreDecided w.decided (view_of setup w.tale) → LawfulAfter Fits before (e ∷ later)
-        → On setup plan w.tale → WritesWell setup plan w.tale e
-    writes_well writes passes decided fits on = (fits.0.some, λ to_server.
-        by_all to_server passes decided fits.0.some fits on (closes k link) wire.entered begins_now refl refl refl
-        (subst (λ b. Owes (owed_by b (closes k link) wire.entered begins_now)) to_server (writes.front, writes.tagged)))
+    writes_well : Writes k link tag bytes → AreDecided w.decided (view_of setup w.tale) → LawfulAfter Fits before (e ∷ later)
+        → On fixed.router setup plan w.tale → WritesWell fixed.router setup plan w.tale e
+    writes_well writes decided fits on = (
+      fits.0.some,
+      λ to_server.
+          by_all to_server decided fits.0.some fits on (closes k link) wire.entered begins_now refl refl refl
+          (subst (λ b. Owes (owed_by b (closes k link) wire.entered begins_now)) to_server (writes.front, writes.tagged)),
+    )
 
   abbrev pub last_plan : Log → Plan
   last_plan log = plan_of (world_at fixed log).decided
 
   well_so : (before later : Log) (e : Entry) → AreBegun fixed (world_at fixed before) → IsOurs fixed before e → LawfulAfter Fits before (e ∷ later)
-      → Passes setup (last_plan (before ++ e ∷ later)) (world_at fixed before).tale e
       → AreDecided (world_at fixed before).decided (view_of setup (world_at fixed before).tale)
-      → On setup (last_plan (before ++ e ∷ later)) (world_at fixed before).tale
-      → WritesWell setup (last_plan (before ++ e ∷ later)) (world_at fixed before).tale e
-  well_so before later (entry.Wrote link tag bytes) begun ours fits passes decided on = writes_well before later link tag bytes begun ours.0 passes decided fits on
-  well_so before later _ begun ours fits passes decided on = tt
+      → On fixed.router setup (last_plan (before ++ e ∷ later)) (world_at fixed before).tale
+      → WritesWell fixed.router setup (last_plan (before ++ e ∷ later)) (world_at fixed before).tale e
+  well_so before later (entry.Wrote link tag bytes) begun ours fits decided on = writes_well before later link tag bytes begun ours decided fits on
+  well_so before later _ begun ours fits decided on = tt
 
   same_step : (before later whole : Log) (e : Entry) → before ++ e ∷ later ≡ whole
       → (world_at fixed (before ++ e ∷ [])).tale ≡ tale_step setup (last_plan whole) (world_at fixed before).tale e
@@ -332,47 +326,39 @@ module _ (fixed : Fixed) (numbered : IsNumbered fixed) where
       ap (λ (v : World More). v.tale) (world_more fixed before (e ∷ []))
       ∙ (stepped setup (shared fixed) (world_at fixed before) e (last_plan whole) (even_at fixed before) (agrees_behind fixed numbered before later e whole is)).same
 
-  abbrev HeldAt : ℕ → Log → Type 0
-  HeldAt n before = IsHeld setup n (world_at fixed before).decided (world_at fixed before).tale.clients (world_at fixed before).tale.story
-
-  stands_from : (before later whole : Log) (n j : ℕ) → before ++ later ≡ whole → n + length later < 18446744073709551616 → HeldAt n before
-      → AreBegun fixed (world_at fixed before) → LawfulAfter (IsOurs fixed) before later → LawfulAfter Fits before later
-      → IsTestedFrom setup (last_plan whole) (world_at fixed before).tale later → On setup (last_plan whole) (world_at fixed before).tale
-      → On setup (last_plan whole) (world_at fixed (before ++ take j later)).tale
-  stands_from before later whole n zero is small held begun ours fits tested on =
-      subst (λ (l : Log). On setup (last_plan whole) (world_at fixed l).tale) (sym (append-nil before)) on
-  stands_from before [] whole n (suc j) is small held begun ours fits tested on =
-      subst (λ (l : Log). On setup (last_plan whole) (world_at fixed l).tale) (sym (append-nil before)) on
-  stands_from before (e ∷ later) whole n (suc j) is small held begun ours fits tested on =
+  stands_from : (before later whole : Log) (n j : ℕ) → before ++ later ≡ whole → n + length later < 18446744073709551616 → IsReached fixed n before
+      → LawfulAfter (IsOurs fixed) before later → LawfulAfter Fits before later → On fixed.router setup (last_plan whole) (world_at fixed before).tale
+      → On fixed.router setup (last_plan whole) (world_at fixed (before ++ take j later)).tale
+  stands_from before later whole n zero is small reached ours fits on =
+      subst (λ (l : Log). On fixed.router setup (last_plan whole) (world_at fixed l).tale) (sym (append-nil before)) on
+  stands_from before [] whole n (suc j) is small reached ours fits on =
+      subst (λ (l : Log). On fixed.router setup (last_plan whole) (world_at fixed l).tale) (sym (append-nil before)) on
+  stands_from before (e ∷ later) whole n (suc j) is small reached ours fits on =
       let w : World More = world_at fixed before in
-      let one = step_held fixed n w e (omega arith) held ours.0 in
-      let same = same_step before later whole e is in
-      let well : WritesWell setup (last_plan whole) w.tale e = subst (λ (l : Log). WritesWell setup (last_plan l) w.tale e) is
-      (well_so before later e begun ours.0 fits (subst (λ (l : Log). Passes setup (last_plan l) w.tale e) (sym is) tested.0) held.decided
-      (subst (λ (l : Log). On setup (last_plan l) w.tale) (sym is) on)) in
-      subst (λ (l : Log). On setup (last_plan whole) (world_at fixed l).tale) (append_assoc before (e ∷ []) (take j later))
+      let well : WritesWell fixed.router setup (last_plan whole) w.tale e = subst (λ (l : Log). WritesWell fixed.router setup (last_plan l) w.tale e) is
+      (well_so before later e reached.begun ours.0 fits reached.held.decided (subst (λ (l : Log). On fixed.router setup (last_plan l) w.tale) (sym is) on)) in
+      subst (λ (l : Log). On fixed.router setup (last_plan whole) (world_at fixed l).tale) (append_assoc before (e ∷ []) (take j later))
       (stands_from (before ++ e ∷ []) later whole (suc n) j (append_assoc before (e ∷ []) later ∙ is) (omega arith)
-      (subst (λ (v : World More). IsHeld setup (suc n) v.decided v.tale.clients v.tale.story) (sym (world_more fixed before (e ∷ []))) one.held) (begun_then fixed before e fits.0 begun) ours.1 fits.1
-      (subst (λ (t : Tale). IsTestedFrom setup (last_plan whole) t later) (sym same) tested.1)
-      (subst (λ (t : Tale). On setup (last_plan whole) t) (sym same) (step_stands setup (last_plan whole) w.tale e well on)))
+      (reached_next fixed n before e (omega arith) reached ours.0 fits.0) ours.1 fits.1
+      (subst (λ (t : Tale). On fixed.router setup (last_plan whole) t) (sym (same_step before later whole e is)) (step_stands fixed.router setup (last_plan whole) w.tale e well on)))
+
+  -- what stands on links at each moment
+  pub stands_on : (log : Log) → length log < 18446744073709551616 → LawfulAfter (IsOurs fixed) [] log → LawfulAfter Fits [] log → (j : ℕ)
+      → On fixed.router setup (last_plan log) (world_at fixed (take j log)).tale
+  stands_on log small ours fits j = stands_from [] log log 0 j refl (omega arith) (first_reached fixed) ours fits (first_stands fixed.router setup (last_plan log))
 
   -- before each entry, by the last plan
   pub stands_at : (before later : Log) → length (before ++ later) < 18446744073709551616 → LawfulAfter (IsOurs fixed) [] (before ++ later)
-      → LawfulAfter Fits [] (before ++ later) → On setup (last_plan (before ++ later)) (world_at fixed before).tale
+      → LawfulAfter Fits [] (before ++ later) → On fixed.router setup (last_plan (before ++ later)) (world_at fixed before).tale
   stands_at before later small ours fits =
       let log : Log = before ++ later in
       let same : take (length before) log ≡ before = take-append-le (length before) before later (omega arith) ∙ take_all (length before) before (omega arith) in
-      subst (λ (l : Log). On setup (last_plan log) (world_at fixed l).tale) same
-      (stands_from [] log log 0 (length before) refl (omega arith) (first_held fixed) (first_begun fixed) ours fits (tested fixed log ours fits) (first_stands setup (last_plan log)))
+      subst (λ (l : Log). On fixed.router setup (last_plan log) (world_at fixed l).tale) same (stands_on log small ours fits (length before))
 
   pub says_kept : (log : Log) → length log < 18446744073709551616 → LawfulAfter (IsOurs fixed) [] log → LawfulAfter Fits [] log
       → AtEachMoment (RunsReadSo (final_terms fixed log)) log → AtEachMoment (headline.SaysSo (final_terms fixed log)) log
   says_kept log small ours fits reads = λ j.
-      let cut : take j log ++ drop j log ≡ log = take-append-drop j log in
-      let on : On setup (last_plan log) (world_at fixed (take j log)).tale =
-      subst (λ (l : Log). On setup (last_plan l) (world_at fixed (take j log)).tale) cut
-      (stands_at (take j log) (drop j log) (subst (λ (l : Log). length l < 18446744073709551616) (sym cut) small)
-      (subst (LawfulAfter (IsOurs fixed) []) (sym cut) ours) (subst (LawfulAfter Fits []) (sym cut) fits)) in
       let same : tale_at (final_terms fixed log) (take j log) ≡ (world_at fixed (take j log)).tale =
       subst (λ (l : Log). tale_at (final_terms fixed l) (take j log) ≡ (world_at fixed (take j log)).tale) (take-append-drop j log) (tale_then fixed (take j log) (drop j log)) in
-      says_so setup (last_plan log) (tale_at (final_terms fixed log) (take j log)) (reads j) (subst (λ (t : Tale). On setup (last_plan log) t) (sym same) on)
+      says_so fixed.router setup (last_plan log) (tale_at (final_terms fixed log) (take j log)) (reads j)
+      (subst (λ (t : Tale). On fixed.router setup (last_plan log) t) (sym same) (stands_on log small ours fits j))

@@ -43,14 +43,16 @@ use Rattle.shared_router.specs.Sends.{MaySay, SendsAs, SendsFor, SendsSo}
 use Rattle.shared_router.specs.Shared.{final_terms, world_at}
 use Rattle.shared_router.specs.Wishes.{kept_due, standing_on, tag_of, texts, wish_on, wish_step, wish_tag}
 use Rattle.shared_router.proofs.Closing.{closed_so, untold_so}
-use Rattle.shared_router.proofs.Keeping.{begins_at, tested}
+use Rattle.shared_router.proofs.Keeping.{tested}
 use Rattle.shared_router.proofs.Lasting.{alike_at}
 use Rattle.shared_router.proofs.Parting.{tale_then}
 use Rattle.shared_router.proofs.Same.{now_is, now_same}
 use Rattle.shared_router.proofs.Staying.{log_at}
 use Rattle.shared_router.proofs.Stepping.{AreBegun, begun_then, first_begun}
-use Rattle.shared_router.proofs.Tagging.{no_front, step_is}
+use Rattle.shared_router.proofs.Passing.{Begun, Parts, Wishes, begun_so}
+use Rattle.shared_router.proofs.Tagging.{step_is}
 use Rattle.shared_router.proofs.Wished.{IsPlainStep, IsRight, IsRightWish, question_right, wish_right}
+use Rattle.shared_router.proofs.Wishing.{IsWished, wished}
 
 isnt : {A : Type 0} → false ≡ true → A
 isnt is = absurd (cc)
@@ -104,63 +106,6 @@ tested_at : (setup : Setup) (plan : Plan) (before later : Log) (e : Entry) (tale
 tested_at s p [] later e tale is = is.0
 tested_at s p (x ∷ before) later e tale is = tested_at s p before later e (tale_step s p tale x) is.1
 
--- What begins on a link: a QUIT where it is to be closed, or what is wished there.
-
-pub data Begun (k : Known) (link : LinkId) (tag : Tag) (step : StepText) : Type 0 where
-  Parts : closes k link ≡ true → (wire_now k.now link).quits ≡ false → step ≡ Asks Quit → tag ≡ tags.Own → Begun k link tag step
-  Wishes : (wish : Wish) → wish_on k link ≡ Some wish → tag ≡ wish_tag k wish → step ≡ wish_step wish → Begun k link tag step
-
-module _ (k : Known) (link : LinkId) (tag : Tag) (bytes : List ℕ) (step : StepText) (some : 0 < length bytes) (is : step ≡ step_by k link) where
-  abbrev Owes : Owed → Type 0
-  Owes owed = IsFront bytes owed.bytes × (tag ≡ owed.tag)
-
-  -- a QUIT is owed once
-  farewell_once : (may rest quits : Bool) → Owes (if may && (not quits && rest) then record { tag = tags.Own; bytes = spelling 0 (text_payload Quit) } else nothing_owed)
-      → (quits ≡ false) × (tag ≡ tags.Own)
-  farewell_once true true false owes = (refl, owes.1)
-  farewell_once true false false owes = no_front bytes owes.0 some
-  farewell_once true rest true owes = no_front bytes owes.0 some
-  farewell_once false rest quits owes = no_front bytes owes.0 some
-
-  wished_begun : closes k link ≡ false → (o : Option Wish) → wish_on k link ≡ o → Owes (owed_next k link o) → Begun k link tag step
-  wished_begun stays None at owes = no_front bytes owes.0 some
-  wished_begun stays (Some wish) at owes =
-      Wishes wish at owes.1
-      (is ∙ ap (λ b. if b then Asks Quit else option_map_or wish_step (wish_on k link) (Closes 0)) stays ∙ ap (λ o. option_map_or wish_step o (Closes 0)) at)
-
-  whole_begun : closes k link ≡ false → (b : Bool) → Owes (if b then owed_next k link (wish_on k link) else nothing_owed) → Begun k link tag step
-  whole_begun stays true owes = wished_begun stays (wish_on k link) refl owes
-  whole_begun stays false owes = no_front bytes owes.0 some
-
-  server_begun : (c : Bool) → closes k link ≡ c → Owes (if c then farewell k link else owed_there k link true true) → Begun k link tag step
-  server_begun true closing owes =
-      let once = farewell_once (may_begin (setup_by k) link (wire_now k.now link) k.now.tale)
-      (not (was_lost k.log link) && is_whole_step (wire_now k.now link).step (wire_now k.now link).written) (wire_now k.now link).quits owes in
-      Parts closing once.0 (is ∙ ap (λ b. if b then Asks Quit else option_map_or wish_step (wish_on k link) (Closes 0)) closing) once.1
-  server_begun false stays owes = whole_begun stays (is_whole_step (wire_now k.now link).step (wire_now k.now link).written) owes
-
-  abbrev owed_by : (there entered begins : Bool) → Owed
-  owed_by there entered begins =
-      if there then (if closes k link then farewell k link else owed_there k link entered begins)
-      else owed_on_client k (find (λ (client : Client). is_link_id client.link link) k.now.tale.clients)
-
-  abbrev begins_now : Bool
-  begins_now = may_begin (setup_by k) link (wire_now k.now link) k.now.tale
-
-  abbrev rest_of : Bool
-  rest_of = is_quiet (link_by k link).stage && (not (is_some_of (written_in (wire_now k.now link).written).rest) && not (is_reset_step (wire_now k.now link).step))
-
-  by_all : (there entered begins : Bool) → is_to_server k.now.tale link ≡ there → (wire_now k.now link).entered ≡ entered → begins_now ≡ begins
-      → Owes (owed_by there entered begins) → is_to_server k.now.tale link ≡ true → begins_now ≡ true → Begun k link tag step
-  by_all false entered begins at in_it begin owes there may = isnt (sym at ∙ there)
-  by_all true entered false at in_it begin owes there may = isnt (sym begin ∙ may)
-  by_all true false true at in_it begin owes there may = isnt (sym (ap (λ b. b && rest_of) in_it) ∙ may)
-  by_all true true true at in_it begin owes there may = server_begun (closes k link) refl owes
-
-  pub begun_so : Writes k link tag bytes → is_to_server k.now.tale link ≡ true → begins_now ≡ true → Begun k link tag step
-  begun_so writes there may =
-      by_all (is_to_server k.now.tale link) (wire_now k.now link).entered begins_now refl refl refl (writes.front, writes.tagged) there may
-
 -- By what is wished there.
 
 module _ (k : Known) (link : LinkId) where
@@ -168,16 +113,11 @@ module _ (k : Known) (link : LinkId) where
   IsGood = IsRight texts k.fixed.ids (setup_by k) (kept_due k) (link_by k link).carries
 
   wished_good : (wish : Wish) → wish_on k link ≡ Some wish → IsRightWish (link_by k link) (standing_on k link) IsGood wish
-  wished_good wish is = by_quits (wire_now k.now link).quits is where
-    asked : Option Question
-    asked = next_question texts k.fixed.ids (setup_by k) (kept_due k) (link_by k link) (readied_now k link)
-
-    by_quits : (b : Bool) → (if b then None else option_map (wish_for (link_by k link) (standing_on k link)) asked) ≡ Some wish
-        → IsRightWish (link_by k link) (standing_on k link) IsGood wish
-    by_quits true now = absurd (cc)
-    by_quits false now =
-        wish_right (link_by k link) (standing_on k link) IsGood asked wish
-        (question_right texts k.fixed.ids (setup_by k) (kept_due k) (link_by k link) (readied_now k link)) now
+  wished_good wish is =
+      let found : IsWished k link wish = wished k link wish is in
+      subst (IsRightWish (link_by k link) (standing_on k link) IsGood) found.is
+      (wish_right (link_by k link) (standing_on k link) IsGood found.question
+      (question_right texts k.fixed.ids (setup_by k) (kept_due k) (link_by k link) (readied_now k link) found.question found.asks))
 
   module _ (t : Terms) (log : Log) (setups : setup_in t ≡ setup_by k) where
     plain_says : (command : Command) → IsPlainStep command → MaySay t log k.now link (Asks command)
@@ -270,7 +210,7 @@ module _ (fixed : Fixed) (numbered : IsNumbered fixed) where
       here_so there begins =
           by_begun step there begins
           (begun_so k link tag bytes step fits.0.some
-          (step_is fixed numbered before later link tag bytes begun (begins_at fixed w link e there begins our.1) there begins) our.0 there begins)
+          (step_is fixed numbered before later link tag bytes begun there begins) our there begins)
 
       pub by_begins : is_to_server (now_at t before).tale link ≡ true → (b : Bool) → begins_there ≡ b → SendsAs t before (now_at t before) link tag b
       by_begins there false at = tt
@@ -299,5 +239,5 @@ module _ (fixed : Fixed) (numbered : IsNumbered fixed) where
         (begun_then fixed before e fits.0 begun) tests our.1,
   )
 
-  pub sends_kept : (log : Log) → LawfulAfter (IsOurs fixed) [] log → LawfulAfter Fits [] log → LawfulAfter (SendsSo (final_terms fixed log)) [] log
-  sends_kept log our fits = sends_from [] log log refl tt fits (first_begun fixed) (tested fixed log our fits) our
+  pub sends_kept : (log : Log) → length log < 18446744073709551616 → LawfulAfter (IsOurs fixed) [] log → LawfulAfter Fits [] log → LawfulAfter (SendsSo (final_terms fixed log)) [] log
+  sends_kept log small our fits = sends_from [] log log refl tt fits (first_begun fixed) (tested fixed log small our fits) our

@@ -1,5 +1,5 @@
 -- What our router writes has its tags by the last plan.
-use Rattle.std.specs.Prelude.{◌≡◌, ◌<◌, ℕ, Bool, true, false, not, ◌&&◌, ◌||◌, bytes_eq, find, length, nat_eq, if◌then◌else◌, List, [], ◌∷◌, ◌++◌, unwrap_or, is_some}
+use Rattle.std.specs.Prelude.{◌≡◌, ◌<◌, ℕ, suc, take, Bool, true, false, not, ◌&&◌, ◌||◌, bytes_eq, find, length, nat_eq, if◌then◌else◌, List, [], ◌∷◌, ◌++◌, unwrap_or, is_some}
 use Rattle.std.specs.Prelude.{cond, drop, Option, Some, None}
 use Rattle.std.specs.List.{list_any}
 use Rattle.std.specs.Option.{option_map_or, option_or}
@@ -38,35 +38,24 @@ use Rattle.router_promises.specs.Now as now
 use Rattle.router_promises.specs.Now.{Now, now_at, was_lost, wire_now}
 use Rattle.router_promises.specs.Running.{is_failed, is_off, opening_on, status_in}
 use Rattle.router_promises.specs.Tags as tagging
-use Rattle.router_promises.specs.Tags.{BeginsRight, IsForSession, TagsSo, WritesTo, last_tag}
+use Rattle.router_promises.specs.Tags.{BeginsRight, IsForSession, StandsRight, TagsSo, WritesTo, last_tag}
 use Rattle.router_promises.specs.Terms.{Terms, plan_in}
 use Rattle.shared_router.specs.Fixed.{Fixed, IsNumbered, setup_of}
 use Rattle.shared_router.specs.Known.{Known, known, link_by}
 use Rattle.shared_router.specs.More.{More, now_of, terms_of}
-use Rattle.shared_router.specs.Ours.{Begins, BeginsIf, IsOurs, Writes}
+use Rattle.shared_router.specs.Ours.{IsOurs, Writes}
 use Rattle.shared_router.specs.Owed.{Owed, asks, begun_there, close_by, closes, farewell, is_to_close, is_whole_step, nothing_owed, owed_next}
 use Rattle.shared_router.specs.Owed.{owed_on_client, owed_there, step_by}
 use Rattle.shared_router.specs.Shared.{final_terms, shared, world_at}
 use Rattle.shared_router.specs.Wishes.{wish_on, wish_step, wish_tag}
-use Rattle.shared_router.proofs.Keeping.{begins_at}
-use Rattle.shared_router.proofs.Parting.{even_at, next, tale_then}
+use Rattle.shared_router.proofs.Parting.{even_at, next, tale_then, world_more}
+use Rattle.shared_router.proofs.Passing.{no_front, step_told}
 use Rattle.shared_router.proofs.Routing.{IsSame, agrees_behind, same_at}
 use Rattle.shared_router.proofs.Staying.{log_at}
 use Rattle.shared_router.proofs.Stepping.{AreBegun, begun_then, first_begun, none_begun}
 
 isnt : {A : Type 0} → false ≡ true → A
 isnt is = absurd (cc)
-
--- Bytes that are a front of nothing are none.
-
-no_bytes : (bytes rest : List ℕ) → bytes ++ rest ≡ [] → bytes ≡ []
-no_bytes [] rest is = refl
-no_bytes (byte ∷ bytes) rest is = absurd (cc)
-
-pub no_front : {A : Type 0} (bytes : List ℕ) → IsFront bytes [] → 0 < length bytes → A
-no_front bytes front some =
-    let none : bytes ≡ [] = no_bytes bytes front.rest front.is in
-    let size : length bytes ≡ 0 = ap (λ (l : List ℕ). length l) none in absurd (omega (arith, size, some))
 
 -- Tests of a list.
 
@@ -136,18 +125,6 @@ module _ (fixed : Fixed) (numbered : IsNumbered fixed) where
   session_by w (Sends (Capture n)) tag step is asks = subst (λ t. IsForSession t step) (sym is) tt
   session_by w (Says text) tag step is asks = subst (λ t. IsForSession t step) (sym is) tt
 
-  -- the step that began is the one that was decided then
-  pub step_told : (w : World More) (link : LinkId) (tag : Tag) (bytes : List ℕ) (there begins : Bool)
-      → there ≡ true → begins ≡ true → w.decided.steps link (w.tale.wires link).begun ≡ None
-      → (if there && begins then with_step (shared fixed) w link tag bytes else w.decided).steps link (w.tale.wires link).begun ≡ Some (step_by (known fixed w) link)
-  step_told w link tag bytes true true to_server begin fresh =
-      let step = (shared fixed).step w link tag bytes in
-      filled-there (λ n. is_link_id link link && nat_eq n (w.tale.wires link).begun) (λ n. step) (w.decided.steps link) (w.tale.wires link).begun
-      (and_from _ _ (same_link link) (same_number (w.tale.wires link).begun))
-      ∙ ap (λ o. Some (unwrap_or o step)) fresh
-  step_told w link tag bytes true false to_server begin fresh = isnt begin
-  step_told w link tag bytes false begins to_server begin fresh = isnt to_server
-
   module _ (before later : Log) (link : LinkId) (tag : Tag) (bytes : List ℕ) (begun : AreBegun fixed (world_at fixed before)) where
     abbrev e : Entry
     e = entry.Wrote link tag bytes
@@ -214,11 +191,11 @@ module _ (fixed : Fixed) (numbered : IsNumbered fixed) where
         (usable_of (is_open link w.more.log) (w.tale.wires link).quits (is_spoilt (terms_of fixed w) w.more.log (now_of fixed w) link) (was_amiss (setup_of fixed) link w.tale.story) _ kept
         (subst (λ l. is_open link l ≡ true) (sym (log_at fixed before)) opened))
 
-    pub step_is : Begins fixed w link e → is_to_server w.tale link ≡ true → may_begin (setup_of fixed) link (w.tale.wires link) w.tale ≡ true
+    pub step_is : is_to_server w.tale link ≡ true → may_begin (setup_of fixed) link (w.tale.wires link) w.tale ≡ true
         → plan.steps link (w.tale.wires link).begun ≡ step_by k link
-    step_is is there begins =
+    step_is there begins =
         here.told.steps link (w.tale.wires link).begun (step_by k link)
-        (step_told w link tag bytes (is_to_server w.tale link) (may_begin (setup_of fixed) link (w.tale.wires link) w.tale) there begins (none_begun fixed w link begun))
+        (step_told fixed w link tag bytes (is_to_server w.tale link) (may_begin (setup_of fixed) link (w.tale.wires link) w.tale) there begins (none_begun fixed w link begun))
 
     abbrev begins_now : Bool
     begins_now = may_begin (setup_of fixed) link (w.tale.wires link) w.tale
@@ -234,32 +211,36 @@ module _ (fixed : Fixed) (numbered : IsNumbered fixed) where
     quits_so step asks own apart =
         isnt (sym apart ∙ ap (λ t. quits_for t step) own ∙ ap (λ s. quits_for tags.Own s) asks)
 
+    -- behind the entry what stands there stands in its session's hostgroup
+    abbrev Stands : Type 0
+    Stands = StandsRight terms there_later link (link_in (setup_of fixed) v.tale link).stage
+
     abbrev Right : Type 0
     Right = BeginsRight terms before there_now link tag there_later
 
     farewell_right : closes k link ≡ true → tag ≡ tags.Own → is_whole_step (w.tale.wires link).step (w.tale.wires link).written ≡ true → is_to_server w.tale link ≡ true → begins_now ≡ true
-        → Begins fixed w link e → Right
+        → Stands → Right
     farewell_right closing own whole there begins is =
         let step : plan.steps link (w.tale.wires link).begun ≡ Asks Quit =
-        step_is is there begins ∙ ap (λ b. if b then Asks Quit else option_map_or wish_step (wish_on k link) (Closes 0)) closing in
+        step_is there begins ∙ ap (λ b. if b then Asks Quit else option_map_or wish_step (wish_on k link) (Closes 0)) closing in
         record {
           sound = λ apart. quits_so (plan.steps link (w.tale.wires link).begun) step own apart;
           closed = whole_so (w.tale.wires link).step (w.tale.wires link).written whole;
           session = subst (λ t. IsForSession t (plan.steps link (w.tale.wires link).begun)) (sym own) tt;
-          group = is.group;
+          group = is;
         }
 
     wish_right : closes k link ≡ false → (wish : Wish) → wish_on k link ≡ Some wish → tag ≡ wish_tag k wish → is_whole_step (w.tale.wires link).step (w.tale.wires link).written ≡ true
-        → is_to_server w.tale link ≡ true → begins_now ≡ true → is_usable terms before there_now link ≡ true → Begins fixed w link e → Right
+        → is_to_server w.tale link ≡ true → begins_now ≡ true → is_usable terms before there_now link ≡ true → Stands → Right
     wish_right stays wish wished tagged whole there begins usable is =
         let step : plan.steps link (w.tale.wires link).begun ≡ wish_step wish =
-        step_is is there begins ∙ ap (λ b. if b then Asks Quit else option_map_or wish_step (wish_on k link) (Closes 0)) stays
+        step_is there begins ∙ ap (λ b. if b then Asks Quit else option_map_or wish_step (wish_on k link) (Closes 0)) stays
         ∙ ap (λ o. option_map_or wish_step o (Closes 0)) wished in
         record {
           sound = λ apart. usable;
           closed = whole_so (w.tale.wires link).step (w.tale.wires link).written whole;
           session = session_by w wish tag (plan.steps link (w.tale.wires link).begun) tagged step;
-          group = is.group;
+          group = is;
         }
 
     abbrev rest_of : Bool
@@ -272,13 +253,13 @@ module _ (fixed : Fixed) (numbered : IsNumbered fixed) where
 
     next_right : closes k link ≡ false → (o : Option Wish) → wish_on k link ≡ o → Owes (owed_next k link o) → 0 < length bytes
         → is_whole_step (w.tale.wires link).step (w.tale.wires link).written ≡ true → is_to_server w.tale link ≡ true → begins_now ≡ true → is_usable terms before there_now link ≡ true
-        → Begins fixed w link e → Right
+        → Stands → Right
     next_right stays None wished owes some whole there begins usable is = no_front bytes owes.0 some
     next_right stays (Some wish) wished owes some whole there begins usable is = wish_right stays wish wished owes.1 whole there begins usable is
 
     begun_right : closes k link ≡ false → (b : Bool) → is_whole_step (w.tale.wires link).step (w.tale.wires link).written ≡ b
         → Owes (if b then owed_next k link (wish_on k link) else nothing_owed) → 0 < length bytes
-        → is_to_server w.tale link ≡ true → begins_now ≡ true → is_usable terms before there_now link ≡ true → Begins fixed w link e → Right
+        → is_to_server w.tale link ≡ true → begins_now ≡ true → is_usable terms before there_now link ≡ true → Stands → Right
     begun_right stays true whole owes some there begins usable is = next_right stays (wish_on k link) refl owes some whole there begins usable is
     begun_right stays false whole owes some there begins usable is = no_front bytes owes.0 some
 
@@ -310,14 +291,14 @@ module _ (fixed : Fixed) (numbered : IsNumbered fixed) where
 
     says_by : (there c entered begins : Bool) → is_to_server w.tale link ≡ there → closes k link ≡ c → (w.tale.wires link).entered ≡ entered → begins_now ≡ begins
         → Owes (owed_by there c entered begins) → 0 < length bytes → is_open link before ≡ true → (not (asks k) || closes k link) ≡ true
-        → BeginsIf fixed w link e (is_to_server w.tale link) begins_now → WritesTo terms before there_now link tag there there_later
+        → Stands → WritesTo terms before there_now link tag there there_later
     says_by false c entered begins there closing in_it begin owes some opened acted is =
         to_client (find (λ (client : Client). is_link_id client.link link) w.tale.clients) owes some
     says_by true true entered true there closing in_it begin owes some opened acted is =
         let told : farewell_test ≡ true = parting_so farewell_test closing owes.0 some in
         let own : tag ≡ tags.Own = owes.1 ∙ ap (λ b. (if b then record { tag = tags.Own; bytes = spelling 0 (text_payload Quit) } else nothing_owed).tag) told in
         let whole = right_of _ _ (right_of _ _ (right_of begins_now _ told)) in
-        subst (λ b. There b (w.tale.wires link).entered) (sym begin) (farewell_right closing own whole there begin (begins_at fixed w link e there begin is))
+        subst (λ b. There b (w.tale.wires link).entered) (sym begin) (farewell_right closing own whole there begin is)
     says_by true true entered false there closing in_it begin owes some opened acted is =
         isnt (sym begin ∙ left_of begins_now _ (parting_so farewell_test closing owes.0 some))
     says_by true false false begins there closing in_it begin owes some opened acted is =
@@ -326,28 +307,34 @@ module _ (fixed : Fixed) (numbered : IsNumbered fixed) where
     says_by true false true true there closing in_it begin owes some opened acted is =
         subst (λ b. There b (w.tale.wires link).entered) (sym begin)
         (begun_right closing (is_whole_step (w.tale.wires link).step (w.tale.wires link).written) refl owes some there begin
-        (sound_so in_it (usable_so opened there (done_of (asks k) (closes k link) acted closing))) (begins_at fixed w link e there begin is))
+        (sound_so in_it (usable_so opened there (done_of (asks k) (closes k link) acted closing))) is)
     says_by true false true false there closing in_it begin owes some opened acted is =
         subst (λ b. There b (w.tale.wires link).entered) (sym begin) (subst (λ b. There false b) (sym in_it)
         (subst (λ l. last_tag link l ≡ Some tag) (log_at fixed before) (rest_right (last_tag link w.more.log) refl owes some)))
 
-    pub wrote_so : Writes k link tag bytes → BeginsIf fixed w link e (is_to_server w.tale link) begins_now → MayWrite before link bytes → TagsSo terms before e
+    pub wrote_so : Writes k link tag bytes → Stands → MayWrite before link bytes → TagsSo terms before e
     wrote_so writes is fits =
         subst (λ t. SaysBy t (now.next terms (now_at terms before) e).tale) (sym same_now) (subst (λ t. SaysBy w.tale t) (sym same_later)
         (says_by (is_to_server w.tale link) (closes k link) (w.tale.wires link).entered begins_now refl refl refl refl (writes.front, writes.tagged) fits.some fits.opened writes.acted is))
 
-  tag_so : (before later : Log) (e : Entry) → AreBegun fixed (world_at fixed before) → IsOurs fixed before e → Fits before e
-      → TagsSo (final_terms fixed (before ++ e ∷ later)) before e
-  tag_so before later (entry.Wrote link tag bytes) begun ours fits = wrote_so before later link tag bytes begun ours.0 ours.1 fits
-  tag_so before later _ begun ours fits = tt
+  -- what stands on links stands in its session's hostgroup
+  abbrev pub StandsBy : World More → Type 0
+  StandsBy v = (link : LinkId) → StandsRight (terms_of fixed v) (now_of fixed v) link (link_in (setup_of fixed) v.tale link).stage
 
-  tags_from : (before later whole : Log) → before ++ later ≡ whole → AreBegun fixed (world_at fixed before)
+  tag_so : (before later : Log) (e : Entry) → AreBegun fixed (world_at fixed before) → IsOurs fixed before e → Fits before e → StandsBy (next fixed (world_at fixed before) e)
+      → TagsSo (final_terms fixed (before ++ e ∷ later)) before e
+  tag_so before later (entry.Wrote link tag bytes) begun ours fits stands = wrote_so before later link tag bytes begun ours (stands link) fits
+  tag_so before later _ begun ours fits stands = tt
+
+  tags_from : (before later whole : Log) → before ++ later ≡ whole → AreBegun fixed (world_at fixed before) → ((j : ℕ) → StandsBy (world_at fixed (before ++ take j later)))
       → LawfulAfter (IsOurs fixed) before later → LawfulAfter Fits before later → LawfulAfter (TagsSo (final_terms fixed whole)) before later
-  tags_from before [] whole is begun ours fits = tt
-  tags_from before (e ∷ later) whole is begun ours fits = (
-    subst (λ l. TagsSo (final_terms fixed l) before e) is (tag_so before later e begun ours.0 fits.0),
-    tags_from (before ++ e ∷ []) later whole (append_assoc before (e ∷ []) later ∙ is) (begun_then fixed before e fits.0 begun) ours.1 fits.1,
+  tags_from before [] whole is begun each ours fits = tt
+  tags_from before (e ∷ later) whole is begun each ours fits = (
+    subst (λ l. TagsSo (final_terms fixed l) before e) is (tag_so before later e begun ours.0 fits.0 (subst StandsBy (world_more fixed before (e ∷ [])) (each 1))),
+    tags_from (before ++ e ∷ []) later whole (append_assoc before (e ∷ []) later ∙ is) (begun_then fixed before e fits.0 begun)
+        (λ j. subst (λ l. StandsBy (world_at fixed l)) (sym (append_assoc before (e ∷ []) (take j later))) (each (suc j))) ours.1 fits.1,
   )
 
-  pub tags_kept : (log : Log) → LawfulAfter (IsOurs fixed) [] log → LawfulAfter Fits [] log → LawfulAfter (TagsSo (final_terms fixed log)) [] log
-  tags_kept log ours fits = tags_from [] log log refl (first_begun fixed) ours fits
+  pub tags_kept : (log : Log) → ((j : ℕ) → StandsBy (world_at fixed (take j log))) → LawfulAfter (IsOurs fixed) [] log → LawfulAfter Fits [] log
+      → LawfulAfter (TagsSo (final_terms fixed log)) [] log
+  tags_kept log each ours fits = tags_from [] log log refl (first_begun fixed) each ours fits

@@ -7,7 +7,7 @@ use Rattle.std.proofs.lemmas.List.{length-map}
 use Rattle.client_session.specs.Setups.{Setup as Service}
 use Rattle.packet_frame.specs.Packets.{Framed}
 use Rattle.private_model.proofs.Maps.{message_is, same_message}
-use Rattle.private_model.specs.Names.{Hostgroup, MessageName}
+use Rattle.private_model.specs.Names.{Hostgroup, LinkId, MessageName, SessionName}
 use Rattle.private_model.specs.Story.{BecameDue, Left, is_client, is_message}
 use Rattle.private_model.specs.View.{Setup}
 use Rattle.log_story.specs.Clients as clients
@@ -35,6 +35,7 @@ use Rattle.shared_router.proofs.Parting.{next}
 use Rattle.shared_router.proofs.Walks.{if_either}
 use Rattle.shared_router.proofs.Asking.{route_asks}
 use Rattle.shared_router.proofs.Judging.{same_later}
+use Rattle.shared_router.proofs.Lonely.{IsDueIn, StandsOn, comes_lone}
 use Rattle.shared_router.proofs.Holding.{IsHeld, IsJob, IsTabled, filled_by, isnt, more_held, no_some, some_of}
 
 module _ (fixed : Fixed) where
@@ -198,6 +199,23 @@ module _ (fixed : Fixed) where
     pub up_then : (tale : Tale) → taken_once setup by w client ≡ Some tale → up ≡ true
     up_then tale is = up_same w client ∙ (is_up_then tale is).up
 
+    -- so nothing is known of it
+
+    unrouted : w.decided.routes name ≡ None
+    unrouted = none_of (w.decided.routes name) (λ x is. next_new client w.tale.clients ready.latest (held.tabled.routes name x is))
+
+    undecided : is_some (w.decided.routes name) ≡ false
+    undecided = ap (λ x. is_some x) unrouted
+
+    none_due : (k : SessionName) → IsDueIn (view_of setup w.tale).dues k name → ⊥
+    none_due k is = let goes = held.decided.due k is.0 is.1.0 in no_some (Some goes.route) (sym unrouted ∙ ap w.decided.routes (sym is.1.1) ∙ goes.routed)
+
+    none_there : (l : LinkId) → StandsOn (view_of setup w.tale).links l name → ⊥
+    none_there l on = isnt (sym undecided ∙ held.decided.stands l name on)
+
+    none_replied : (view_of setup w.tale).replies name ≡ None
+    none_replied = none_of ((view_of setup w.tale).replies name) (λ reply is. isnt (sym undecided ∙ held.decided.answered name (ap (λ x. is_some x) is)))
+
     -- where it is up, it is taken up
     pub taken_some : (message : Framed) → up ≡ true → found ≡ Some message → taken_once setup by w client ≡ Some (taken_then message ((plan_of d).routes name))
     taken_some message is_up next =
@@ -226,6 +244,7 @@ module _ (fixed : Fixed) where
       decided = are_more w.decided d (view_of setup w.tale) (next-more setup by w client) held.decided;
       numbered = numbered_taken (next_of client) 1 w.tale.clients held.numbered;
       few = let same : length next_clients ≡ length w.tale.clients = length-map w.tale.clients (replaced (next_of client)) in omega (arith, same, held.few);
+      lone = held.lone;
       unbroken = held.unbroken;
     }
 
@@ -286,6 +305,7 @@ module _ (fixed : Fixed) where
               decided = became_due d setup w.tale.story client.number r.hostgroup (suc client.taken) request.key request.command r.multiplex goes start_then.decided;
               numbered = start_then.numbered;
               few = start_then.few;
+              lone = comes_lone setup w.tale.story client.number r.hostgroup (suc client.taken) request.key request.command r.multiplex none_due none_there none_replied held.lone;
               unbroken = start_then.unbroken;
             })
 
@@ -302,6 +322,7 @@ module _ (fixed : Fixed) where
       decided = are_more w.decided d (view_of setup w.tale) (next-more setup by w client) held.decided;
       numbered = held.numbered;
       few = held.few;
+      lone = held.lone;
       unbroken = held.unbroken;
     }
 

@@ -5,6 +5,7 @@ use Rattle.std.specs.Option.{option_map_or}
 use Rattle.std.proofs.Common.{refl, sym, ap, ◌∙◌, subst, append_assoc, append-nil, arith, length-append}
 use Rattle.mx_wire.specs.Log.{Log, is_open}
 use Rattle.mx_wire.specs.Moments.{AllLawful, LawfulAfter}
+use Rattle.mx_wire.specs.Tells.{Fits}
 use Rattle.mx_wire.specs.declared.entry.Entry.{Entry}
 use Rattle.mx_wire.specs.declared.entry.Entry.TheVariants as entry
 use Rattle.packet_frame.specs.Packets.{Framed}
@@ -35,32 +36,29 @@ use Rattle.shared_router.proofs.Later.{AreAlike, waiting_same}
 use Rattle.shared_router.proofs.Leaving.{ends_same}
 use Rattle.shared_router.proofs.Looked.{IsLooked, each-so, looks_at}
 use Rattle.shared_router.proofs.Parting.{even_at, world_more}
-use Rattle.shared_router.proofs.Prompting.{first_held, step_held}
+use Rattle.shared_router.proofs.Prompting.{IsReached, first_reached, reached_next}
 use Rattle.shared_router.proofs.Sparing.{agrees_here, any_same, ended_same, room_same, was_same}
 use Rattle.shared_router.proofs.Staying.{log_at}
 
 -- What a world holds at each moment of a log of ours.
 
 module _ (fixed : Fixed) where
-  held_from : (before later : Log) (n : ℕ) → n + length later < 18446744073709551616 → Held fixed n (world_at fixed before) → LawfulAfter (IsOurs fixed) before later
-      → (m : ℕ) × Held fixed m (world_at fixed (before ++ later))
-  held_from before [] n small held ours = (n, subst (λ (l : Log). Held fixed n (world_at fixed l)) (sym (append-nil before)) held)
-  held_from before (e ∷ later) n small held ours =
-      let one = step_held fixed n (world_at fixed before) e (omega (arith, small)) held ours.0 in
-      let rest = held_from (before ++ e ∷ []) later (suc n) (omega (arith, small))
-      (subst (λ (v : World More). Held fixed (suc n) v) (sym (world_more fixed before (e ∷ []))) one.held) ours.1 in
-      (rest.0, subst (λ (l : Log). Held fixed rest.0 (world_at fixed l)) (append_assoc before (e ∷ []) later) rest.1)
-
-  pub held_at : (log : Log) → length log < 18446744073709551616 → LawfulAfter (IsOurs fixed) [] log → (m : ℕ) × Held fixed m (world_at fixed log)
-  held_at log small ours = held_from [] log 0 (omega (arith, small)) (first_held fixed) ours
+  reached_from : (before later : Log) (n : ℕ) → n + length later < 18446744073709551616 → IsReached fixed n before → LawfulAfter (IsOurs fixed) before later
+      → LawfulAfter Fits before later → (m : ℕ) × IsReached fixed m (before ++ later)
+  reached_from before [] n small is ours fits = (n, subst (λ (l : Log). IsReached fixed n l) (sym (append-nil before)) is)
+  reached_from before (e ∷ later) n small is ours fits =
+      let rest = reached_from (before ++ e ∷ []) later (suc n) (omega (arith, small)) (reached_next fixed n before e (omega (arith, small)) is ours.0 fits.0) ours.1 fits.1 in
+      (rest.0, subst (λ (l : Log). IsReached fixed rest.0 l) (append_assoc before (e ∷ []) later) rest.1)
 
   pub held_then : (before later log : Log) → before ++ later ≡ log → IsOurLog fixed log → (m : ℕ) × Held fixed m (world_at fixed before)
   held_then before later log is our =
       let long : length (before ++ later) ≡ length before + length later = length-append before later in
       let same : length (before ++ later) ≡ length log = ap (λ (l : Log). length l) is in
       let bounded : length log < 281474976710656 = our.bounded in
-      held_at before (omega (arith, long, same, bounded))
+      let found = reached_from [] before 0 (omega (arith, long, same, bounded)) (first_reached fixed)
       (lawful_first (IsOurs fixed) [] before later (subst (λ (l : Log). LawfulAfter (IsOurs fixed) [] l) (sym is) our.ours))
+      (lawful_first Fits [] before later (subst (λ (l : Log). LawfulAfter Fits [] l) (sym is) our.fits)) in
+      (found.0, found.1.held)
 
   -- messages are counted from one
   none_first : (n : ℕ) (w : World More) → Held fixed n w → (client : Client) → (plan_of w.decided).routes (name_of client 0) ≡ None

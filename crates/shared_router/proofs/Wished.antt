@@ -199,13 +199,8 @@ module _ (link : Link) (standing : Standing) where
   IsRightWish P (Sends q) = P q
   IsRightWish P (Says text) = IsLong standing text
 
-  for_so : (P : Question → Type 0) (q : Question) → P q → IsRightWish P (wish_for link standing q)
-  for_so P q right = by_before (before_question link standing q) refl where
+  pub wish_right : (P : Question → Type 0) (q : Question) → P q → IsRightWish P (wish_for link standing q)
+  wish_right P q right = by_before (before_question link standing q) refl where
     by_before : (o : Option StepText) → before_question link standing q ≡ o → IsRightWish P (option_map_or (λ text. Says text) o (Sends q))
     by_before None at = right
     by_before (Some text) at = before_so q text at
-
-  pub wish_right : (P : Question → Type 0) (o : Option Question) (wish : Wish) → ((q : Question) → o ≡ Some q → P q) → option_map (wish_for link standing) o ≡ Some wish
-      → IsRightWish P wish
-  wish_right P None wish right is = no_some wish is
-  wish_right P (Some q) wish right is = subst (IsRightWish P) (some_is (wish_for link standing q) wish is) (for_so P q (right q refl))

@@ -16,22 +16,18 @@ use Rattle.ready_loop.specs.Drained.{all_accepted, all_named, read_dry, write_dr
 use Rattle.private_model.specs.Story.{is_link_id}
 use Rattle.log_story.specs.Honest.{IsFront}
 use Rattle.log_story.specs.Plan.{word_at}
-use Rattle.log_story.specs.Servers.{may_begin}
-use Rattle.log_story.specs.Tale.{Client, is_to_server}
+use Rattle.log_story.specs.Tale.{Client}
 use Rattle.tale_world.specs.Deciding.{World}
 use Rattle.tale_world.specs.Policy.{Wanted}
-use Rattle.tale_world.specs.Tested.{PassesBy}
-use Rattle.tale_world.specs.World.{world_step}
 use Rattle.router_promises.specs.Closes.{has_bytes}
 use Rattle.router_promises.specs.Rest.{is_spared_for}
-use Rattle.router_promises.specs.Tags.{StandsRight}
 use Rattle.router_promises.specs.Terms.{plan_in}
 use Rattle.router_promises.specs.Wakes.{wakes_at}
-use Rattle.shared_router.specs.Fixed.{Fixed, setup_of}
-use Rattle.shared_router.specs.Known.{Known, known, link_by}
+use Rattle.shared_router.specs.Fixed.{Fixed}
+use Rattle.shared_router.specs.Known.{Known, known}
 use Rattle.shared_router.specs.More.{More}
 use Rattle.shared_router.specs.Owed.{asks, close_by, closes, owed_on}
-use Rattle.shared_router.specs.Shared.{shared, world_at}
+use Rattle.shared_router.specs.Shared.{world_at}
 use Rattle.shared_router.specs.Wishes.{address_in, wanted_by}
 
 -- What is written is a front of what is owed there, with its tag, once nothing else is to be done first.
@@ -39,19 +35,6 @@ pub record Writes (k : Known) (link : LinkId) (tag : Tag) (bytes : List ℕ) : T
   pub acted : (not (asks k) || closes k link) ≡ true
   pub front : IsFront bytes (owed_on k link).bytes
   pub tagged : tag ≡ (owed_on k link).tag
-
--- what stands on a link stands in its session's hostgroup
-abbrev pub StandsBehind : Known → LinkId → Type 0
-StandsBehind k link = StandsRight k.terms k.now link (link_by k link).stage
-
--- What begins on a link to a server stands in its session's hostgroup, and passes the test.
-pub record Begins (fixed : Fixed) (w : World More) (link : LinkId) (e : Entry) : Type 0 where
-  pub group : StandsBehind (known fixed (world_step (setup_of fixed) (shared fixed) w e)) link
-  pub passes : PassesBy (setup_of fixed) (shared fixed) w e
-
-abbrev pub BeginsIf : Fixed → World More → LinkId → Entry → (there begins : Bool) → Type 0
-BeginsIf fixed w link e true true = Begins fixed w link e
-BeginsIf fixed w link e _ _ = Unit {0}
 
 -- What is read: all but what may be left.
 abbrev pub reads : Known → LinkId → Bool
@@ -85,9 +68,7 @@ OursBy fixed w (entry.Got link bytes) = (asks (known fixed w) ≡ false) × AreB
 OursBy fixed w (entry.Ended link) = asks (known fixed w) ≡ false
 OursBy fixed w (entry.ReadFailed link) = asks (known fixed w) ≡ false
 OursBy fixed w (entry.WriteFailed link) = (not (asks (known fixed w)) || closes (known fixed w) link) ≡ true
-OursBy fixed w (entry.Wrote link tag bytes) =
-    Writes (known fixed w) link tag bytes
-    × BeginsIf fixed w link (entry.Wrote link tag bytes) (is_to_server w.tale link) (may_begin (setup_of fixed) link (w.tale.wires link) w.tale)
+OursBy fixed w (entry.Wrote link tag bytes) = Writes (known fixed w) link tag bytes
 OursBy fixed w (entry.Opened server address link) = OpensThere (known fixed w) server address
 OursBy fixed w (entry.OpenFailed server address) = OpensThere (known fixed w) server address
 OursBy fixed w (entry.Closed link) = close_by (known fixed w) ≡ Some link

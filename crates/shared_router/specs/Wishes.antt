@@ -1,7 +1,7 @@
 -- What goes to a link to a server next, with its tag, and what is opened: by the policy, for whom links are readied.
-use Rattle.std.specs.Prelude.{ℕ, Bool, false, ◌&&◌, List, [], ◌∷◌, find, if◌then◌else◌, reverse, unwrap_or, Option, None}
+use Rattle.std.specs.Prelude.{ℕ, Bool, true, false, ◌&&◌, ◌||◌, List, [], ◌∷◌, find, if◌then◌else◌, reverse, unwrap_or, Option, Some, None}
 use Rattle.std.specs.List.{filter_map}
-use Rattle.std.specs.Option.{option_map, option_map_or, option_or}
+use Rattle.std.specs.Option.{option_and_then, option_map, option_map_or, option_or}
 use Rattle.hostgroups.specs.Servers.{server_at}
 use Rattle.hostgroups.specs.declared.server.Server.{Server}
 use Rattle.mx_base.specs.declared.names.Address.{Address}
@@ -15,12 +15,14 @@ use Rattle.session_vars.specs.declared.change.SlotValue.{SlotValue}
 use Rattle.session_vars.specs.declared.slot.Slot.TheVariants.{Autocommit}
 use Rattle.private_model.specs.Commands.{Account}
 use Rattle.private_model.specs.Names.{Hostgroup, LinkId, ServerId}
-use Rattle.private_model.specs.Story.{Capture, Due, End, Own, Prep, Question, Statement, Sync, command_of}
+use Rattle.private_model.specs.Story.{Capture, Due, End, Own, Prep, Question, Statement, Sync, command_of, is_name}
 use Rattle.private_model.specs.View.{View}
 use Rattle.server_side.specs.Account.{Account as Login}
 use Rattle.log_story.specs.Plan.{Asks, StepText, step_payload}
-use Rattle.tale_world.specs.Policy.{Texts, Wanted, next_open}
-use Rattle.tale_world.specs.Wishes.{Says, Sends, Standing, Wish, next_wish}
+use Rattle.tale_world.specs.Policy.{Texts, Wanted, next_open, next_question}
+use Rattle.tale_world.specs.Tests.{may_begin_question}
+use Rattle.tale_world.specs.Wishes.{Says, Sends, Standing, Wish, wish_for}
+use Rattle.router_promises.specs.Closes.{has_bytes}
 use Rattle.router_promises.specs.Dues.{is_due}
 use Rattle.router_promises.specs.Keys.{has_room, is_in, numbered_from}
 use Rattle.router_promises.specs.Now.{entry_now, wire_now}
@@ -28,7 +30,7 @@ use Rattle.router_promises.specs.Router.{user_named}
 use Rattle.router_promises.specs.Steps.{live_keys}
 use Rattle.router_promises.specs.Terms.{Tried}
 use Rattle.shared_router.specs.Fixed.{Fixed}
-use Rattle.shared_router.specs.Known.{Known, link_by, setup_by, view_by}
+use Rattle.shared_router.specs.Known.{Known, link_by, present_by, setup_by, view_by}
 use Rattle.shared_router.specs.Lends.{readied_now, settled}
 use Rattle.shared_router.specs.More.{nobody}
 use Rattle.shared_router.specs.Spelt.{question_spelt}
@@ -53,11 +55,27 @@ standing_on k link =
 abbrev pub kept_due : Known → View
 kept_due k = record (view_by k) { dues = λ n. if is_due k.terms k.now.tale n then (view_by k).dues n else None }
 
--- nothing goes behind a QUIT
+-- Nothing goes behind a QUIT, nor behind bytes that nobody asked for; and a question goes where it may begin, a preparation for a present session.
+
+abbrev pub is_barred : Known → LinkId → Bool
+is_barred k link = (wire_now k.now link).quits || has_bytes (wire_now k.now link).unread
+
+abbrev pub is_present : Known → Question → Bool
+is_present k (Prep n key text) = is_name n (present_by k n.client n.hostgroup)
+is_present k _ = true
+
+abbrev pub may_go : Known → LinkId → Question → Bool
+may_go k link question = may_begin_question (setup_by k) (view_by k) (link_by k link) question && is_present k question
+
+abbrev pub if_may : Known → LinkId → Question → Option Question
+if_may k link question = if may_go k link question then Some question else None
+
+abbrev pub asked_on : Known → LinkId → Option Question
+asked_on k link =
+    option_and_then (if_may k link) (next_question texts k.fixed.ids (setup_by k) (kept_due k) (link_by k link) (readied_now k link))
+
 abbrev pub wish_on : Known → LinkId → Option Wish
-wish_on k link =
-    if (wire_now k.now link).quits then None
-    else next_wish texts k.fixed.ids (setup_by k) (kept_due k) (link_by k link) (standing_on k link) (readied_now k link)
+wish_on k link = if is_barred k link then None else option_map (wish_for (link_by k link) (standing_on k link)) (asked_on k link)
 
 abbrev pub ordinal_due : Option Due → ℕ
 ordinal_due due = option_map_or (λ (d : Due). d.ordinal) due 0

@@ -19,5 +19,5 @@ returns c = λ fixed log our n.
     let plan = plan_of (world_at fixed log).decided in
     let same : tale_at (final_terms fixed log) (take n log) ≡ (world_at fixed (take n log)).tale =
     subst (λ (l : Log). tale_at (final_terms fixed l) (take n log) ≡ (world_at fixed (take n log)).tale) (take-append-drop n log) (tale_then fixed (take n log) (drop n log)) in
-    lawful_so (setup_of fixed) plan (take n log) (tested_before (setup_of fixed) plan n log first_tale (tested fixed log our.ours our.fits))
-    (ap (λ (t : Tale). has_broken t.story) same ∙ unbroken_at fixed log n (omega (arith, our.bounded)) our.ours)
+    lawful_so (setup_of fixed) plan (take n log) (tested_before (setup_of fixed) plan n log first_tale (tested fixed log (omega (arith, our.bounded)) our.ours our.fits))
+    (ap (λ (t : Tale). has_broken t.story) same ∙ unbroken_at fixed log n (omega (arith, our.bounded)) our.ours our.fits)
