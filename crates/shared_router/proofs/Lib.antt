@@ -91,6 +91,7 @@ pub mod Wishing
 pub mod Passing
 pub mod Grouping
 pub mod Lonely
+pub mod Replying
 pub mod Fronted
 pub mod Adding
 pub mod Furthering

@@ -3,7 +3,7 @@ ghost use Rattle.mx_wire.specs.Log.{Log};
 ghost use Rattle.mx_wire.specs.Moments.{AllLawful, AtEachMoment};
 ghost use Rattle.router_promises.specs.Due.{DueSo};
 ghost use Rattle.router_promises.specs.Terms.{Terms};
-ghost use Rattle.shared_router.specs.Fixed.{Fixed};
+ghost use Rattle.shared_router.specs.Fixed.{Fixed, IsNumbered};
 ghost use Rattle.shared_router.specs.Onward.{AnswersStaySo, GoesOnSo, RepliesStaySo, UntilGoesOnSo, WordsGoOnSo};
 ghost use Rattle.shared_router.specs.Ours.{IsOurLog};
 ghost use Rattle.shared_router.specs.Shared.{final_terms};
@@ -22,11 +22,14 @@ pub fn due_goes_on()
         → AllLawful (UntilGoesOnSo terms) log }
 {}
 
-/// So what was written to each client is at each moment a front of what it is due, where each reply to a message that was taken up stays,
-/// the router answers none that was replied to, and what a client with a last word is due goes on.
+/// A reply to a message that was taken up stays, and what was replied to the router doesn't answer later.
+pub fn keeps_replies()
+    ensures { (fixed : Fixed) (log : Log) → IsNumbered fixed → IsOurLog fixed log → AllLawful (RepliesStaySo (final_terms fixed log)) log }
+{}
+
+/// So what was written to each client is at each moment a front of what it is due, where what a client with a last word is due goes on.
 pub fn writes_answers_that_stay()
-    ensures { (fixed : Fixed) (log : Log) → IsOurLog fixed log
-        → AllLawful (RepliesStaySo (final_terms fixed log)) log
+    ensures { (fixed : Fixed) (log : Log) → IsNumbered fixed → IsOurLog fixed log
         → AllLawful (WordsGoOnSo (final_terms fixed log)) log
         → AtEachMoment (DueSo (final_terms fixed log)) log }
 {}

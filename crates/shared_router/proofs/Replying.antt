@@ -1,0 +1,208 @@
+-- A reply to a message stays at each entry, and what has one isn't given up.
+use Rattle.std.specs.Prelude.{◌≡◌, ◌+◌, ◌<◌, ◌≤◌, ℕ, zero, suc, Bool, true, false, ◌&&◌, ◌||◌, not, fold, is_some, length, nat_eq, nat_le, if◌then◌else◌, slice_get, slice_index_or, List, [], ◌∷◌, ◌++◌, Option, Some, None}
+use Rattle.std.specs.Option.{option_and_then, option_map_or}
+use Rattle.std.proofs.Common.{refl, sym, ap, ◌∙◌, subst, append_assoc, arith}
+use Rattle.std.proofs.lemmas.Bool.{and_parts, leb-false, leb-true}
+use Rattle.mx_base.specs.declared.names.LinkId.{LinkId}
+use Rattle.mx_wire.specs.Log.{Log}
+use Rattle.mx_wire.specs.Moments.{AllLawful}
+use Rattle.mx_wire.specs.declared.entry.Entry.{Entry}
+use Rattle.mx_wire.specs.declared.entry.Entry.TheVariants as entry
+use Rattle.packet_frame.specs.Packets.{Framed}
+use Rattle.private_model.specs.Commands.{Command, Reply}
+use Rattle.private_model.specs.Names.{Hostgroup, MessageName}
+use Rattle.private_model.specs.Story.{BecameDue, Freed, Left}
+use Rattle.private_model.specs.View.{Setup, View}
+use Rattle.log_story.specs.Clients.{client_goes_on, clients_are_ended, clients_go_on, copied, due_by, ended_if_now, is_event_of, is_up, next_taken, taken_by, taken_up}
+use Rattle.log_story.specs.Executes.{Request, requested}
+use Rattle.log_story.specs.Owed.{messages, name_of}
+use Rattle.log_story.specs.Plan.{OwnAnswer, Plan, Route, com_reset, gives_up, is_before, is_now, own_at}
+use Rattle.log_story.specs.Servers.{freed_if_done, is_done, links_are_freed}
+use Rattle.log_story.specs.Tale.{Client, Tale, counted, link_in, tell, view_of, with_client}
+use Rattle.log_story.specs.Telling.{tale_step, told}
+use Rattle.tale_world.specs.Deciding.{World}
+use Rattle.router_promises.proofs.Saying.{now-tale}
+use Rattle.router_promises.specs.Now.{now_at}
+use Rattle.router_promises.specs.Terms.{Terms, plan_in, setup_in, tale_at}
+use Rattle.shared_router.specs.Fixed.{Fixed, IsNumbered}
+use Rattle.shared_router.specs.Given.{GivenUpSo}
+use Rattle.shared_router.specs.More.{More}
+use Rattle.shared_router.specs.Onward.{RepliesStaySo}
+use Rattle.shared_router.specs.Ours.{IsOurLog, IsOurs}
+use Rattle.shared_router.specs.Shared.{final_terms, world_at}
+use Rattle.shared_router.proofs.Along.{IsAt, along}
+use Rattle.shared_router.proofs.Dues.{either}
+use Rattle.shared_router.proofs.Furthering.{tale_more}
+use Rattle.shared_router.proofs.Lonely.{Lone, Replied, more_lone, reply_stays}
+use Rattle.shared_router.proofs.Parting.{even_at, tale_then, world_more}
+use Rattle.shared_router.proofs.Reasons.{given_then}
+use Rattle.shared_router.proofs.Since.{step-moment}
+use Rattle.shared_router.proofs.Waking.{held_then}
+use Rattle.shared_router.proofs.Walks.{Comes, Keeping, Says, entry_keeps, freeing_keeps, writes_keeps}
+
+module _ (setup : Setup) (plan : Plan) (m : MessageName) (reply : Reply) where
+  abbrev Has : Tale → Type 0
+  Has tale = Replied setup m reply tale.story
+
+  -- Messages are taken up.
+
+  copied_has : (message : MessageName) (command : Command) (mirror : Option Hostgroup) (tale : Tale) → Has tale → Has (copied message command mirror tale)
+  copied_has message command None tale has = has
+  copied_has message command (Some hostgroup) tale has = has
+
+  due_has : (client : Client) (i : ℕ) (route : Route) (request : Option Request) (tale : Tale) → Has tale → Has (due_by client i route request tale)
+  due_has client i route None tale has = has
+  due_has client i route (Some request) tale has =
+      copied_has (name_of client i) request.command route.mirror (tell (BecameDue client.number route.hostgroup i request.key request.command route.multiplex) tale) has
+
+  taken_has : (client : Client) (i : ℕ) (message : Framed) (route : Option Route) (tale : Tale) → Has tale → Has (taken_by setup plan client i message route tale)
+  taken_has client i message None tale has =
+      either Has (nat_eq (slice_index_or message.payload 0 0) com_reset) (tell (Left client.number) tale) tale has has
+  taken_has client i message (Some route) tale has = due_has client i route (requested setup (view_of setup tale) plan client i route message.payload) tale has
+
+  abbrev HasIn : Option Tale → Type 0
+  HasIn None = Unit {0}
+  HasIn (Some tale) = Has tale
+
+  next_has : (client : Client) (found : Option Framed) (tale : Tale) → Has tale → HasIn (next_taken setup plan client found tale)
+  next_has client None tale has = tt
+  next_has client (Some message) tale has =
+      either HasIn (is_up setup plan client tale)
+      (Some (taken_by setup plan client (suc client.taken) message (plan.routes (name_of client (suc client.taken))) tale)) None
+      (taken_has client (suc client.taken) message (plan.routes (name_of client (suc client.taken))) tale has) tt
+
+  others_has : (others : Tale → Tale) (found : Option Tale) (old : Tale) → Has old → HasIn found → ((tale : Tale) → Has tale → Has (others tale))
+      → Has (option_map_or others found old)
+  others_has others None old has in_it keeps = has
+  others_has others (Some tale) old has in_it keeps = keeps tale in_it
+
+  up_has : (most : ℕ) (client : Client) (tale : Tale) → Has tale → Has (taken_up most setup plan client tale)
+  up_has zero client tale has = has
+  up_has (suc most) client tale has =
+      let onward : Client = record client { taken = suc client.taken } in
+      others_has (λ other. taken_up most setup plan onward (with_client onward other)) (next_taken setup plan client (slice_get (messages plan client) client.taken) tale) tale
+      has (next_has client (slice_get (messages plan client) client.taken) tale has)
+      (λ other in_it. up_has most onward (with_client onward other) in_it)
+
+  going_has : (view : View) (e : Entry) (xs : List Client) (tale : Tale) → Has tale → Has (fold (client_goes_on setup plan view e) tale xs)
+  going_has view e [] tale has = has
+  going_has view e (x ∷ xs) tale has =
+      going_has view e xs (client_goes_on setup plan view e tale x)
+      (either Has ((is_event_of view x e || gives_up plan tale.moment (name_of x x.taken)) && not (is_before tale.moment (plan.ends x.number)))
+      (taken_up (length (messages plan x)) setup plan x tale) tale (up_has (length (messages plan x)) x tale has) has)
+
+  -- Clients are ended, and links given back.
+
+  ended_has : (xs : List Client) (tale : Tale) → Has tale → Has (fold (ended_if_now plan) tale xs)
+  ended_has [] tale has = has
+  ended_has (x ∷ xs) tale has = ended_has xs (ended_if_now plan tale x) (either Has (is_now tale.moment (plan.ends x.number)) (tell (Left x.number) tale) tale has has)
+
+  freed_has : (xs : List LinkId) (tale : Tale) → Has tale → Has (fold (freed_if_done setup plan) tale xs)
+  freed_has [] tale has = has
+  freed_has (x ∷ xs) tale has =
+      freed_has xs (freed_if_done setup plan tale x)
+      (either Has (is_done plan tale.moment (view_of setup tale) (tale.wires x) (link_in setup tale x)) (tell (Freed x) tale) tale has has)
+
+  -- An entry is told.
+
+  abbrev replying : Keeping setup
+  replying = record {
+    holds = λ clients story. Lone setup story × Replied setup m reply story;
+    more = λ clients past e may both. (more_lone setup past e may both.0, reply_stays setup m reply past e both.0 both.1);
+    moves = λ clients past f stays both. both;
+  }
+
+  told_has : (tale : Tale) (e : Entry) → Lone setup tale.story → Has tale → Has (told setup plan tale e)
+  told_has tale e lone has = (entry_keeps setup plan replying tale e (comes e) (says e) (lone, has)).1 where
+    comes : (x : Entry) → Comes setup plan replying tale x
+    comes (entry.Accepted port link salt) = (lone, has)
+    comes _ = tt
+
+    says : (x : Entry) → Says setup plan replying tale x
+    says (entry.Wrote link for bytes) = λ there. writes_keeps setup plan replying (λ clients past both. both) link for bytes (tale.wires link) tale (lone, has)
+    says _ = tt
+
+  pub step_has : (tale : Tale) (e : Entry) → Lone setup tale.story → Has tale → Has (tale_step setup plan tale e)
+  step_has tale e lone has =
+      let first : Tale = counted (told setup plan tale e) in
+      let free : Tale = links_are_freed setup plan first in
+      let gone : Tale = clients_go_on setup plan (view_of setup tale) e free in
+      let ended : Tale = clients_are_ended plan gone in
+      freed_has ended.links ended (ended_has gone.clients gone (going_has (view_of setup tale) e free.clients free (freed_has first.links first (told_has tale e lone has))))
+
+-- What is answered by the router at an entry was in work before it, so that it had no reply.
+
+abbrev own_by : Option OwnAnswer → ℕ → Option (List (List ℕ))
+own_by o moment = option_and_then (λ (answer : OwnAnswer). if nat_le answer.from moment then Some answer.payloads else None) o
+
+never : true ≡ false → ⊥
+never is = absurd (cc)
+
+came_then : (o : Option OwnAnswer) (moment : ℕ) → own_by o moment ≡ None → ((answer : OwnAnswer) → o ≡ Some answer → answer.from ≡ suc moment → ⊥) → own_by o (suc moment) ≡ None
+came_then None moment is apart = refl
+came_then (Some answer) moment is apart = by_tests (nat_le answer.from moment) (nat_le answer.from (suc moment)) refl refl is where
+  by_tests : (was now : Bool) → nat_le answer.from moment ≡ was → nat_le answer.from (suc moment) ≡ now → (if was then Some answer.payloads else None) ≡ None
+      → (if now then Some answer.payloads else None) ≡ None
+  by_tests true now at later is = absurd (cc)
+  by_tests false false at later is = refl
+  by_tests false true at later is =
+      let most : answer.from ≤ suc moment = leb-true answer.from (suc moment) later in
+      let more : moment < answer.from = leb-false answer.from moment at in
+      absurd (apart answer refl (omega (arith, most, more)))
+
+-- Along a log of ours.
+
+module _ (fixed : Fixed) (numbered : IsNumbered fixed) (log : Log) (our : IsOurLog fixed log) where
+  abbrev t : Terms
+  t = final_terms fixed log
+
+  module _ (before later : Log) (e : Entry) (at : IsAt log before e later) where
+    abbrev w : World More
+    w = world_at fixed before
+
+    abbrev old : Tale
+    old = tale_at t before
+
+    abbrev new : Tale
+    new = tale_at t (before ++ e ∷ [])
+
+    old_same : old ≡ w.tale
+    old_same = subst (λ l. tale_at (final_terms fixed l) before ≡ w.tale) at.is (tale_then fixed before (e ∷ later))
+
+    new_same : new ≡ tale_step (setup_in t) (plan_in t) old e
+    new_same = tale_more t before e
+
+    next_moment : new.moment ≡ suc old.moment
+    next_moment =
+        subst (λ l. (tale_at (final_terms fixed l) (before ++ e ∷ [])).moment ≡ suc w.tale.moment) (append_assoc before (e ∷ []) later ∙ at.is)
+        (ap (λ (x : Tale). x.moment) (tale_then fixed (before ++ e ∷ []) later) ∙ ap (λ (v : World More). v.tale.moment) (world_more fixed before (e ∷ []))
+        ∙ step-moment fixed w e (even_at fixed before))
+        ∙ ap (λ (x : Tale). suc x.moment) (sym old_same)
+
+    lone : Lone (setup_in t) old.story
+    lone = subst (λ (x : Tale). Lone (setup_in t) x.story) (sym old_same) (held_then fixed before (e ∷ later) log at.is our).1.lone
+
+    module _ (m : MessageName) (reply : Reply) (own : own_at (plan_in t) old.moment m ≡ None) (replied : (view_of (setup_in t) old).replies m ≡ Some reply) where
+      stays : (view_of (setup_in t) new).replies m ≡ Some reply
+      stays = subst (λ (x : Tale). (view_of (setup_in t) x).replies m ≡ Some reply) (sym new_same) (step_has (setup_in t) (plan_in t) m reply old e lone replied)
+
+      not_given : (answer : OwnAnswer) → (plan_in t).own m ≡ Some answer → answer.from ≡ suc old.moment → ⊥
+      not_given answer is from =
+          let here : (now_at t before).tale ≡ old = now-tale t before in
+          let given = subst (λ l. GivenUpSo fixed (final_terms fixed l) before e) at.is (given_then fixed numbered before later e at.fits) in
+          let count : (now_at t before).tale.moment ≡ old.moment = ap (λ (x : Tale). x.moment) here in
+          let up = given m answer is (omega (arith, from, count)) in
+          let heard : Option Reply = (view_of (setup_in t) (now_at t before).tale).replies m in
+          let has : heard ≡ Some reply = ap (λ (x : Tale). (view_of (setup_in t) x).replies m) here ∙ replied in
+          let unheard : not (is_some heard) ≡ true = (and_parts (not (is_some heard)) _ (and_parts _ _ up.in_work).1).0 in
+          never (sym unheard ∙ ap (λ o. not (is_some o)) has)
+
+      unanswered : own_at (plan_in t) new.moment m ≡ None
+      unanswered = subst (λ i. own_at (plan_in t) i m ≡ None) (sym next_moment) (came_then ((plan_in t).own m) old.moment own not_given)
+
+    replies_by : IsOurs fixed before e → RepliesStaySo t before e
+    replies_by ours = λ k d within i reply taken own replied.
+        let m : MessageName = name_of (slice_index_or old.clients k d) (suc i) in (unanswered m reply own replied, stays m reply own replied)
+
+  pub replies_kept : AllLawful (RepliesStaySo t) log
+  replies_kept = along fixed log (RepliesStaySo t) replies_by our
