@@ -2,7 +2,7 @@
 use Rattle.std.specs.Prelude.{All, ◌≡◌, ◌⊎◌, ℕ, suc, Bool, true, false, ◌&&◌, bytes_eq, drop, find, length, if◌then◌else◌, List, [], ◌∷◌, Option, Some, None}
 use Rattle.std.proofs.Common.{refl, sym, ap, ◌∙◌, subst, arith, inl, inr}
 use Rattle.std.proofs.lemmas.Slice.Eq.{bytes_eq-Decides}
-use Rattle.mx_wire.specs.Log.{Log, is_open, link_of, written_of}
+use Rattle.mx_wire.specs.Log.{Log, is_open, written_of}
 use Rattle.mx_wire.specs.Moments.{AllLawful, AtEachMoment}
 use Rattle.mx_wire.specs.declared.entry.Entry.{Entry}
 use Rattle.ready_loop.specs.Drained.{write_dry}

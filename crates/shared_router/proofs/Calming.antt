@@ -22,7 +22,7 @@ use Rattle.tale_world.specs.Policy.{Rest, Waiter, wants_link}
 use Rattle.tale_world.specs.Served.{AreServed}
 use Rattle.tale_world.proofs.Policies.{none_opened}
 use Rattle.router_promises.specs.Closes.{is_full, is_in_the_way, is_joined, is_past_reset, is_spoilt, is_unlent, was_amiss, was_refused}
-use Rattle.router_promises.specs.Keys.{LinkKey, has_room_in, how_many, is_at_work, is_free, is_in, is_nobodys, is_opening, is_resting, key_of, numbered_from, waiting}
+use Rattle.router_promises.specs.Keys.{LinkKey, has_room_in, how_many, is_at_work, is_free, is_nobodys, is_opening, is_resting, key_of, numbered_from, waiting}
 use Rattle.router_promises.specs.Now.{Now, entry_now, is_here, link_now, now_at, wire_now}
 use Rattle.router_promises.specs.Running.{is_soft, status_in}
 use Rattle.router_promises.specs.Terms.{Terms}

@@ -1,5 +1,5 @@
 -- A link that was closed isn't opened again: so one that is open was lost only as its log says.
-use Rattle.std.specs.Prelude.{◌≡◌, Bool, true, false, ◌||◌, fold, if◌then◌else◌, List, [], ◌∷◌, ◌++◌}
+use Rattle.std.specs.Prelude.{◌≡◌, Bool, true, false, ◌||◌, fold, if◌then◌else◌, [], ◌∷◌, ◌++◌}
 use Rattle.std.specs.List.{list_any}
 use Rattle.std.proofs.Common.{refl, sym, ap, ◌∙◌, subst, append_assoc, append-nil}
 use Rattle.std.proofs.lemmas.Bool.{or_right}

@@ -1,5 +1,5 @@
 -- Where the loop waits, what began on a link to a server is whole; and where all is answered there and a session goes on, a question may begin.
-use Rattle.std.specs.Prelude.{◌≡◌, ◌<◌, ◌≤◌, ℕ, Bool, true, false, not, ◌&&◌, ◌||◌, drop, find, fold, is_some, length, take, if◌then◌else◌, List, [], ◌∷◌, ◌++◌, Option, Some, None}
+use Rattle.std.specs.Prelude.{◌≡◌, ◌<◌, ◌≤◌, ℕ, Bool, true, false, not, ◌||◌, drop, find, fold, is_some, length, take, if◌then◌else◌, List, [], ◌∷◌, ◌++◌, Option, Some, None}
 use Rattle.std.specs.Option.{option_map_or}
 use Rattle.std.proofs.Common.{refl, sym, ap, ◌∙◌, subst, arith}
 use Rattle.std.proofs.lemmas.List.{take-append-le, take_all}
@@ -33,7 +33,7 @@ use Rattle.shared_router.specs.Fixed.{Fixed, IsNumbered, setup_of}
 use Rattle.shared_router.specs.Known.{Known, known, link_by, setup_by}
 use Rattle.shared_router.specs.More.{More}
 use Rattle.shared_router.specs.Ours.{IsOurLog, IsOurs, MayWait}
-use Rattle.shared_router.specs.Owed.{Owed, begun_there, close_by, farewell, is_to_quit, nothing_owed, owed_on, owed_on_client, owed_on_server, owed_rest, owed_there}
+use Rattle.shared_router.specs.Owed.{Owed, begun_there, farewell, is_to_quit, nothing_owed, owed_on, owed_on_client, owed_on_server, owed_rest, owed_there}
 use Rattle.shared_router.specs.Shared.{final_terms, world_at}
 use Rattle.shared_router.specs.Spelt.{ReadsAsked, RunsRead, RunsReadSo, question_spelt}
 use Rattle.shared_router.specs.Waited.{AreWhole, AsItWaits, AskNothing, OwesNoStep}

@@ -5,7 +5,7 @@ use Rattle.std.proofs.Common.{refl, sym, ap, ◌∙◌, subst, append_assoc, app
 use Rattle.mx_base.specs.declared.names.LinkId.{LinkId}
 use Rattle.mx_base.specs.declared.tag.Tag.{Tag}
 use Rattle.mx_wire.specs.Growth.{bytes-idle, bytes-other, bytes-same}
-use Rattle.mx_wire.specs.Log.{Log, is_link, link_of, wrote_bytes, written_of}
+use Rattle.mx_wire.specs.Log.{Log, is_link, wrote_bytes, written_of}
 use Rattle.mx_wire.specs.Moments.{AtEachMoment, LawfulAfter, lawful-more}
 use Rattle.mx_wire.specs.Tells.{Fits}
 use Rattle.mx_wire.specs.declared.entry.Entry.{Entry}

@@ -1,7 +1,7 @@
 -- The parts of rest make the whole.
 use Rattle.std.specs.Prelude.{All, ◌≡◌, Bool, true, false, ◌||◌, List, [], ◌∷◌}
 use Rattle.std.specs.List.{list_any}
-use Rattle.std.proofs.Common.{refl, sym, ap, ◌∙◌}
+use Rattle.std.proofs.Common.{refl, sym}
 use Rattle.mx_base.specs.declared.names.LinkId.{LinkId}
 use Rattle.mx_wire.specs.Log.{Log, is_open, of_link}
 use Rattle.mx_wire.specs.declared.entry.Entry.{Entry}

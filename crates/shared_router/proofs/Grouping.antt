@@ -1,12 +1,12 @@
 -- What stands on links at each moment of a log of ours stands in its session's hostgroup, and so does whom a link carries.
-use Rattle.std.specs.Prelude.{◌≡◌, ◌<◌, ℕ, Bool, true, false, drop, length, take, ◌++◌}
-use Rattle.std.proofs.Common.{refl, sym, ap, ◌∙◌, subst, arith}
+use Rattle.std.specs.Prelude.{◌≡◌, ◌<◌, ℕ, Bool, true, false, drop, length, take}
+use Rattle.std.proofs.Common.{refl, sym, subst, arith}
 use Rattle.std.proofs.lemmas.List.{take-append-drop}
 use Rattle.mx_base.specs.declared.names.LinkId.{LinkId}
 use Rattle.mx_wire.specs.Log.{Log}
 use Rattle.private_model.specs.View.{Answered, Asked, Link, Quiet, Setup, Stage}
 use Rattle.log_story.specs.Plan.{Plan}
-use Rattle.log_story.specs.Tale.{Tale, first_tale, is_to_server, link_in}
+use Rattle.log_story.specs.Tale.{first_tale, is_to_server, link_in}
 use Rattle.tale_world.specs.Decided.{plan_of}
 use Rattle.tale_world.specs.Deciding.{World}
 use Rattle.tale_world.proofs.Lawfully.{IsSound, lost_in, sound_so}

@@ -1,5 +1,5 @@
 -- A message that is due, or whose statement stands on a link, has no reply; it is due in one session, or stands on one link. So a reply stays.
-use Rattle.std.specs.Prelude.{◌≡◌, ◌⊎◌, ℕ, Bool, true, false, if◌then◌else◌, List, ◌∷◌, Option, Some, None}
+use Rattle.std.specs.Prelude.{◌≡◌, ◌⊎◌, ℕ, Bool, true, false, if◌then◌else◌, ◌∷◌, Option, Some, None}
 use Rattle.std.proofs.Common.{refl, sym, ap, ◌∙◌, subst, inl, inr}
 use Rattle.private_model.proofs.Maps.{link_of, message_is, name_of, same_link, same_name}
 use Rattle.private_model.specs.Commands.{Command, Reply}

@@ -1,12 +1,11 @@
 -- The steps and preparations of our router are wanted.
-use Rattle.std.specs.Prelude.{◌≡◌, ◌+◌, ◌<◌, ℕ, suc, Bool, true, false, not, ◌&&◌, ◌||◌, bytes_eq, is_some, length, nat_eq, if◌then◌else◌, List, [], ◌∷◌, ◌++◌, Option, Some, None}
+use Rattle.std.specs.Prelude.{◌≡◌, ◌+◌, ◌<◌, ℕ, suc, Bool, true, false, not, ◌&&◌, ◌||◌, bytes_eq, length, nat_eq, List, [], ◌∷◌, ◌++◌, Option, Some, None}
 use Rattle.std.specs.List.{list_any}
-use Rattle.std.specs.Option.{option_map, option_map_or}
+use Rattle.std.specs.Option.{option_map_or}
 use Rattle.std.proofs.Common.{refl, sym, ap, ◌∙◌, subst, append_assoc, arith, inl, inr}
 use Rattle.std.proofs.lemmas.Bool.{and_from}
 use Rattle.mx_base.specs.declared.names.LinkId.{LinkId}
 use Rattle.mx_base.specs.declared.tag.Tag.{Tag}
-use Rattle.mx_base.specs.declared.tag.Tag.TheVariants as tags
 use Rattle.mx_wire.specs.Log.{Log}
 use Rattle.mx_wire.specs.Moments.{LawfulAfter}
 use Rattle.mx_wire.specs.Tells.{Fits}
@@ -15,19 +14,19 @@ use Rattle.mx_wire.specs.declared.entry.Entry.TheVariants as entry
 use Rattle.private_model.proofs.Maps.{name_of as named, same_number}
 use Rattle.private_model.specs.Commands.{Command, FieldList, InitDb, Prepare, Query, Quit, ReadId, Reset, Run, SetId}
 use Rattle.private_model.specs.Names.{Hostgroup, MessageName, SessionName}
-use Rattle.private_model.specs.Story.{Broke, Due, Happening, Own, Prep, Question, Sent, Statement, Sync, command_of, message_of}
+use Rattle.private_model.specs.Story.{Due, Own, Prep, Question, Statement, Sync, command_of, message_of}
 use Rattle.private_model.specs.View.{Carried, Joined, Lent, Link, Nobody, Setup, View, present}
 use Rattle.server_rule.specs.Classes.{Reads}
 use Rattle.session_state.specs.Pins.{is_pinned}
-use Rattle.log_story.specs.Plan.{Asks, Closes, Plan, Resets, Route, StepText, own_at}
-use Rattle.log_story.specs.Servers.{begun_on, due_in, is_quiet, may_begin, of_due, or_broke}
-use Rattle.log_story.specs.Tale.{Tale, is_to_server, view_of}
+use Rattle.log_story.specs.Plan.{Asks, Closes, Plan, Resets, Route, StepText}
+use Rattle.log_story.specs.Servers.{is_quiet, may_begin}
+use Rattle.log_story.specs.Tale.{is_to_server, view_of}
 use Rattle.tale_world.specs.Decided.{Agrees, plan_of}
 use Rattle.tale_world.specs.Deciding.{World}
 use Rattle.tale_world.specs.Policy.{Readied, next_question}
 use Rattle.tale_world.specs.Tests.{is_joined, is_lent, is_nobody, is_own_step, is_set, is_step_of, may_begin_question}
-use Rattle.tale_world.specs.Wishes.{Says, Sends, Wish, before_question, wish_for}
-use Rattle.router_promises.specs.Dues.{is_due, is_unsent}
+use Rattle.tale_world.specs.Wishes.{Says, Sends, Wish, before_question}
+use Rattle.router_promises.specs.Dues.{is_due}
 use Rattle.router_promises.specs.Keys.{LinkKey, is_key, key_for, key_of}
 use Rattle.router_promises.specs.Now.{Now, now_at, present_now, wire_now}
 use Rattle.router_promises.specs.Steps.{is_prep_wanted, is_wanted, live_keys, some_wants, wants_prepared, wants_there}
@@ -39,10 +38,10 @@ use Rattle.shared_router.specs.Leads.{IsCleared, IsWantedThere, LeadsAs, LeadsFo
 use Rattle.shared_router.specs.Lends.{readied_now}
 use Rattle.shared_router.specs.More.{More, now_of, terms_of}
 use Rattle.shared_router.specs.Ours.{IsOurs}
-use Rattle.shared_router.specs.Shared.{final_terms, shared, world_at}
+use Rattle.shared_router.specs.Shared.{final_terms, world_at}
 use Rattle.shared_router.specs.Waits.{Waits}
 use Rattle.shared_router.specs.Wishes.{is_present, kept_due, ordinal_due, standing_on, tag_of, texts, wish_step, wish_tag}
-use Rattle.shared_router.proofs.Beginning.{isnt, left_of, no_some, right_of, says_mute, some_of}
+use Rattle.shared_router.proofs.Beginning.{isnt, no_some, right_of, says_mute}
 use Rattle.shared_router.proofs.Clearing.{IsOfMany, prep_clears, state_clears}
 use Rattle.shared_router.proofs.Decidedly.{AreDecided, GoesTo}
 use Rattle.shared_router.proofs.Lasting.{alike_at}

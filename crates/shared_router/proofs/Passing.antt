@@ -1,5 +1,5 @@
 -- What begins is a QUIT, or what is wished; so each entry of ours passes the test, where the step that begins wasn't decided before.
-use Rattle.std.specs.Prelude.{◌≡◌, ◌<◌, ℕ, Bool, true, false, not, ◌&&◌, find, is_some, length, nat_eq, if◌then◌else◌, unwrap_or, List, [], ◌∷◌, ◌++◌, Option, Some, None}
+use Rattle.std.specs.Prelude.{◌≡◌, ◌<◌, ℕ, Bool, true, false, not, ◌&&◌, find, length, nat_eq, if◌then◌else◌, unwrap_or, List, [], ◌∷◌, ◌++◌, Option, Some, None}
 use Rattle.std.specs.Option.{option_map_or}
 use Rattle.std.proofs.Common.{refl, sym, ap, ◌∙◌, subst, arith}
 use Rattle.std.proofs.lemmas.Bool.{and_from, and_parts}
@@ -37,7 +37,7 @@ use Rattle.shared_router.specs.Ours.{IsOurs, Writes}
 use Rattle.shared_router.specs.Owed.{Owed, closes, farewell, is_whole_step, nothing_owed, owed_next, owed_on_client, owed_there, step_by}
 use Rattle.shared_router.specs.Shared.{shared, world_at}
 use Rattle.shared_router.specs.Wishes.{standing_on, wish_on, wish_step, wish_tag}
-use Rattle.shared_router.proofs.Beginning.{and_no, isnt, says_mute}
+use Rattle.shared_router.proofs.Beginning.{and_no, isnt}
 use Rattle.shared_router.proofs.Decidedly.{AreDecided}
 use Rattle.shared_router.proofs.Parting.{tale_then}
 use Rattle.shared_router.proofs.Speaking.{tells, tells_same, told_of}

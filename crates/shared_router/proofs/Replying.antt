@@ -1,5 +1,5 @@
 -- A reply to a message stays at each entry, and what has one isn't given up.
-use Rattle.std.specs.Prelude.{◌≡◌, ◌+◌, ◌<◌, ◌≤◌, ℕ, zero, suc, Bool, true, false, ◌&&◌, ◌||◌, not, fold, is_some, length, nat_eq, nat_le, if◌then◌else◌, slice_get, slice_index_or, List, [], ◌∷◌, ◌++◌, Option, Some, None}
+use Rattle.std.specs.Prelude.{◌≡◌, ◌<◌, ◌≤◌, ℕ, zero, suc, Bool, true, false, ◌&&◌, ◌||◌, not, fold, is_some, length, nat_eq, nat_le, if◌then◌else◌, slice_get, slice_index_or, List, [], ◌∷◌, ◌++◌, Option, Some, None}
 use Rattle.std.specs.Option.{option_and_then, option_map_or}
 use Rattle.std.proofs.Common.{refl, sym, ap, ◌∙◌, subst, append_assoc, arith}
 use Rattle.std.proofs.lemmas.Bool.{and_parts, leb-false, leb-true}
@@ -38,7 +38,7 @@ use Rattle.shared_router.proofs.Parting.{even_at, tale_then, world_more}
 use Rattle.shared_router.proofs.Reasons.{given_then}
 use Rattle.shared_router.proofs.Since.{step-moment}
 use Rattle.shared_router.proofs.Waking.{held_then}
-use Rattle.shared_router.proofs.Walks.{Comes, Keeping, Says, entry_keeps, freeing_keeps, writes_keeps}
+use Rattle.shared_router.proofs.Walks.{Comes, Keeping, Says, entry_keeps, writes_keeps}
 
 module _ (setup : Setup) (plan : Plan) (m : MessageName) (reply : Reply) where
   abbrev Has : Tale → Type 0

@@ -20,7 +20,7 @@ use Rattle.server_side.specs.Login.{opening, said_of}
 use Rattle.log_story.specs.Honest.{IsFront, IsWritten, number_for}
 use Rattle.log_story.specs.Plan.{Asks, Closes, Plan, Resets, StepText, text_payload}
 use Rattle.log_story.specs.Said.{Begins, IsNothing, IsQuestion, IsSaid, IsStepText, SaysSo}
-use Rattle.log_story.specs.Servers.{begun_on, is_quiet, may_begin, quits_for, step_for}
+use Rattle.log_story.specs.Servers.{is_quiet, may_begin, quits_for, step_for}
 use Rattle.log_story.specs.Tale.{Client, Tale, Wire, is_to_server, link_in, view_of}
 use Rattle.log_story.specs.Telling.{tale_step}
 use Rattle.tale_world.specs.Decided.{Agrees, plan_of}

@@ -1,6 +1,6 @@
 -- What our router sends to servers is due, takes back what was done, or is said for a cause.
-use Rattle.std.specs.Prelude.{◌≡◌, ◌&&◌, ◌<◌, ℕ, Bool, true, false, not, find, fold, is_some, length, nat_eq, if◌then◌else◌, List, [], ◌∷◌, ◌++◌, Option, Some, None}
-use Rattle.std.specs.Option.{option_map, option_map_or}
+use Rattle.std.specs.Prelude.{◌≡◌, ◌&&◌, ◌<◌, ℕ, Bool, true, false, not, fold, is_some, length, nat_eq, if◌then◌else◌, List, [], ◌∷◌, ◌++◌, Option, Some, None}
+use Rattle.std.specs.Option.{option_map_or}
 use Rattle.std.proofs.Common.{refl, sym, ap, ◌∙◌, subst, append_assoc}
 use Rattle.mx_base.specs.declared.names.LinkId.{LinkId}
 use Rattle.mx_base.specs.declared.tag.Tag.{Tag}
@@ -10,35 +10,31 @@ use Rattle.mx_wire.specs.Moments.{LawfulAfter, lawful-more}
 use Rattle.mx_wire.specs.Tells.{Fits}
 use Rattle.mx_wire.specs.declared.entry.Entry.{Entry}
 use Rattle.mx_wire.specs.declared.entry.Entry.TheVariants as entry
-use Rattle.packet_frame.specs.Packets.{spelling}
 use Rattle.private_model.proofs.Maps.{link_of}
 use Rattle.private_model.specs.Commands.{Command, FieldList, InitDb, Prepare, Query, Quit, ReadId, Reset, Run, SetId}
 use Rattle.private_model.specs.Names.{ClientNo, SessionName}
 use Rattle.private_model.specs.Story.{Broke, Capture, Due, End, Happening, Own, Prep, Question, Sent, Statement, Sync, is_link_id, message_of}
 use Rattle.private_model.specs.View.{Setup, View, present}
 use Rattle.server_rule.specs.Servers.{is_some_of}
-use Rattle.log_story.specs.Honest.{IsFront}
-use Rattle.log_story.specs.Plan.{Asks, Closes, Plan, Resets, Route, StepText, own_at, text_payload}
-use Rattle.log_story.specs.Servers.{begun_by, begun_on, due_in, may_begin, of_due, or_broke, quits_for, written_in}
-use Rattle.log_story.specs.Servers.{is_quiet}
-use Rattle.log_story.specs.Tale.{Client, Tale, first_tale, is_reset_step, is_to_server, view_of}
+use Rattle.log_story.specs.Plan.{Asks, Closes, Plan, Resets, Route, StepText, own_at}
+use Rattle.log_story.specs.Servers.{begun_by, begun_on, due_in, may_begin, of_due, or_broke, quits_for}
+use Rattle.log_story.specs.Tale.{Tale, first_tale, is_to_server, view_of}
 use Rattle.log_story.specs.Telling.{tale_step}
 use Rattle.tale_world.specs.Deciding.{World}
-use Rattle.tale_world.specs.Policy.{next_question}
 use Rattle.tale_world.specs.Tested.{IsTestedFrom, Passes}
 use Rattle.tale_world.specs.Tests.{may_tell}
-use Rattle.tale_world.specs.Wishes.{Says, Sends, Wish, wish_for}
+use Rattle.tale_world.specs.Wishes.{Says, Sends, Wish}
 use Rattle.router_promises.specs.Closes.{MayQuit, is_past_reset}
 use Rattle.router_promises.specs.Dues.{is_due, is_kept_due}
-use Rattle.router_promises.specs.Now.{Now, now_at, was_lost, wire_now}
+use Rattle.router_promises.specs.Now.{Now, now_at, wire_now}
 use Rattle.router_promises.specs.Steps.{is_for_due}
 use Rattle.router_promises.specs.Terms.{Terms, plan_in, setup_in, tale_at}
 use Rattle.shared_router.specs.Fixed.{Fixed, IsNumbered, setup_of}
 use Rattle.shared_router.specs.Known.{Known, known, link_by, setup_by}
 use Rattle.shared_router.specs.Lends.{readied_now}
 use Rattle.shared_router.specs.More.{More, now_of}
-use Rattle.shared_router.specs.Ours.{IsOurs, Writes}
-use Rattle.shared_router.specs.Owed.{Owed, close_by, closes, farewell, is_whole_step, nothing_owed, owed_next, owed_on_client, owed_there, step_by}
+use Rattle.shared_router.specs.Ours.{IsOurs}
+use Rattle.shared_router.specs.Owed.{close_by, closes}
 use Rattle.shared_router.specs.Sends.{MaySay, SendsAs, SendsFor, SendsSo}
 use Rattle.shared_router.specs.Shared.{final_terms, world_at}
 use Rattle.shared_router.specs.Wishes.{kept_due, standing_on, tag_of, texts, wish_on, wish_step, wish_tag}

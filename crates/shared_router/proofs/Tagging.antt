@@ -1,10 +1,10 @@
 -- What our router writes has its tags by the last plan.
-use Rattle.std.specs.Prelude.{◌≡◌, ◌<◌, ℕ, suc, take, Bool, true, false, not, ◌&&◌, ◌||◌, bytes_eq, find, length, nat_eq, if◌then◌else◌, List, [], ◌∷◌, ◌++◌, unwrap_or, is_some}
+use Rattle.std.specs.Prelude.{◌≡◌, ◌<◌, ℕ, suc, take, Bool, true, false, not, ◌&&◌, ◌||◌, bytes_eq, find, length, if◌then◌else◌, List, [], ◌∷◌, ◌++◌, is_some}
 use Rattle.std.specs.Prelude.{cond, drop, Option, Some, None}
 use Rattle.std.specs.List.{list_any}
 use Rattle.std.specs.Option.{option_map_or, option_or}
-use Rattle.std.proofs.Common.{refl, sym, ap, ◌∙◌, subst, append_assoc, arith}
-use Rattle.std.proofs.lemmas.Bool.{and_from, or_parts}
+use Rattle.std.proofs.Common.{refl, sym, ap, ◌∙◌, subst, append_assoc}
+use Rattle.std.proofs.lemmas.Bool.{or_parts}
 use Rattle.std.proofs.lemmas.Slice.Eq.{bytes_eq-Decides}
 use Rattle.hostgroups.specs.Servers.{is_known}
 use Rattle.hostgroups.specs.declared.server.Server.{Server}
@@ -17,7 +17,7 @@ use Rattle.mx_wire.specs.Tells.{Fits, MayWrite}
 use Rattle.mx_wire.specs.declared.entry.Entry.{Entry}
 use Rattle.mx_wire.specs.declared.entry.Entry.TheVariants as entry
 use Rattle.packet_frame.specs.Packets.{spelling}
-use Rattle.private_model.proofs.Maps.{link_of, same_link, same_number}
+use Rattle.private_model.proofs.Maps.{link_of}
 use Rattle.private_model.specs.Commands.{Quit}
 use Rattle.private_model.specs.Story.{Capture, End, Own, Prep, Statement, Sync, is_link_id}
 use Rattle.server_rule.specs.Servers.{is_some_of}
@@ -28,8 +28,6 @@ use Rattle.log_story.specs.Tale.{Client, Tale, is_reset_step, is_to_server, link
 use Rattle.log_story.specs.Telling.{tale_step}
 use Rattle.tale_world.specs.Deciding.{World}
 use Rattle.tale_world.specs.Wishes.{Says, Sends, Wish}
-use Rattle.tale_world.specs.World.{with_step}
-use Rattle.tale_world.proofs.Agreeing.{filled-there}
 use Rattle.tale_world.proofs.Following as following
 use Rattle.tale_world.proofs.Following.{stepped}
 use Rattle.router_promises.proofs.Saying.{now-tale}

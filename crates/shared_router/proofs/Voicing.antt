@@ -1,13 +1,13 @@
 -- What is wished on a link begins there as it is spelt, in its session's hostgroup.
-use Rattle.std.specs.Prelude.{◌≡◌, Bool, true, false, not, ◌&&◌, ◌||◌, if◌then◌else◌, List, ℕ, Option, Some, None}
+use Rattle.std.specs.Prelude.{◌≡◌, true, false, List, ℕ, Option, Some, None}
 use Rattle.std.specs.Option.{option_map, option_map_or}
-use Rattle.std.proofs.Common.{refl, sym, ap, ◌∙◌, subst}
+use Rattle.std.proofs.Common.{refl, ap, subst}
 use Rattle.mx_base.specs.declared.names.LinkId.{LinkId}
 use Rattle.mx_base.specs.declared.tag.Tag.TheVariants as tags
 use Rattle.private_model.specs.Commands.{Command, FieldList, InitDb, Prepare, Query, Quit, ReadId, Reset, Run, SetId}
 use Rattle.private_model.specs.Names.{Hostgroup, SessionName}
 use Rattle.private_model.specs.Story.{Capture, Due, End, Own, Prep, Question, Statement, Sync, command_of}
-use Rattle.private_model.specs.View.{Carried, Link, Setup, View, is_quit}
+use Rattle.private_model.specs.View.{Carried, Link, Setup, is_quit}
 use Rattle.log_story.specs.Honest.{IsFront}
 use Rattle.log_story.specs.Plan.{Asks, Plan, StepText}
 use Rattle.log_story.specs.Tale.{view_of}

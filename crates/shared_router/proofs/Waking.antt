@@ -35,7 +35,7 @@ use Rattle.shared_router.proofs.Lasting.{alike_at}
 use Rattle.shared_router.proofs.Later.{AreAlike, waiting_same}
 use Rattle.shared_router.proofs.Leaving.{ends_same}
 use Rattle.shared_router.proofs.Looked.{IsLooked, each-so, looks_at}
-use Rattle.shared_router.proofs.Parting.{even_at, world_more}
+use Rattle.shared_router.proofs.Parting.{even_at}
 use Rattle.shared_router.proofs.Prompting.{IsReached, first_reached, reached_next}
 use Rattle.shared_router.proofs.Sparing.{agrees_here, any_same, ended_same, room_same, was_same}
 use Rattle.shared_router.proofs.Staying.{log_at}

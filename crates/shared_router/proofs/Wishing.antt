@@ -1,7 +1,7 @@
 -- What is wished on a link is made of a question that may go there; and what is due there waits, and isn't answered.
 use Rattle.std.specs.Prelude.{◌≡◌, Bool, true, false, ◌||◌, not, is_some, if◌then◌else◌, List, ℕ, Option, Some, None}
 use Rattle.std.specs.Option.{option_and_then, option_map, option_map_or}
-use Rattle.std.proofs.Common.{refl, ap, sym, ◌∙◌, subst}
+use Rattle.std.proofs.Common.{refl, sym, subst}
 use Rattle.std.proofs.lemmas.Bool.{and_parts}
 use Rattle.mx_base.specs.declared.names.LinkId.{LinkId}
 use Rattle.private_model.specs.Names.{SessionName}
@@ -17,7 +17,7 @@ use Rattle.router_promises.specs.Terms.{plan_in}
 use Rattle.shared_router.specs.Known.{Known, link_by, present_by, setup_by, view_by}
 use Rattle.shared_router.specs.Lends.{readied_now}
 use Rattle.shared_router.specs.Waits.{Waits}
-use Rattle.shared_router.specs.Wishes.{asked_on, if_may, is_barred, is_present, kept_due, may_go, standing_on, texts, wish_on}
+use Rattle.shared_router.specs.Wishes.{asked_on, if_may, is_present, kept_due, may_go, standing_on, texts, wish_on}
 use Rattle.shared_router.proofs.Beginning.{no_some, some_of}
 
 isnt : {A : Type 0} → true ≡ false → A

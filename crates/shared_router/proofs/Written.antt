@@ -17,14 +17,13 @@ use Rattle.server_side.specs.Login.{Opening, Goes, LogsIn, Fails, opening}
 use Rattle.log_story.specs.Clients.{client_leaves}
 use Rattle.log_story.specs.Plan.{Plan}
 use Rattle.log_story.specs.Servers.{begins, entered_by, heard_by, hears, kind_by, may_begin, quits_for, read_as, reset_by, runs_first, step_for, with_run, writes}
-use Rattle.log_story.specs.Tale.{Client, Tale, Wire, first_tale, is_reset_step, is_to_server, link_in, new_wire, with_wire}
+use Rattle.log_story.specs.Tale.{Client, Tale, Wire, is_reset_step, is_to_server, link_in, new_wire, with_wire}
 use Rattle.log_story.specs.Telling.{is_lost_or_left, server_says, tale_step, told, wire_with}
 use Rattle.tale_world.proofs.Links.{step_of}
 use Rattle.router_promises.specs.Tags.{last_tag, tag_step}
 use Rattle.shared_router.specs.Fixed.{Fixed, setup_of}
 use Rattle.shared_router.specs.Shared.{world_at}
 use Rattle.shared_router.proofs.Growing.{tale_so}
-use Rattle.shared_router.proofs.Parting.{fold_more}
 
 -- what a wire may become as bytes are read there
 pub record IsReadOn (P : Wire → Type 0) (w : Wire) : Type 0 where
