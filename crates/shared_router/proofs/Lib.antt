@@ -89,6 +89,7 @@ pub mod Blank
 pub mod Starting
 pub mod Wishing
 pub mod Passing
+pub mod Going
 pub mod Grouping
 pub mod Lonely
 pub mod Replying

@@ -1,24 +1,19 @@
 -- A reply to a message stays at each entry, and what has one isn't given up.
-use Rattle.std.specs.Prelude.{◌≡◌, ◌<◌, ◌≤◌, ℕ, zero, suc, Bool, true, false, ◌&&◌, ◌||◌, not, fold, is_some, length, nat_eq, nat_le, if◌then◌else◌, slice_get, slice_index_or, List, [], ◌∷◌, ◌++◌, Option, Some, None}
-use Rattle.std.specs.Option.{option_and_then, option_map_or}
+use Rattle.std.specs.Prelude.{◌≡◌, ◌<◌, ◌≤◌, ℕ, suc, Bool, true, false, not, is_some, nat_le, if◌then◌else◌, slice_index_or, List, [], ◌∷◌, ◌++◌, Option, Some, None}
+use Rattle.std.specs.Option.{option_and_then}
 use Rattle.std.proofs.Common.{refl, sym, ap, ◌∙◌, subst, append_assoc, arith}
 use Rattle.std.proofs.lemmas.Bool.{and_parts, leb-false, leb-true}
-use Rattle.mx_base.specs.declared.names.LinkId.{LinkId}
 use Rattle.mx_wire.specs.Log.{Log}
 use Rattle.mx_wire.specs.Moments.{AllLawful}
 use Rattle.mx_wire.specs.declared.entry.Entry.{Entry}
 use Rattle.mx_wire.specs.declared.entry.Entry.TheVariants as entry
-use Rattle.packet_frame.specs.Packets.{Framed}
-use Rattle.private_model.specs.Commands.{Command, Reply}
-use Rattle.private_model.specs.Names.{Hostgroup, MessageName}
-use Rattle.private_model.specs.Story.{BecameDue, Freed, Left}
-use Rattle.private_model.specs.View.{Setup, View}
-use Rattle.log_story.specs.Clients.{client_goes_on, clients_are_ended, clients_go_on, copied, due_by, ended_if_now, is_event_of, is_up, next_taken, taken_by, taken_up}
-use Rattle.log_story.specs.Executes.{Request, requested}
-use Rattle.log_story.specs.Owed.{messages, name_of}
-use Rattle.log_story.specs.Plan.{OwnAnswer, Plan, Route, com_reset, gives_up, is_before, is_now, own_at}
-use Rattle.log_story.specs.Servers.{freed_if_done, is_done, links_are_freed}
-use Rattle.log_story.specs.Tale.{Client, Tale, counted, link_in, tell, view_of, with_client}
+use Rattle.private_model.specs.Commands.{Reply}
+use Rattle.private_model.specs.Names.{MessageName}
+use Rattle.private_model.specs.Story.{Happening, Heard, LoggedIn, Ran, Sent, Unprepared}
+use Rattle.private_model.specs.View.{Setup}
+use Rattle.log_story.specs.Owed.{name_of}
+use Rattle.log_story.specs.Plan.{OwnAnswer, Plan, own_at}
+use Rattle.log_story.specs.Tale.{Tale, tell, view_of}
 use Rattle.log_story.specs.Telling.{tale_step, told}
 use Rattle.tale_world.specs.Deciding.{World}
 use Rattle.router_promises.proofs.Saying.{now-tale}
@@ -31,8 +26,8 @@ use Rattle.shared_router.specs.Onward.{RepliesStaySo}
 use Rattle.shared_router.specs.Ours.{IsOurLog, IsOurs}
 use Rattle.shared_router.specs.Shared.{final_terms, world_at}
 use Rattle.shared_router.proofs.Along.{IsAt, along}
-use Rattle.shared_router.proofs.Dues.{either}
 use Rattle.shared_router.proofs.Furthering.{tale_more}
+use Rattle.shared_router.proofs.Going.{IsCalm, Keeps, step_keeps}
 use Rattle.shared_router.proofs.Lonely.{Lone, Replied, more_lone, reply_stays}
 use Rattle.shared_router.proofs.Parting.{even_at, tale_then, world_more}
 use Rattle.shared_router.proofs.Reasons.{given_then}
@@ -44,64 +39,16 @@ module _ (setup : Setup) (plan : Plan) (m : MessageName) (reply : Reply) where
   abbrev Has : Tale → Type 0
   Has tale = Replied setup m reply tale.story
 
-  -- Messages are taken up.
+  calm_has : (tale : Tale) (e : Happening) → IsCalm e → Has tale → Has (tell e tale)
+  calm_has tale (LoggedIn link server account) calm has = absurd calm
+  calm_has tale (Sent link question) calm has = absurd calm
+  calm_has tale (Ran link) calm has = absurd calm
+  calm_has tale (Heard link other) calm has = absurd calm
+  calm_has tale (Unprepared link number) calm has = absurd calm
+  calm_has tale _ calm has = has
 
-  copied_has : (message : MessageName) (command : Command) (mirror : Option Hostgroup) (tale : Tale) → Has tale → Has (copied message command mirror tale)
-  copied_has message command None tale has = has
-  copied_has message command (Some hostgroup) tale has = has
-
-  due_has : (client : Client) (i : ℕ) (route : Route) (request : Option Request) (tale : Tale) → Has tale → Has (due_by client i route request tale)
-  due_has client i route None tale has = has
-  due_has client i route (Some request) tale has =
-      copied_has (name_of client i) request.command route.mirror (tell (BecameDue client.number route.hostgroup i request.key request.command route.multiplex) tale) has
-
-  taken_has : (client : Client) (i : ℕ) (message : Framed) (route : Option Route) (tale : Tale) → Has tale → Has (taken_by setup plan client i message route tale)
-  taken_has client i message None tale has =
-      either Has (nat_eq (slice_index_or message.payload 0 0) com_reset) (tell (Left client.number) tale) tale has has
-  taken_has client i message (Some route) tale has = due_has client i route (requested setup (view_of setup tale) plan client i route message.payload) tale has
-
-  abbrev HasIn : Option Tale → Type 0
-  HasIn None = Unit {0}
-  HasIn (Some tale) = Has tale
-
-  next_has : (client : Client) (found : Option Framed) (tale : Tale) → Has tale → HasIn (next_taken setup plan client found tale)
-  next_has client None tale has = tt
-  next_has client (Some message) tale has =
-      either HasIn (is_up setup plan client tale)
-      (Some (taken_by setup plan client (suc client.taken) message (plan.routes (name_of client (suc client.taken))) tale)) None
-      (taken_has client (suc client.taken) message (plan.routes (name_of client (suc client.taken))) tale has) tt
-
-  others_has : (others : Tale → Tale) (found : Option Tale) (old : Tale) → Has old → HasIn found → ((tale : Tale) → Has tale → Has (others tale))
-      → Has (option_map_or others found old)
-  others_has others None old has in_it keeps = has
-  others_has others (Some tale) old has in_it keeps = keeps tale in_it
-
-  up_has : (most : ℕ) (client : Client) (tale : Tale) → Has tale → Has (taken_up most setup plan client tale)
-  up_has zero client tale has = has
-  up_has (suc most) client tale has =
-      let onward : Client = record client { taken = suc client.taken } in
-      others_has (λ other. taken_up most setup plan onward (with_client onward other)) (next_taken setup plan client (slice_get (messages plan client) client.taken) tale) tale
-      has (next_has client (slice_get (messages plan client) client.taken) tale has)
-      (λ other in_it. up_has most onward (with_client onward other) in_it)
-
-  going_has : (view : View) (e : Entry) (xs : List Client) (tale : Tale) → Has tale → Has (fold (client_goes_on setup plan view e) tale xs)
-  going_has view e [] tale has = has
-  going_has view e (x ∷ xs) tale has =
-      going_has view e xs (client_goes_on setup plan view e tale x)
-      (either Has ((is_event_of view x e || gives_up plan tale.moment (name_of x x.taken)) && not (is_before tale.moment (plan.ends x.number)))
-      (taken_up (length (messages plan x)) setup plan x tale) tale (up_has (length (messages plan x)) x tale has) has)
-
-  -- Clients are ended, and links given back.
-
-  ended_has : (xs : List Client) (tale : Tale) → Has tale → Has (fold (ended_if_now plan) tale xs)
-  ended_has [] tale has = has
-  ended_has (x ∷ xs) tale has = ended_has xs (ended_if_now plan tale x) (either Has (is_now tale.moment (plan.ends x.number)) (tell (Left x.number) tale) tale has has)
-
-  freed_has : (xs : List LinkId) (tale : Tale) → Has tale → Has (fold (freed_if_done setup plan) tale xs)
-  freed_has [] tale has = has
-  freed_has (x ∷ xs) tale has =
-      freed_has xs (freed_if_done setup plan tale x)
-      (either Has (is_done plan tale.moment (view_of setup tale) (tale.wires x) (link_in setup tale x)) (tell (Freed x) tale) tale has has)
+  keeps : Keeps Has
+  keeps = record { tells = calm_has; moves = λ tale client has. has; counts = λ tale has. has }
 
   -- An entry is told.
 
@@ -123,12 +70,7 @@ module _ (setup : Setup) (plan : Plan) (m : MessageName) (reply : Reply) where
     says _ = tt
 
   pub step_has : (tale : Tale) (e : Entry) → Lone setup tale.story → Has tale → Has (tale_step setup plan tale e)
-  step_has tale e lone has =
-      let first : Tale = counted (told setup plan tale e) in
-      let free : Tale = links_are_freed setup plan first in
-      let gone : Tale = clients_go_on setup plan (view_of setup tale) e free in
-      let ended : Tale = clients_are_ended plan gone in
-      freed_has ended.links ended (ended_has gone.clients gone (going_has (view_of setup tale) e free.clients free (freed_has first.links first (told_has tale e lone has))))
+  step_has tale e lone has = step_keeps setup plan Has keeps tale e (told_has tale e lone has)
 
 -- What is answered by the router at an entry was in work before it, so that it had no reply.
 

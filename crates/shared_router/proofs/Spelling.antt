@@ -1,5 +1,5 @@
 -- What stands on links to servers is a front of its one spelling: what a tale's steps keep of that.
-use Rattle.std.specs.Prelude.{◌≡◌, ◌<◌, ℕ, ◌-◌, Bool, true, false, not, ◌||◌, fold, if◌then◌else◌, length, take, List, [], ◌∷◌, ◌++◌, Option, Some, None}
+use Rattle.std.specs.Prelude.{◌≡◌, ◌<◌, ℕ, ◌-◌, Bool, true, false, not, ◌||◌, if◌then◌else◌, length, take, List, [], ◌∷◌, ◌++◌, Option, Some, None}
 use Rattle.std.specs.List.{list_any}
 use Rattle.std.proofs.Common.{refl, sym, ap, ◌∙◌, subst, append_assoc}
 use Rattle.mx_base.specs.declared.names.LinkId.{LinkId}
@@ -17,16 +17,16 @@ use Rattle.server_side.specs.Account.{Account as Login}
 use Rattle.server_side.specs.Laws.{opening-said}
 use Rattle.server_side.specs.Login as login
 use Rattle.server_side.specs.Login.{Goes, LogsIn, Opening, opening, said_of}
-use Rattle.log_story.specs.Clients.{client_leaves, clients_are_ended, ended_if_now}
 use Rattle.log_story.specs.Honest.{IsFront, number_for}
-use Rattle.log_story.specs.Plan.{Asks, Closes, Plan, Resets, StepText, is_now, step_payload, text_payload}
-use Rattle.log_story.specs.Servers.{entered_by, freed_if_done, heard_by, hears, is_done, is_quiet, kind_by, links_are_freed, logged_in_as, read_as, reply_id, reads_on, reset_by, runs_first, with_run}
-use Rattle.log_story.specs.Tale.{Client, Tale, Wire, is_reset_step, is_to_server, link_in, tell, view_of}
-use Rattle.log_story.specs.Telling.{is_lost_or_left, server_says, wire_with}
+use Rattle.log_story.specs.Plan.{Asks, Closes, Plan, Resets, StepText, step_payload, text_payload}
+use Rattle.log_story.specs.Servers.{entered_by, heard_by, hears, is_quiet, kind_by, logged_in_as, read_as, reply_id, reads_on, reset_by, runs_first, with_run}
+use Rattle.log_story.specs.Tale.{Tale, Wire, is_reset_step, is_to_server, link_in, tell, view_of}
+use Rattle.log_story.specs.Telling.{server_says, wire_with}
 use Rattle.router_promises.specs.Router.{Router}
 use Rattle.router_promises.specs.Running.{hostgroup_of}
 use Rattle.router_promises.specs.Tags.{StandsIn, hostgroup_asked}
 use Rattle.shared_router.specs.Spelt.{spelt}
+use Rattle.shared_router.proofs.Going.{IsCalm}
 
 -- a STMT_CLOSE or a STMT_RESET stands there
 abbrev pub is_mute : Option StepText → Bool
@@ -132,14 +132,6 @@ put_like of links k value same l = by_test (is_link_id l k) refl where
   by_test false other = refl
 
 -- Happenings that leave what stands on links.
-
-abbrev pub IsCalm : Happening → Type 0
-IsCalm (LoggedIn link server account) = ⊥
-IsCalm (Sent link question) = ⊥
-IsCalm (Ran link) = ⊥
-IsCalm (Heard link reply) = ⊥
-IsCalm (Unprepared link number) = ⊥
-IsCalm _ = Unit {0}
 
 -- who was of a hostgroup is, or nobody is carried
 abbrev KeepsGroup : (old new : Carried) → Type 0
@@ -250,42 +242,6 @@ module _ (router : Router) (setup : Setup) where
     one_on tale k wire story apart now all =
         one_changes tale.links tale.wires (put is_link_id tale.wires k wire) tale.story story k (λ l other. other_put tale.wires k wire l other) apart
         (λ there. subst (λ (w : Wire). Stood router w (plan.logins k) (links_in story k)) (sym (put_there tale.wires k wire)) (now there)) all
-
-    -- Folds of what is calm.
-
-    pub ifs : {A : Type 0} (P : A → Type 0) (b : Bool) (x y : A) → P x → P y → P (if b then x else y)
-    ifs P true x y first second = first
-    ifs P false x y first second = second
-
-    freed_stand : (xs : List LinkId) (tale : Tale) → AllOn tale → AllOn (fold (freed_if_done setup plan) tale xs)
-    freed_stand [] tale all = all
-    freed_stand (x ∷ xs) tale all =
-        freed_stand xs (freed_if_done setup plan tale x)
-        (ifs AllOn (is_done plan tale.moment (view_of setup tale) (tale.wires x) (link_in setup tale x)) (tell (Freed x) tale) tale
-        (tell_calm tale.links tale.wires tale.story (Freed x) tt all) all)
-
-    ended_stand : (xs : List Client) (tale : Tale) → AllOn tale → AllOn (fold (ended_if_now plan) tale xs)
-    ended_stand [] tale all = all
-    ended_stand (x ∷ xs) tale all =
-        ended_stand xs (ended_if_now plan tale x)
-        (ifs AllOn (is_now tale.moment (plan.ends x.number)) (tell (Left x.number) tale) tale (tell_calm tale.links tale.wires tale.story (Left x.number) tt all) all)
-
-    left_stand : (link : LinkId) (xs : List Client) (tale : Tale) → AllOn tale → AllOn (fold (client_leaves link) tale xs)
-    left_stand link [] tale all = all
-    left_stand link (x ∷ xs) tale all =
-        left_stand link xs (client_leaves link tale x)
-        (ifs AllOn (is_link_id x.link link) (tell (Left x.number) tale) tale (tell_calm tale.links tale.wires tale.story (Left x.number) tt all) all)
-
-    pub freeing_stand : (tale : Tale) → AllOn tale → AllOn (links_are_freed setup plan tale)
-    freeing_stand tale all = freed_stand tale.links tale all
-
-    pub ending_stand : (tale : Tale) → AllOn tale → AllOn (clients_are_ended plan tale)
-    ending_stand tale all = ended_stand tale.clients tale all
-
-    pub losing_stand : (link : LinkId) (tale : Tale) → AllOn tale → AllOn (is_lost_or_left link tale)
-    losing_stand link tale all =
-        ifs AllOn (is_to_server tale link) (tell (Gone link) tale) (fold (client_leaves link) tale tale.clients)
-        (tell_calm tale.links tale.wires tale.story (Gone link) tt all) (left_stand link tale.clients tale all)
 
     -- A run.
 

@@ -1,32 +1,27 @@
 -- What stands on links to servers is a front of its one spelling, behind each entry.
-use Rattle.std.specs.Prelude.{◌≡◌, ◌<◌, ℕ, zero, suc, Bool, true, false, not, ◌&&◌, ◌||◌, fold, if◌then◌else◌, length, map, nat_eq, slice_get, slice_index_or, List, [], ◌∷◌, ◌++◌, Option, Some, None}
+use Rattle.std.specs.Prelude.{◌≡◌, ◌<◌, ℕ, suc, Bool, true, false, ◌&&◌, ◌||◌, if◌then◌else◌, length, map, List, [], ◌∷◌, ◌++◌, Option}
 use Rattle.std.specs.List.{list_any}
-use Rattle.std.specs.Option.{option_map_or}
 use Rattle.std.proofs.Common.{refl, sym, ap, ◌∙◌, subst}
 use Rattle.mx_base.specs.declared.names.LinkId.{LinkId}
 use Rattle.mx_base.specs.declared.tag.Tag.{Tag}
 use Rattle.mx_wire.specs.declared.entry.Entry.{Entry}
 use Rattle.mx_wire.specs.declared.entry.Entry.TheVariants as entry
-use Rattle.packet_frame.specs.Packets.{Framed}
 use Rattle.private_model.proofs.Maps.{link_of}
-use Rattle.private_model.specs.Commands.{Command}
-use Rattle.private_model.specs.Names.{Hostgroup, MessageName}
-use Rattle.private_model.specs.Story.{BecameDue, Broke, Capture, Dropped, End, Happening, Left, Mirrored, Own, Prep, Question, Sent, Statement, Sync, Unprepared}
+use Rattle.private_model.specs.Names.{Hostgroup}
+use Rattle.private_model.specs.Story.{Capture, Dropped, End, Happening, Own, Prep, Question, Sent, Statement, Sync, Unprepared}
 use Rattle.private_model.specs.Story.{command_of, is_link_id, put}
-use Rattle.private_model.specs.View.{Answered, Asked, Carried, Joined, Lent, Link, Nobody, Quiet, Setup, Stage, View, asked, carried_for, closed_number}
-use Rattle.log_story.specs.Clients.{client_goes_on, clients_are_ended, clients_go_on, copied, due_by, is_event_of, is_up, next_taken, taken_by, taken_up}
-use Rattle.log_story.specs.Executes.{Request, requested}
+use Rattle.private_model.specs.View.{Answered, Asked, Carried, Joined, Lent, Link, Nobody, Quiet, Setup, Stage, asked, carried_for, closed_number}
 use Rattle.log_story.specs.Honest.{IsFront, number_for}
-use Rattle.log_story.specs.Owed.{messages, name_of}
-use Rattle.log_story.specs.Plan.{Plan, Route, StepText, com_reset, gives_up, is_before, job_of}
-use Rattle.log_story.specs.Servers.{begins, begun_on, is_quiet, links_are_freed, may_begin, quits_for, step_for, writes}
-use Rattle.log_story.specs.Tale.{Client, Tale, Wire, client_gets, counted, first_tale, is_to_server, new_wire, tell, view_of, with_client, with_wire}
+use Rattle.log_story.specs.Plan.{Plan, StepText}
+use Rattle.log_story.specs.Servers.{begins, begun_on, is_quiet, may_begin, quits_for, step_for, writes}
+use Rattle.log_story.specs.Tale.{Tale, Wire, client_gets, first_tale, is_to_server, new_wire, tell, view_of, with_wire}
 use Rattle.log_story.specs.Telling.{told, tale_step}
 use Rattle.router_promises.specs.Router.{Router}
 use Rattle.router_promises.specs.Running.{hostgroup_of}
 use Rattle.router_promises.specs.Tags.{StandsIn, hostgroup_asked}
 use Rattle.shared_router.specs.Spelt.{spelt}
-use Rattle.shared_router.proofs.Spelling.{AllOn, AllStand, At, IsCalm, IsClean, IsStanding, Stood, group_in, ending_stand, freeing_stand, ifs, is_mute, links_in, losing_stand, none_written, one_on, other_put, put_there, ran_stands, says_stand, tell_calm, text_of_step}
+use Rattle.shared_router.proofs.Going.{IsCalm, Keeps, ifs, losing_keeps, step_keeps}
+use Rattle.shared_router.proofs.Spelling.{AllOn, AllStand, At, IsClean, IsStanding, Stood, group_in, is_mute, links_in, none_written, one_on, other_put, put_there, ran_stands, says_stand, tell_calm, text_of_step}
 
 isnt : {A : Type 0} → false ≡ true → A
 isnt is = absurd (cc)
@@ -73,56 +68,8 @@ module _ (router : Router) (setup : Setup) (plan : Plan) where
   calm : (tale : Tale) (e : Happening) → IsCalm e → On tale → On (tell e tale)
   calm tale e is all = tell_calm router setup plan tale.links tale.wires tale.story e is all
 
-  -- Messages are taken up.
-
-  copied_stand : (m : MessageName) (command : Command) (mirror : Option Hostgroup) (tale : Tale) → On tale → On (copied m command mirror tale)
-  copied_stand m command None tale all = all
-  copied_stand m command (Some hostgroup) tale all =
-      calm (tell (Mirrored m.client (job_of m)) tale) (BecameDue (job_of m) hostgroup 1 0 command None) tt (calm tale (Mirrored m.client (job_of m)) tt all)
-
-  due_stand : (client : Client) (ordinal : ℕ) (route : Route) (request : Option Request) (tale : Tale) → On tale → On (due_by client ordinal route request tale)
-  due_stand client ordinal route None tale all = calm tale Broke tt all
-  due_stand client ordinal route (Some request) tale all =
-      let due : Happening = BecameDue client.number route.hostgroup ordinal request.key request.command route.multiplex in
-      copied_stand (name_of client ordinal) request.command route.mirror (tell due tale) (calm tale due tt all)
-
-  taken_stand : (client : Client) (ordinal : ℕ) (message : Framed) (route : Option Route) (tale : Tale) → On tale → On (taken_by setup plan client ordinal message route tale)
-  taken_stand client ordinal message None tale all =
-      ifs router setup plan On (nat_eq (slice_index_or message.payload 0 0) com_reset) (tell (Left client.number) tale) tale (calm tale (Left client.number) tt all) all
-  taken_stand client ordinal message (Some route) tale all =
-      due_stand client ordinal route (requested setup (view_of setup tale) plan client ordinal route message.payload) tale all
-
-  abbrev OnSome : Option Tale → Type 0
-  OnSome None = Unit {0}
-  OnSome (Some tale) = On tale
-
-  next_stand : (client : Client) (found : Option Framed) (tale : Tale) → On tale → OnSome (next_taken setup plan client found tale)
-  next_stand client None tale all = tt
-  next_stand client (Some message) tale all =
-      ifs router setup plan OnSome (is_up setup plan client tale)
-      (Some (taken_by setup plan client (suc client.taken) message (plan.routes (name_of client (suc client.taken))) tale)) None
-      (taken_stand client (suc client.taken) message (plan.routes (name_of client (suc client.taken))) tale all) tt
-
-  up_stand : (most : ℕ) (client : Client) (tale : Tale) → On tale → On (taken_up most setup plan client tale)
-  up_stand zero client tale all = all
-  up_stand (suc most) client tale all =
-      by_next (next_taken setup plan client (slice_get (messages plan client) client.taken) tale)
-      (next_stand client (slice_get (messages plan client) client.taken) tale all) (up_stand most next)
-    where
-      next : Client
-      next = record client { taken = suc client.taken }
-
-      by_next : (o : Option Tale) → OnSome o → ((t : Tale) → On t → On (taken_up most setup plan next t))
-          → On (option_map_or (λ other. taken_up most setup plan next (with_client next other)) o tale)
-      by_next None now later = all
-      by_next (Some other) now later = later (with_client next other) now
-
-  going_stand : (view : View) (e : Entry) (xs : List Client) (tale : Tale) → On tale → On (fold (client_goes_on setup plan view e) tale xs)
-  going_stand view e [] tale all = all
-  going_stand view e (x ∷ xs) tale all =
-      going_stand view e xs (client_goes_on setup plan view e tale x)
-      (ifs router setup plan On ((is_event_of view x e || gives_up plan tale.moment (name_of x x.taken)) && not (is_before tale.moment (plan.ends x.number)))
-      (taken_up (length (messages plan x)) setup plan x tale) tale (up_stand (length (messages plan x)) x tale all) all)
+  keeps : Keeps On
+  keeps = record { tells = calm; moves = λ tale client all. all; counts = λ tale all. all }
 
   -- A link comes.
 
@@ -222,29 +169,24 @@ module _ (router : Router) (setup : Setup) (plan : Plan) where
   told_stand : (tale : Tale) (e : Entry) → WritesWell tale e → On tale → On (told setup plan tale e)
   told_stand tale (entry.Opened server address link) well all =
       opened_stand link (new_wire server) tale (record { front = none_written _; begun = refl; stays = refl }) all
-  told_stand tale (entry.Got link bytes) well all = ifs router setup plan On (is_to_server tale link) _ _ (says_stand router setup plan link bytes tale all) all
+  told_stand tale (entry.Got link bytes) well all = ifs On (is_to_server tale link) _ _ (says_stand router setup plan link bytes tale all) all
   told_stand tale (entry.Wrote link for bytes) well all = by_there (is_to_server tale link) refl where
     by_there : (b : Bool) → is_to_server tale link ≡ b
         → On (if b then writes setup plan link for bytes (tale.wires link) tale else record tale { clients = map (client_gets link (length bytes)) tale.clients })
     by_there true there = writes_stand link for bytes tale there well.0 (well.1 there) all
     by_there false there = all
   told_stand tale (entry.Exec link) well all =
-      ifs router setup plan On (tale.wires link).entered _ _
-      (ifs router setup plan (λ (e : Happening). On (tell e tale)) (tale.wires link).quits _ _ (calm tale (Dropped link) tt all) (ran_stands router setup plan link tale all)) all
+      ifs On (tale.wires link).entered _ _
+      (ifs (λ (e : Happening). On (tell e tale)) (tale.wires link).quits _ _ (calm tale (Dropped link) tt all) (ran_stands router setup plan link tale all)) all
   told_stand tale (entry.Drop link) well all = calm tale (Dropped link) tt all
-  told_stand tale (entry.Ended link) well all = losing_stand router setup plan link tale all
-  told_stand tale (entry.ReadFailed link) well all = losing_stand router setup plan link tale all
-  told_stand tale (entry.WriteFailed link) well all = losing_stand router setup plan link tale all
-  told_stand tale (entry.Closed link) well all = losing_stand router setup plan link tale all
+  told_stand tale (entry.Ended link) well all = losing_keeps setup plan On keeps link tale all
+  told_stand tale (entry.ReadFailed link) well all = losing_keeps setup plan On keeps link tale all
+  told_stand tale (entry.WriteFailed link) well all = losing_keeps setup plan On keeps link tale all
+  told_stand tale (entry.Closed link) well all = losing_keeps setup plan On keeps link tale all
   told_stand tale _ well all = all
 
   pub step_stands : (tale : Tale) (e : Entry) → WritesWell tale e → On tale → On (tale_step setup plan tale e)
-  step_stands tale e well all =
-      let first : Tale = counted (told setup plan tale e) in
-      let freed : Tale = links_are_freed setup plan first in
-      let gone : Tale = clients_go_on setup plan (view_of setup tale) e freed in
-      freeing_stand router setup plan (clients_are_ended plan gone)
-      (ending_stand router setup plan gone (going_stand (view_of setup tale) e freed.clients freed (freeing_stand router setup plan first (told_stand tale e well all))))
+  step_stands tale e well all = step_keeps setup plan On keeps tale e (told_stand tale e well all)
 
   pub first_stands : On first_tale
   first_stands l there = isnt there
