@@ -92,14 +92,28 @@ pub record Request : Type 0 where
   pub command : Command
   pub key : ℕ
 
-abbrev pub run_of : Setup → Args → (key : ℕ) → Request
-run_of setup args key =
-    record { command = Run (setup.keys key).text (setup.keys key).place.schema (setup.keys key).place.settings args; key = key }
+-- A text that was prepared in no schema is executed as if it were prepared in the one in which its client stands: no step leads a link out of
+-- its schema. Then it goes by the key of its route.
 
-abbrev pub executed_by : Setup → View → Plan → Client → (ordinal : ℕ) → (payload : List ℕ) → (number : ℕ) → Option Request
-executed_by setup view plan client ordinal payload number =
+abbrev pub run_schema : (prepared stands : List ℕ) → List ℕ
+run_schema [] stands = stands
+run_schema (byte ∷ schema) stands = byte ∷ schema
+
+abbrev pub run_key : (prepared : List ℕ) → (key routed : ℕ) → ℕ
+run_key [] key routed = routed
+run_key (byte ∷ schema) key routed = key
+
+abbrev pub run_of : Setup → Args → (stands : List ℕ) → (routed key : ℕ) → Request
+run_of setup args stands routed key = record {
+  command = Run (setup.keys key).text (run_schema (setup.keys key).place.schema stands) (setup.keys key).place.settings args;
+  key = run_key (setup.keys key).place.schema key routed;
+}
+
+abbrev pub executed_by : Setup → View → Plan → Client → (ordinal : ℕ) → Route → (payload : List ℕ) → (number : ℕ) → Option Request
+executed_by setup view plan client ordinal route payload number =
     let refused : ℕ → Bool = λ i. not (is_some (plan.routes (name_of client i))) in
-    option_map (λ prepared. run_of setup (args_in prepared.params number refused prepared.ordinal (take (ordinal - 1) (messages plan client)) payload) prepared.key)
+    option_map (λ prepared. run_of setup (args_in prepared.params number refused prepared.ordinal (take (ordinal - 1) (messages plan client)) payload)
+    (view.places client.number).schema route.key prepared.key)
     (prepared_by view plan client number 1 (messages plan client))
 
 abbrev pub text_asked : (byte : ℕ) → (rest : List ℕ) → Option Command
@@ -113,6 +127,6 @@ text_asked byte rest =
 -- what isn't prepared can't be executed, and of other messages none asks a server for anything
 abbrev pub requested : Setup → View → Plan → Client → (ordinal : ℕ) → Route → (payload : List ℕ) → Option Request
 requested setup view plan client ordinal route payload =
-    if nat_eq (slice_index_or payload 0 0) com_execute then option_and_then (executed_by setup view plan client ordinal payload) (number_at 4 1 payload)
+    if nat_eq (slice_index_or payload 0 0) com_execute then option_and_then (executed_by setup view plan client ordinal route payload) (number_at 4 1 payload)
     else option_map (λ command. record { command = command; key = route.key })
     (text_asked (slice_index_or payload 0 0) (unwrap_or route.text (drop 1 payload)))

@@ -243,6 +243,11 @@ ruled terms servers taking routed number key None = passed_on terms servers taki
 ruled terms servers taking routed number key (Some (stop.Error text)) = tells_one (error.refused_by_rule text)
 ruled terms servers taking routed number key (Some (stop.Ok text)) = own_ok terms taking text
 
+-- what was prepared in no schema is executed under the key of its text where its client stands
+abbrev pub unplaced : (schema : List ℕ) → Key → (stands : List ℕ) → Option Key
+unplaced [] key stands = Some (record key { place = record key.place { schema = stands } })
+unplaced (byte ∷ schema) key stands = None
+
 -- an execute goes where its statement was prepared, unless a transaction is open, with that text and that word on sharing
 abbrev pub run_by : Terms → List Server → Taking → Prepared → Verdict
 run_by terms servers taking prepared =
@@ -250,7 +255,8 @@ run_by terms servers taking prepared =
     let asked = unwrap_or ((plan_in terms).routes (name_of taking.client prepared.ordinal)) (plain_route (record { 0 = 0 })) in
     unless_refused terms servers taking class class.refusal (record {
       route = record (plain_route (unwrap_or (transaction_in terms taking) asked.hostgroup)) { multiplex = asked.multiplex };
-      key = None;
+      key = unplaced (terms.decided.keys prepared.key).place.schema (terms.decided.keys prepared.key)
+          ((view_of (setup_in terms) taking.tale).places taking.client.number).schema;
     })
 
 -- the choice of a schema, or the question for a table's columns

@@ -69,7 +69,7 @@ module _ (setup : Setup) (view : View) (plan : Plan) (client : Client) (ordinal 
       → Fine (com_execute ∷ rest) (executed plan client ordinal number (com_execute ∷ rest) o)
   executed_fine number rest None known at = λ may. absurd may
   executed_fine number rest (Some prepared) known at = λ may.
-      ap (λ n. is_some (option_and_then (executed_by setup view plan client ordinal (com_execute ∷ rest)) n)) at
+      ap (λ n. is_some (option_and_then (executed_by setup view plan client ordinal route (com_execute ∷ rest)) n)) at
       ∙ mapped _ (prepared_by view plan client number 1 (messages plan client))
       (prepared_of (is_live plan client number ordinal) (prepared_by view plan client number 1 (messages plan client)) prepared known)
 

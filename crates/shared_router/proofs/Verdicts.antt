@@ -28,7 +28,7 @@ use Rattle.router_promises.specs.Takings.{Taking}
 use Rattle.router_promises.specs.Terms.{Terms, Tried, setup_in}
 use Rattle.router_promises.specs.Verdicts.{Asks, Chooses, Executes, Kind, Lists, Malformed, Pings, Prepares, Quits, ResetsStatement, Restarts, Silent, Unknown, Unprepared, Verdict, Wanted}
 use Rattle.router_promises.specs.Errors.{too_many_statements}
-use Rattle.router_promises.specs.Verdicts.{com_fetch, connection_id, is_connection_id, tells_one, com_ping, com_quit, executed, flag_behind, hostgroup_for, is_restart, is_with_number, kind_in, kind_of, pass_of, plain_route, ruled, run_by, text_passed, transaction_in, unless_refused, verdict, verdict_by, with_number}
+use Rattle.router_promises.specs.Verdicts.{com_fetch, connection_id, is_connection_id, tells_one, com_ping, com_quit, executed, flag_behind, hostgroup_for, is_restart, is_with_number, kind_in, kind_of, pass_of, plain_route, ruled, run_by, text_passed, transaction_in, unless_refused, unplaced, verdict, verdict_by, with_number}
 use Rattle.shared_router.specs.Judged.{with_plan, with_rest}
 
 module _ (client : Client) (view : View) (moment : ℕ) (p q : Plan) (same : SameFor client view moment p q) where
@@ -224,7 +224,7 @@ module _ (terms : Terms) (p q : Plan) (bare : LinkId → Bool) (tried : ℕ → 
       let asked = unwrap_or r (plain_route (record { 0 = 0 })) in
       unless_refused by_p servers taking class class.refusal (record {
         route = record (plain_route (unwrap_or (transaction_in terms taking) asked.hostgroup)) { multiplex = asked.multiplex };
-        key = None;
+        key = unplaced (terms.decided.keys prepared.key).place.schema (terms.decided.keys prepared.key) (view.places taking.client.number).schema;
       })
 
   run_same : (prepared : Prepared) → is_some (view.replies (name_of taking.client prepared.ordinal)) ≡ true → run_by by_p servers taking prepared ≡ run_by by_q servers taking prepared
@@ -235,7 +235,7 @@ module _ (terms : Terms) (p q : Plan) (bare : LinkId → Bool) (tried : ℕ → 
       ap (run_with prepared) (same.routes name has)
       ∙ refused_same class class.refusal (record {
         route = record (plain_route (unwrap_or (transaction_in terms taking) asked.hostgroup)) { multiplex = asked.multiplex };
-        key = None;
+        key = unplaced (terms.decided.keys prepared.key).place.schema (terms.decided.keys prepared.key) (view.places taking.client.number).schema;
       })
 
   abbrev prepares_with : (text : List ℕ) → (full : Bool) → (number : ℕ) → Verdict

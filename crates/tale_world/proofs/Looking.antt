@@ -123,32 +123,32 @@ module _ (client : Client) (view : View) (moment : ℕ) (p q : Plan) (same : Sam
       (bound_same params number (refused_in p) (refused_in q) (suc unprepared) (drop unprepared before) (record { types = None; long = [] })
       (λ j from to. same_refused j (omega (arith, length-drop unprepared before))))
 
-  executed_same : (setup : Setup) (payload : List ℕ) (number : ℕ) (found : Option Prepared) → option_map (λ prepared. run_of setup (args_in prepared.params number (refused_in p) prepared.ordinal (take (suc client.taken - 1) (messages p client)) payload) prepared.key) found
-      ≡ option_map (λ prepared. run_of setup (args_in prepared.params number (refused_in q) prepared.ordinal (take (suc client.taken - 1) (messages q client)) payload) prepared.key) found
-  executed_same setup payload number None = refl
-  executed_same setup payload number (Some prepared) =
+  executed_same : (setup : Setup) (route : Route) (payload : List ℕ) (number : ℕ) (found : Option Prepared) → option_map (λ prepared. run_of setup (args_in prepared.params number (refused_in p) prepared.ordinal (take (suc client.taken - 1) (messages p client)) payload) (view.places client.number).schema route.key prepared.key) found
+      ≡ option_map (λ prepared. run_of setup (args_in prepared.params number (refused_in q) prepared.ordinal (take (suc client.taken - 1) (messages q client)) payload) (view.places client.number).schema route.key prepared.key) found
+  executed_same setup route payload number None = refl
+  executed_same setup route payload number (Some prepared) =
       let before : List Framed = take (suc client.taken - 1) (messages p client) in
-      ap (λ args. Some (run_of setup args prepared.key)) (same_args prepared.params number prepared.ordinal before payload (omega (arith, length-take (suc client.taken - 1) (messages p client))))
-      ∙ ap (λ (ms : List Framed). Some (run_of setup (args_in prepared.params number (refused_in q) prepared.ordinal (take (suc client.taken - 1) ms) payload) prepared.key)) same_messages
+      ap (λ args. Some (run_of setup args (view.places client.number).schema route.key prepared.key)) (same_args prepared.params number prepared.ordinal before payload (omega (arith, length-take (suc client.taken - 1) (messages p client))))
+      ∙ ap (λ (ms : List Framed). Some (run_of setup (args_in prepared.params number (refused_in q) prepared.ordinal (take (suc client.taken - 1) ms) payload) (view.places client.number).schema route.key prepared.key)) same_messages
 
-  same_executed : (setup : Setup) (payload : List ℕ) (number : ℕ)
-      → executed_by setup view p client (suc client.taken) payload number ≡ executed_by setup view q client (suc client.taken) payload number
-  same_executed setup payload number =
-      ap (option_map (λ prepared. run_of setup (args_in prepared.params number (refused_in p) prepared.ordinal (take (suc client.taken - 1) (messages p client)) payload) prepared.key))
+  same_executed : (setup : Setup) (route : Route) (payload : List ℕ) (number : ℕ)
+      → executed_by setup view p client (suc client.taken) route payload number ≡ executed_by setup view q client (suc client.taken) route payload number
+  same_executed setup route payload number =
+      ap (option_map (λ prepared. run_of setup (args_in prepared.params number (refused_in p) prepared.ordinal (take (suc client.taken - 1) (messages p client)) payload) (view.places client.number).schema route.key prepared.key))
       (same_prepared number 1 (messages p client) ∙ ap (prepared_by view q client number 1) same_messages)
-      ∙ executed_same setup payload number (prepared_by view q client number 1 (messages q client))
+      ∙ executed_same setup route payload number (prepared_by view q client number 1 (messages q client))
 
-  asked_same : (setup : Setup) (payload : List ℕ) (at : Option ℕ)
-      → option_and_then (executed_by setup view p client (suc client.taken) payload) at ≡ option_and_then (executed_by setup view q client (suc client.taken) payload) at
-  asked_same setup payload None = refl
-  asked_same setup payload (Some number) = same_executed setup payload number
+  asked_same : (setup : Setup) (route : Route) (payload : List ℕ) (at : Option ℕ)
+      → option_and_then (executed_by setup view p client (suc client.taken) route payload) at ≡ option_and_then (executed_by setup view q client (suc client.taken) route payload) at
+  asked_same setup route payload None = refl
+  asked_same setup route payload (Some number) = same_executed setup route payload number
 
   pub same_requested : (setup : Setup) (route : Route) (payload : List ℕ)
       → requested setup view p client (suc client.taken) route payload ≡ requested setup view q client (suc client.taken) route payload
   same_requested setup route payload =
       ap (λ (o : Option Request). if nat_eq (slice_index_or payload 0 0) com_execute then o
       else option_map (λ command. record { command = command; key = route.key }) (text_asked (slice_index_or payload 0 0) (unwrap_or route.text (drop 1 payload))))
-      (asked_same setup payload (number_at 4 1 payload))
+      (asked_same setup route payload (number_at 4 1 payload))
 
 -- It is taken up in the same way.
 
