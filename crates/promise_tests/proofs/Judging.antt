@@ -393,7 +393,7 @@ last-word : (terms : Terms) (log : Log) (now : Now) (e : Entry) (c : Client) (wo
 last-word terms log now e c word so from =
     let parts = and_parts _ _ (implied _ _ so (here word.from (entry_now now) from)) in
     let more = and_parts _ _ parts.1 in
-    record { ends = at-here ((plan_in terms).ends c.number) (entry_now now) parts.0; answered = more.0; why = word-for terms log now (while_ending terms now e) e c word.place word.payloads more.1 }
+    record { ends = at-here ((plan_in terms).ends c.number) (entry_now now) parts.0; answered = or_left _ _ more.0; why = word-for terms log now (while_ending terms now e) e c word.place word.payloads more.1 }
 
 word-so : (terms : Terms) (log : Log) (now later : Now) (e : Entry) (c : Client) → word_right terms log now later e c ≡ true → WordRight terms log now later e c
 word-so terms log now later e c so =

@@ -15,7 +15,7 @@ use Rattle.private_model.specs.View.{Carried, Joined, present}
 use Rattle.log_story.specs.Plan.{LastWord, WordPlace}
 use Rattle.log_story.specs.Tale.{Client}
 use Rattle.router_promises.specs.Closes.{Amiss, Idle, Leaving, HasCause, MakesRoom, MayDrop, MayQuit, Needless, PastReset, Refused, Spoilt, Starved, Told, is_joined, is_past_reset_by, is_spoilt, is_starved_by, was_amiss, was_starved}
-use Rattle.router_promises.specs.Ends.{EndsBy, EndsRight, IsLastWord, NoMemory, TooMuch, TurnedAway, WordFor, WordRight, is_accepted, is_at, is_too_much, may_end, must_end, was_starved_at_once}
+use Rattle.router_promises.specs.Ends.{EndsBy, EndsRight, IsLastWord, Left, NoMemory, TooMuch, TurnedAway, WordFor, WordRight, is_accepted, is_at, is_left, is_too_much, may_end, must_end}
 use Rattle.router_promises.specs.Now.{Now, entry_now, link_now, next, now_at, view_now, while_ending}
 use Rattle.router_promises.specs.Terms.{Terms, plan_in, setup_in}
 use Rattle.router_promises.specs.Wakes.{lacks_an_event, moments, wakes_at}
@@ -59,16 +59,17 @@ session-dropped terms log now link n untold carries here sound right fed (HasCau
 -- A client that is ended.
 
 word-why : (terms : Terms) (log : Log) (now ending : Now) (e : Entry) (client : Client) (place : WordPlace) (payloads : List (List ℕ)) → WordFor terms log now ending e client place payloads
-    → is_accepted e client ≡ false → is_at (setup_in terms) now e client ≡ false → is_too_much terms ending client ≡ false → ⊥
-word-why terms log now ending e client _ _ (TurnedAway came comes arrived away) known far few = never (sym comes ∙ known)
-word-why terms log now ending e client _ _ (NoMemory place behind at) known far few = never (sym at ∙ far)
-word-why terms log now ending e client _ _ (TooMuch place behind much) known far few = never (sym much ∙ few)
+    → is_accepted e client ≡ false → is_left terms ending client ≡ false → is_at (setup_in terms) now e client ≡ false → is_too_much terms ending client ≡ false → ⊥
+word-why terms log now ending e client _ _ (TurnedAway came comes arrived away) known served far few = never (sym comes ∙ known)
+word-why terms log now ending e client _ _ (NoMemory place behind at) known served far few = never (sym at ∙ far)
+word-why terms log now ending e client _ _ (Left is) known served far few = never (sym is ∙ served)
+word-why terms log now ending e client _ _ (TooMuch place behind much) known served far few = never (sym much ∙ few)
 
 pub client-parted : (terms : Terms) (before : Log) (e : Entry) (k : ℕ) (client : Client) → EndsBy terms before (now_at terms before) (next terms (now_at terms before) e) e
     → k < length (next terms (now_at terms before) e).tale.clients → slice_index_or (next terms (now_at terms before) e).tale.clients k client ≡ client
     → (plan_in terms).ends client.number ≡ Some (entry_now (now_at terms before))
     → must_end terms (before ++ e ∷ []) (now_at terms before) (while_ending terms (now_at terms before) e) e client ≡ false
-    → is_accepted e client ≡ false → was_starved terms (entry_now (now_at terms before)) client ≡ false → was_starved_at_once terms client ≡ false
+    → is_accepted e client ≡ false → was_starved terms (entry_now (now_at terms before)) client ≡ false → is_left terms (while_ending terms (now_at terms before) e) client ≡ false
     → is_at (setup_in terms) (now_at terms before) e client ≡ false → is_too_much terms (while_ending terms (now_at terms before) e) client ≡ false → ⊥
 client-parted terms before e k client ends within is ended needless known fed served far few = by ((plan_in terms).words client.number) refl where
   now : Now
@@ -80,15 +81,14 @@ client-parted terms before e k client ends within is ended needless known fed se
       at-index (EndsRight terms (before ++ e ∷ []) now (next terms now e) e) (next terms now e).tale.clients k client ends.ends within is in
       right.may ended
 
-  or-so : (a b c d f : Bool) → a ≡ false → b ≡ false → c ≡ false → d ≡ false → (a || (b || (c || (d || f)))) ≡ true → f ≡ true
-  or-so true b c d f x y z v so = never x
-  or-so false true c d f x y z v so = never y
-  or-so false false true d f x y z v so = never z
-  or-so false false false true f x y z v so = never v
-  or-so false false false false f x y z v so = so
+  or-so : (a b c f : Bool) → a ≡ false → b ≡ false → c ≡ false → (a || (b || (c || f))) ≡ true → f ≡ true
+  or-so true b c f x y z so = never x
+  or-so false true c f x y z so = never y
+  or-so false false true f x y z so = never z
+  or-so false false false f x y z so = so
 
   word : option_map_or (λ (w : LastWord). nat_eq w.from (entry_now now)) ((plan_in terms).words client.number) false ≡ true
-  word = or-so _ _ _ _ _ needless known fed served may
+  word = or-so _ _ _ _ needless known fed may
 
   by : (last : Option LastWord) → (plan_in terms).words client.number ≡ last → ⊥
   by None none = never (sym (subst (λ (l : Option LastWord). option_map_or (λ (w : LastWord). nat_eq w.from (entry_now now)) l false ≡ true) none word))
@@ -97,7 +97,7 @@ client-parted terms before e k client ends within is ended needless known fed se
       let said : WordRight terms (before ++ e ∷ []) now (next terms now e) e client =
       at-index (WordRight terms (before ++ e ∷ []) now (next terms now e) e) (next terms now e).tale.clients k client ends.words within is in
       let right : IsLastWord terms (before ++ e ∷ []) now e client w = said.may w some (nat_eq-true w.from (entry_now now) from) in
-      word-why terms (before ++ e ∷ []) now (while_ending terms now e) e client w.place w.payloads right.why known far few
+      word-why terms (before ++ e ∷ []) now (while_ending terms now e) e client w.place w.payloads right.why known served far few
 
 -- The moment at which the loop wakes.
 

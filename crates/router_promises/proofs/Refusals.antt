@@ -232,7 +232,7 @@ pub routed-so : (terms : Terms) (now : Now) (e : Entry) (taking : Taking) (takin
     → (plan_in terms).routes (message_in taking) ≡ Some route → (route.hostgroup ≢ wanted.route.hostgroup) ⊎ (route.text ≢ wanted.route.text) → ⊥
 routed-so terms now e taking takings wanted route routes first is goes other = elim (first-so terms now e taking takings routes first) [
   | inl so ↦ by (subst (IsSo terms taking) is so) other
-  | inr starved ↦ none-some (sym starved.told.route ∙ goes)
+  | inr starved ↦ none-some (sym starved.left.route ∙ goes)
 ] where
   same : (so : IsRoute terms taking wanted) → route ≡ record wanted.route { key = so.key }
   same so = same-some route (record wanted.route { key = so.key }) (sym goes ∙ so.route)
@@ -246,7 +246,7 @@ pub answered-so : (terms : Terms) (now : Now) (e : Entry) (taking : Taking) (tak
     → (plan_in terms).routes (message_in taking) ≡ None → (plan_in terms).ends taking.client.number ≡ None → ⊥
 answered-so terms now e taking takings wanted routes first is none stays = elim (first-so terms now e taking takings routes first) [
   | inl so ↦ by (subst (IsSo terms taking) is so)
-  | inr starved ↦ none-some (sym stays ∙ starved.ends)
+  | inr starved ↦ none-some (sym stays ∙ starved.left.ends)
 ] where
   by : IsRoute terms taking wanted → ⊥
   by so = none-some (sym none ∙ so.route)

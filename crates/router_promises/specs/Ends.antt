@@ -16,7 +16,7 @@ use Rattle.private_model.specs.View.{Setup, present, session_in}
 use Rattle.session_state.specs.Pins.{is_pinned}
 use Rattle.log_story.specs.Clients.{concerns, is_answered}
 use Rattle.log_story.specs.Owed.{messages, name_of, talk_of}
-use Rattle.log_story.specs.Plan.{is_by_now}
+use Rattle.log_story.specs.Plan.{is_by_now, own_at}
 use Rattle.log_story.specs.Tale.{Client}
 use Rattle.router_promises.specs.Closes.{has_bytes, was_starved}
 use Rattle.router_promises.specs.Due.{due_to, served, turned_away}
@@ -27,9 +27,8 @@ use Rattle.router_promises.specs.Now.{Now, entry_now, held_now, is_loss, link_no
 use Rattle.router_promises.specs.Running.{is_off, status_in}
 use Rattle.router_promises.specs.Takings.{Taking}
 use Rattle.router_promises.specs.Terms.{Terms, plan_in, setup_in}
-use Rattle.log_story.specs.Plan.{Alone, LastWord, OwnAnswer, WordPlace}
+use Rattle.log_story.specs.Plan.{Alone, Behind, LastWord, WordPlace}
 use Rattle.client_session.specs.Arrivals.{Arrival, arrival_of}
-use Rattle.router_promises.specs.Uses.{error_code}
 use Rattle.router_promises.specs.Verdicts.{Kind, Quits, kind_in}
 
 -- What ends a client.
@@ -116,17 +115,11 @@ must_end terms log now later e client =
     || (is_at_fault terms later client
     || (quits_at terms now e client || breaks_client (setup_in terms) now later e client))))
 
--- its last message was answered so as it was taken up, which is where it ends
-abbrev pub was_starved_at_once : Terms → Client → Bool
-was_starved_at_once terms client =
-    option_map_or (λ (answer : OwnAnswer). nat_eq answer.from 0 && nat_eq (error_code answer.payloads) 9199)
-    ((plan_in terms).own (name_of client client.taken)) false
-
 -- there is no memory for it, also as it is accepted; or a last word to it comes
 abbrev pub may_end : Terms → Now → Entry → Client → Bool
 may_end terms now e client =
-    is_accepted e client || (was_starved terms (entry_now now) client || (was_starved_at_once terms client
-    || option_map_or (λ (word : LastWord). nat_eq word.from (entry_now now)) ((plan_in terms).words client.number) false))
+    is_accepted e client || (was_starved terms (entry_now now) client
+    || option_map_or (λ (word : LastWord). nat_eq word.from (entry_now now)) ((plan_in terms).words client.number) false)
 
 -- A client ends at an entry exactly where it must, by what is known before clients are ended; but for want of memory and a last word.
 pub record EndsRight (terms : Terms) (log : Log) (now later : Now) (e : Entry) (client : Client) : Type 0 where
@@ -188,20 +181,28 @@ is_alone _ = false
 abbrev pub is_at : Setup → Now → Entry → Client → Bool
 is_at setup now e client = option_map_or (concerns (view_now setup now) client) (link_of e) false
 
--- What the last word is, and where it stands: it wasn't served; there is no memory for what came on its link, or one that carries it; or
--- too many bytes wait.
+-- its last message was left as it was taken up, for want of memory: it goes nowhere, and isn't answered
+abbrev pub is_left : Terms → (ending : Now) → Client → Bool
+is_left terms ending client =
+    nat_lt 0 client.taken
+    && (is_none ((plan_in terms).routes (name_of client client.taken))
+    && is_none (own_at (plan_in terms) ending.tale.moment (name_of client client.taken)))
+
+-- What the last word is, and where it stands: it wasn't served; there is no memory for what came on its link, or one that carries it, or for
+-- its last message; or too many bytes wait.
 pub data WordFor (terms : Terms) (log : Log) (now ending : Now) (e : Entry)
     (client : Client) : WordPlace → (payloads : List (List ℕ)) → Type 0 where
   TurnedAway : (came : Arrival) → is_accepted e client ≡ true → arrival_of client.number.0 log ≡ Some came → served terms log client ≡ false
       → WordFor terms log now ending e client Alone (turned_away came.port)
   NoMemory : (place : WordPlace) → is_alone place ≡ false → is_at (setup_in terms) now e client ≡ true
       → WordFor terms log now ending e client place (out_of_memory ∷ [])
+  Left : is_left terms ending client ≡ true → WordFor terms log now ending e client Behind (out_of_memory ∷ [])
   TooMuch : (place : WordPlace) → is_alone place ≡ false → is_too_much terms ending client ≡ true
       → WordFor terms log now ending e client place (buffers_word terms ending client ∷ [])
 
 pub record IsLastWord (terms : Terms) (log : Log) (now : Now) (e : Entry) (client : Client) (word : LastWord) : Type 0 where
   pub ends : (plan_in terms).ends client.number ≡ Some (entry_now now)
-  pub answered : was_answered terms (while_ending terms now e) client ≡ true
+  pub answered : (was_answered terms (while_ending terms now e) client || is_left terms (while_ending terms now e) client) ≡ true
   pub why : WordFor terms log now (while_ending terms now e) e client word.place word.payloads
 
 -- one that isn't served has its word as it is accepted

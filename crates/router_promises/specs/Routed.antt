@@ -5,7 +5,7 @@ use Rattle.mx_wire.specs.Log.{Log}
 use Rattle.mx_wire.specs.declared.entry.Entry.{Entry}
 use Rattle.private_model.specs.Names.{ClientNo}
 use Rattle.private_model.specs.Story.{Key}
-use Rattle.log_story.specs.Plan.{own_at}
+use Rattle.log_story.specs.Plan.{Behind, own_at}
 use Rattle.router_promises.specs.Errors.{out_of_memory}
 use Rattle.router_promises.specs.Now.{Now, flag_taken, now_at, takings_now}
 use Rattle.router_promises.specs.Running.{servers_after}
@@ -36,10 +36,11 @@ pub record IsParting (terms : Terms) (taking : Taking) : Type 0 where
   pub unanswered : own_at (plan_in terms) taking.tale.moment (message_in taking) ≡ None
   pub ends : (plan_in terms).ends taking.client.number ≡ Some taking.tale.moment
 
--- there is no memory for it, and its client ends
+-- there is no memory for it: its client ends by it, and is told so
 pub record IsStarved (terms : Terms) (taking : Taking) : Type 0 where
-  pub told : IsTold terms taking (out_of_memory ∷ [])
-  pub ends : (plan_in terms).ends taking.client.number ≡ Some taking.tale.moment
+  pub left : IsParting terms taking
+  pub word : (plan_in terms).words taking.client.number
+      ≡ Some (record { from = taking.tale.moment; place = Behind; payloads = out_of_memory ∷ [] })
 
 abbrev pub IsSo : Terms → Taking → Verdict → Type 0
 IsSo terms taking Parts = IsParting terms taking

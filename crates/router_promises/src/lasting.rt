@@ -16,7 +16,7 @@ ghost use Rattle.log_story.specs.Plan.{Asks, OwnAnswer};
 ghost use Rattle.log_story.specs.Servers.{may_begin};
 ghost use Rattle.log_story.specs.Tale.{Client, is_to_server};
 ghost use Rattle.router_promises.specs.Closes.{is_spoilt, is_starved_by, was_amiss, was_starved};
-ghost use Rattle.router_promises.specs.Ends.{is_accepted, is_at, is_too_much, moment_in, must_end, was_starved_at_once};
+ghost use Rattle.router_promises.specs.Ends.{is_accepted, is_at, is_left, is_too_much, moment_in, must_end};
 ghost use Rattle.router_promises.specs.GivenUp.{key_tried};
 ghost use Rattle.router_promises.specs.Keys.{LinkKey, is_resting, oldest};
 ghost use Rattle.router_promises.specs.Now.{entry_now, link_now, next, now_at, view_now, while_ending, wire_now};
@@ -40,7 +40,7 @@ pub fn drops_a_session()
         (now_at terms before).tale.clients ≡ false → ⊥ }
 {}
 
-/// A client is ended although it needn't be, all that it asked is answered, and the entry is none of its links.
+/// A client is ended although it needn't be, what it asked isn't left, and the entry is none of its links.
 pub fn parts_from_a_client()
     ensures { (terms : Terms) (before : Log) (e : Entry) (k : ℕ) (client : Client) → Has terms before e
         → k < length (next terms (now_at terms before) e).tale.clients
@@ -50,7 +50,7 @@ pub fn parts_from_a_client()
         (while_ending terms (now_at terms before) e) e client ≡ false
         → is_accepted e client ≡ false
         → was_starved terms (entry_now (now_at terms before)) client ≡ false
-        → was_starved_at_once terms client ≡ false
+        → is_left terms (while_ending terms (now_at terms before) e) client ≡ false
         → is_at (setup_in terms) (now_at terms before) e client ≡ false
         → is_too_much terms (while_ending terms (now_at terms before) e) client ≡ false → ⊥ }
 {}

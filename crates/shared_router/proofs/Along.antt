@@ -3,7 +3,7 @@ use Rattle.std.specs.Prelude.{◌≡◌, length, take, [], ◌∷◌, ◌++◌}
 use Rattle.std.proofs.Common.{refl, sym, ap, ◌∙◌, subst, append_assoc, arith}
 use Rattle.std.proofs.lemmas.List.{take-append-le, take_all}
 use Rattle.mx_wire.specs.Log.{Log}
-use Rattle.mx_wire.specs.Moments.{AllLawful, AtEachMoment, LawfulAfter, lawful-more}
+use Rattle.mx_wire.specs.Moments.{AllLawful, AtEachMoment, LawfulAfter, lawful-last, lawful-more}
 use Rattle.mx_wire.specs.Tells.{Fits}
 use Rattle.mx_wire.specs.declared.entry.Entry.{Entry}
 use Rattle.mx_wire.specs.declared.entry.Entry.TheVariants as entry
@@ -33,6 +33,12 @@ moment_at P before later log is each =
 pub lawful_first : (Rule : Log → Entry → Type 0) (before middle later : Log) → LawfulAfter Rule before (middle ++ later) → LawfulAfter Rule before middle
 lawful_first Rule before [] later all = tt
 lawful_first Rule before (e ∷ middle) later all = (all.0, lawful_first Rule (before ++ e ∷ []) middle later all.1)
+
+-- and of one entry
+pub lawful_there : (Rule : Log → Entry → Type 0) (before later log : Log) (e : Entry) → before ++ e ∷ later ≡ log → AllLawful Rule log → Rule before e
+lawful_there Rule before later log e is all =
+    (lawful-last Rule before e
+    (lawful_first Rule [] (before ++ e ∷ []) later (subst (λ (l : Log). LawfulAfter Rule [] l) (sym (append_assoc before (e ∷ []) later ∙ is)) all))).1
 
 module _ (fixed : Fixed) (log : Log) (Rule : Log → Entry → Type 0)
     (each : (before later : Log) (e : Entry) → IsAt log before e later → IsOurs fixed before e → Rule before e) where

@@ -17,13 +17,13 @@ use Rattle.tale_world.specs.World.{ended_now, is_ended}
 use Rattle.tale_world.proofs.Following.{step_even}
 use Rattle.router_promises.proofs.Saying.{now-tale}
 use Rattle.router_promises.specs.Closes.{was_starved}
-use Rattle.router_promises.specs.Ends.{EndsRight, buffers_word, is_accepted, may_end, must_end, was_starved_at_once}
+use Rattle.router_promises.specs.Ends.{EndsRight, buffers_word, is_accepted, may_end, must_end}
 use Rattle.router_promises.specs.Errors.{out_of_memory}
 use Rattle.router_promises.specs.Now as now
 use Rattle.router_promises.specs.Now.{Now, entry_now, now_at, while_ending}
 use Rattle.router_promises.specs.Terms.{Terms, tale_at}
 use Rattle.router_promises.specs.Uses.{error_code}
-use Rattle.shared_router.specs.Ends.{Ending, away_word, client_at, ending_of, goes, has_too_much, is_refused_now, is_starved, is_turned_away, may_say_starved, must_go, says_last, told_starved, was_told_starved, word_to, words_by}
+use Rattle.shared_router.specs.Ends.{Ending, away_word, client_at, ending_of, goes, has_too_much, is_refused_now, is_starved, is_turned_away, left_word, may_say_starved, must_go, says_last, told_starved, was_left, was_told_starved, word_to, words_by}
 use Rattle.shared_router.specs.Fixed.{Fixed, IsNumbered, setup_of}
 use Rattle.shared_router.specs.Judged.{EndsFor}
 use Rattle.shared_router.specs.More.{More}
@@ -177,67 +177,33 @@ module _ (fixed : Fixed) (numbered : IsNumbered fixed) (before later : Log) (e :
         ap (λ (o : Option LastWord). option_map_or (λ (word : LastWord). nat_eq word.from (entry_now there)) o false) said
         ∙ eq-eqb word.from (entry_now there) (at ∙ x-entry ∙ sym entry-so)
 
-    -- its last message was answered that there is no memory
-
-    starved-by : (from : ℕ) (nines : Bool) → ((nat_eq from (entry_now x.now) || nat_eq from 0) && nines) ≡ true
-        → ((nat_eq from (entry_now there) && nines) ≡ true) ⊎ ((nat_eq from 0 && nines) ≡ true)
-    starved-by from nines is =
-        let parts = and_parts (nat_eq from (entry_now x.now) || nat_eq from 0) nines is in
-        elim (or_cases (nat_eq from (entry_now x.now)) (nat_eq from 0) parts.0) [
-          | inl now_so ↦ inl (ap (λ k. nat_eq from k && nines) (entry-so ∙ sym x-entry) ∙ ap (λ b. b && nines) now_so ∙ parts.1)
-          | inr at_once ↦ inr (ap (λ b. b && nines) at_once ∙ parts.1)
-        ]
-
-    told-may : was_told_starved x client ≡ true → (was_starved t (entry_now there) client || was_starved_at_once t client) ≡ true
+    -- its last message was given up, since there is no memory
+    told-may : was_told_starved x client ≡ true → was_starved t (entry_now there) client ≡ true
     told-may told = by_own (d.decided.own (name_of client client.taken)) refl told where
       abbrev_own : Option (Option OwnAnswer) → Bool
       abbrev_own o = option_map_or (told_starved x) (unwrap_or o None) false
 
       by_own : (o : Option (Option OwnAnswer)) → d.decided.own (name_of client client.taken) ≡ o
           → option_map_or (told_starved x) (unwrap_or (d.decided.own (name_of client client.taken)) None) false ≡ true
-          → (was_starved t (entry_now there) client || was_starved_at_once t client) ≡ true
+          → was_starved t (entry_now there) client ≡ true
       by_own None is told = isnt (sym (ap abbrev_own is) ∙ told)
       by_own (Some None) is told = isnt (sym (ap abbrev_own is) ∙ told)
       by_own (Some (Some answer)) is told =
           let planned : plan.own (name_of client client.taken) ≡ Some answer = so.agrees.answered (name_of client client.taken) answer is in
           let here : told_starved x answer ≡ true = sym (ap abbrev_own is) ∙ told in
-          let nines = nat_eq (error_code answer.payloads) 9199 in
-          elim (starved-by answer.from nines here) [
-            | inl now_so ↦ or_left _ _ (or_left _ _
-                (ap (λ (o : Option OwnAnswer). option_map_or (λ (a : OwnAnswer). nat_eq a.from (entry_now there) && nat_eq (error_code a.payloads) 9199) o false) planned ∙ now_so))
-            | inr at_once ↦ or_right _ _
-                (ap (λ (o : Option OwnAnswer). option_map_or (λ (a : OwnAnswer). nat_eq a.from 0 && nat_eq (error_code a.payloads) 9199) o false) planned ∙ at_once)
-          ]
+          or_left _ _ (ap (λ (o : Option OwnAnswer). option_map_or (λ (a : OwnAnswer). nat_eq a.from (entry_now there) && nat_eq (error_code a.payloads) 9199) o false) planned
+          ∙ ap (λ k. nat_eq answer.from k && nat_eq (error_code answer.payloads) 9199) (entry-so ∙ sym x-entry) ∙ here)
 
     -- Why it may end.
 
     abbrev word_there : Bool
     word_there = option_map_or (λ (word : LastWord). nat_eq word.from (entry_now there)) (plan.words c) false
 
-    may_by : (accepted starved at_once word : Bool) → Bool
-    may_by accepted starved at_once word = accepted || (starved || (at_once || word))
-
-    last-of : (accepted starved at_once word : Bool) → word ≡ true → may_by accepted starved at_once word ≡ true
-    unfolding may_by
-    last-of true starved at_once word is = refl
-    last-of false true at_once word is = refl
-    last-of false false true word is = refl
-    last-of false false false word is = is
-
-    middle-of : (accepted starved at_once word : Bool) → (starved || at_once) ≡ true → may_by accepted starved at_once word ≡ true
-    unfolding may_by
-    middle-of true starved at_once word is = refl
-    middle-of false true at_once word is = refl
-    middle-of false false true word is = refl
-    middle-of false false false word is = isnt is
-
     by-word : word_there ≡ true → may_end t there e client ≡ true
-    unfolding may_by
-    by-word is = last-of (is_accepted e client) (was_starved t (entry_now there) client) (was_starved_at_once t client) word_there is
+    by-word is = or_right (is_accepted e client) _ (or_right (was_starved t (entry_now there) client) word_there is)
 
-    by-told : (was_starved t (entry_now there) client || was_starved_at_once t client) ≡ true → may_end t there e client ≡ true
-    unfolding may_by
-    by-told is = middle-of (is_accepted e client) (was_starved t (entry_now there) client) (was_starved_at_once t client) word_there is
+    by-told : was_starved t (entry_now there) client ≡ true → may_end t there e client ≡ true
+    by-told is = or_right (is_accepted e client) _ (or_left (was_starved t (entry_now there) client) word_there is)
 
     pub must-not-away : must_go x client ≡ false → is_turned_away x client ≡ false
     must-not-away none = by_test (is_turned_away x client) refl where
@@ -245,34 +211,50 @@ module _ (fixed : Fixed) (numbered : IsNumbered fixed) (before later : Log) (e :
       by_test false is = refl
       by_test true is = isnt (sym none ∙ turned-goes x client is)
 
-    -- the word that it has, where it needn't go
+    -- the word that it has, where its last message was left, or it needn't go
 
-    word_by : (away must much starved : Bool) → Option LastWord
-    word_by away must much starved =
-        if away then away_word x client else if must then None else if much then Some (says_last x client (buffers_word x.terms x.ending client))
+    abbrev is_left_now : Bool
+    is_left_now = is_refused_now x client && was_left x client
+
+    abbrev starving : Bool
+    starving = is_refused_now x client && may_say_starved x client
+
+    word_by : (left away must much starved : Bool) → Option LastWord
+    word_by left away must much starved =
+        if left then Some (left_word x) else if away then away_word x client else if must then None
+        else if much then Some (says_last x client (buffers_word x.terms x.ending client))
         else if starved then Some (says_last x client out_of_memory) else None
 
-    word-is : (away must much starved : Bool) → is_turned_away x client ≡ away → must_go x client ≡ must → has_too_much x client ≡ much
-        → (is_refused_now x client && may_say_starved x client) ≡ starved → word_to x client ≡ word_by away must much starved
+    word-is : (left away must much starved : Bool) → is_left_now ≡ left → is_turned_away x client ≡ away → must_go x client ≡ must → has_too_much x client ≡ much
+        → starving ≡ starved → word_to x client ≡ word_by left away must much starved
     unfolding word_by
-    word-is away must much starved a m h s =
-        let starving = is_refused_now x client && may_say_starved x client in
-        ap (λ b. word_by b (must_go x client) (has_too_much x client) starving) a
-        ∙ ap (λ b. word_by away b (has_too_much x client) starving) m
-        ∙ ap (λ b. word_by away must b starving) h
-        ∙ ap (λ b. word_by away must much b) s
+    word-is left away must much starved l a m h s =
+        ap (λ b. word_by b (is_turned_away x client) (must_go x client) (has_too_much x client) starving) l
+        ∙ ap (λ b. word_by left b (must_go x client) (has_too_much x client) starving) a
+        ∙ ap (λ b. word_by left away b (has_too_much x client) starving) m
+        ∙ ap (λ b. word_by left away must b starving) h
+        ∙ ap (λ b. word_by left away must much b) s
+
+    left-is : is_left_now ≡ true → word_to x client ≡ Some (left_word x)
+    unfolding word_by
+    left-is is = word-is true (is_turned_away x client) (must_go x client) (has_too_much x client) starving is refl refl refl refl
+
+    -- where it ends at this entry, the word is said
+    pub left-said : plan.ends c ≡ Some d.tale.moment → is_left_now ≡ true → plan.words c ≡ Some (left_word x)
+    left-said planned is = word-so (left_word x) (ends-goes planned).0 (left-is is)
 
     abbrev HasWord : Type 0
     HasWord = (word : LastWord) × ((word_to x client ≡ Some word) × (word.from ≡ entry_now x.now))
 
-    word-else : (much starved : Bool) → must_go x client ≡ false → has_too_much x client ≡ much
-        → (is_refused_now x client && may_say_starved x client) ≡ starved → (much || starved) ≡ true → HasWord
+    word-else : (left much starved : Bool) → is_left_now ≡ left → must_go x client ≡ false → has_too_much x client ≡ much
+        → starving ≡ starved → (left || (much || starved)) ≡ true → HasWord
     unfolding word_by
-    word-else true starved m h s some =
-        (says_last x client (buffers_word x.terms x.ending client), (word-is false false true starved (must-not-away m) m h s, refl))
-    word-else false true m h s some =
-        (says_last x client out_of_memory, (word-is false false false true (must-not-away m) m h s, refl))
-    word-else false false m h s some = isnt some
+    word-else true much starved l m h s some = (left_word x, (left-is l, refl))
+    word-else false true starved l m h s some =
+        (says_last x client (buffers_word x.terms x.ending client), (word-is false false false true starved l (must-not-away m) m h s, refl))
+    word-else false false true l m h s some =
+        (says_last x client out_of_memory, (word-is false false false false true l (must-not-away m) m h s, refl))
+    word-else false false false l m h s some = isnt some
 
     by-last : d.decided.ends c ≡ None → HasWord → may_end t there e client ≡ true
     by-last none has = by-word (said-now has.0 has.1.1 (word-so has.0 none has.1.0))
@@ -283,24 +265,26 @@ module _ (fixed : Fixed) (numbered : IsNumbered fixed) (before later : Log) (e :
 
     needless : must_go x client ≡ false → d.decided.ends c ≡ None → goes x client ≡ true → may_end t there e client ≡ true
     needless m none going =
-        let starving = is_refused_now x client && may_say_starved x client in
         let rest : (has_too_much x client || is_starved x client) ≡ true = ap (λ b. b || (has_too_much x client || is_starved x client)) (sym m) ∙ going in
         elim (or_cases (has_too_much x client) (is_starved x client) rest) [
-          | inl much ↦ by-last none (word-else true starving m much refl refl)
+          | inl much ↦ said (or_right is_left_now _ (or_left (has_too_much x client) starving much))
           | inr starved ↦ (
-              let parts = and_parts (is_refused_now x client) (is_accepted e client || (was_told_starved x client || may_say_starved x client)) starved in
-              elim (or_cases (is_accepted e client) (was_told_starved x client || may_say_starved x client) parts.1) [
+              let parts = and_parts (is_refused_now x client) _ starved in
+              elim (or_cases (is_accepted e client) _ parts.1) [
                 | inl accepted ↦ or_left (is_accepted e client) _ accepted
-                | inr other ↦ elim (or_cases (was_told_starved x client) (may_say_starved x client) other) [
+                | inr other ↦ elim (or_cases (was_told_starved x client) _ other) [
                   | inl told ↦ by-told (told-may told)
-                  | inr says ↦ (
-                      let both : starving ≡ true = and_from (is_refused_now x client) (may_say_starved x client) parts.0 says in
-                      by-last none (word-else (has_too_much x client) starving m refl refl (either-true (has_too_much x client) starving both))
-                      )
+                  | inr more ↦ elim (or_cases (was_left x client) (may_say_starved x client) more) [
+                    | inl left ↦ said (or_left is_left_now _ (and_from (is_refused_now x client) (was_left x client) parts.0 left))
+                    | inr says ↦ said (or_right is_left_now _ (or_right (has_too_much x client) starving (and_from (is_refused_now x client) (may_say_starved x client) parts.0 says)))
+                  ]
                 ]
               ]
               )
         ]
+      where
+        said : (is_left_now || (has_too_much x client || starving)) ≡ true → may_end t there e client ≡ true
+        said some = by-last none (word-else is_left_now (has_too_much x client) starving refl m refl refl some)
 
     may-right : plan.ends c ≡ Some (entry_now there) → (must_end t (before ++ e ∷ []) there (while_ending t there e) e client || may_end t there e client) ≡ true
     may-right planned = by_must (must_go x client) refl where

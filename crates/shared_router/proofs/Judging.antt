@@ -1,5 +1,5 @@
 -- What is decided as a message comes up is the verdict on it.
-use Rattle.std.specs.Prelude.{ℕ, ◌≡◌, suc, Bool, true, false, nat_le, if◌then◌else◌, unwrap_or, [], ◌∷◌, Option, Some, None}
+use Rattle.std.specs.Prelude.{ℕ, ◌≡◌, suc, Bool, true, false, nat_le, if◌then◌else◌, unwrap_or, Option, Some, None}
 use Rattle.std.specs.Option.{option_map_or, option_and_then}
 use Rattle.std.proofs.Common.{refl, sym, ap, ◌∙◌, subst}
 use Rattle.packet_frame.specs.Packets.{Framed}
@@ -19,8 +19,7 @@ use Rattle.tale_world.specs.Served.{SameFor}
 use Rattle.log_story.specs.Tale.{view_of}
 use Rattle.router_promises.specs.Verdicts.{verdict}
 use Rattle.shared_router.proofs.Verdicts.{verdict_same}
-use Rattle.router_promises.specs.Errors.{out_of_memory}
-use Rattle.router_promises.specs.Routed.{IsKeyed, IsTold}
+use Rattle.router_promises.specs.Routed.{IsKeyed}
 use Rattle.router_promises.specs.Verdicts.{Goes, Parts, Tells, Verdict}
 use Rattle.shared_router.specs.Fixed.{Fixed, IsNumbered, setup_of}
 use Rattle.shared_router.specs.Judged.{IsFresh, IsJudged, IsMet, with_rest}
@@ -36,9 +35,6 @@ module _ (fixed : Fixed) (w : World More) (client : Client) (message : Framed) (
 
   abbrev after : Decided
   after = decided_next (setup_of fixed) (shared fixed) w client
-
-  abbrev starving : OwnAnswer
-  starving = record { from = 0; payloads = out_of_memory ∷ [] }
 
   abbrev behind : Bool → Option Framed → Decided
   behind up next = if up then with_route (shared fixed) w client looked next else looked
@@ -79,16 +75,12 @@ module _ (fixed : Fixed) (w : World More) (client : Client) (message : Framed) (
     unanswered = unanswered_by plan agrees owned;
   }
 
-  told_starving : (plan : Plan) → Agrees after w.tale.moment plan → after.routes name ≡ Some None → after.own name ≡ Some (Some starving)
-      → IsTold (with_rest (terms_of fixed w) plan bare tried) (taking_in w client message) (out_of_memory ∷ [])
-  told_starving plan agrees routed owned = record { route = agrees.routes name None routed; own = agrees.answered name starving owned }
-
   -- by whether memory is refused
   met_by : IsNumbered fixed → (plan : Plan) → Agrees after w.tale.moment plan → (b : Bool)
       → after.routes name ≡ Some (if b then None else goes_by fixed (judged_by fixed w client message))
-      → after.own name ≡ Some (if b then Some starving else told_by (judged_by fixed w client message))
+      → after.own name ≡ Some (if b then None else told_by (judged_by fixed w client message))
       → IsMet b (with_rest (terms_of fixed w) plan bare tried) (taking_in w client message) (judged_by fixed w client message)
-  met_by numbered plan agrees true routed owned = told_starving plan agrees routed owned
+  met_by numbered plan agrees true routed owned = record { route = agrees.routes name None routed; unanswered = unanswered_by plan agrees owned }
   met_by numbered plan agrees false routed owned = judged_as numbered plan agrees (judged_by fixed w client message) routed owned
 
   pub judged_so : IsNumbered fixed → (plan : Plan) → IsFresh fixed w client message → Agrees after w.tale.moment plan

@@ -1,8 +1,8 @@
 -- Last words along a log.
-use Rattle.std.specs.Prelude.{◌≡◌, ◌+◌, ℕ, true, false, not, ◌&&◌, All, if◌then◌else◌, length, List, [], ◌∷◌, ◌++◌, Option, Some, None}
+use Rattle.std.specs.Prelude.{◌≡◌, ◌+◌, ℕ, Bool, true, false, is_none, nat_lt, not, ◌&&◌, All, if◌then◌else◌, length, List, [], ◌∷◌, ◌++◌, Option, Some, None}
 use Rattle.std.specs.Option.{option_map}
 use Rattle.std.proofs.Common.{refl, sym, ap, ◌∙◌, subst, append_assoc, arith}
-use Rattle.std.proofs.lemmas.Bool.{and_from}
+use Rattle.std.proofs.lemmas.Bool.{and_from, and_right}
 use Rattle.client_session.specs.Arrivals.{Arrival, arrival_of}
 use Rattle.mx_wire.specs.Log.{Log}
 use Rattle.mx_wire.specs.Moments.{LawfulAfter}
@@ -11,7 +11,8 @@ use Rattle.mx_wire.specs.declared.entry.Entry.{Entry}
 use Rattle.mx_wire.specs.declared.entry.Entry.TheVariants as entry
 use Rattle.private_model.specs.View.{Setup}
 use Rattle.log_story.specs.Clients.{is_answered}
-use Rattle.log_story.specs.Plan.{Alone, LastWord, Plan}
+use Rattle.log_story.specs.Owed.{name_of}
+use Rattle.log_story.specs.Plan.{Alone, LastWord, Plan, own_at}
 use Rattle.log_story.specs.Tale.{Client, view_of}
 use Rattle.tale_world.specs.Deciding.{World}
 use Rattle.router_promises.specs.Due.{served, turned_away}
@@ -19,8 +20,8 @@ use Rattle.router_promises.specs.Ends.{WordRight, buffers_word, is_accepted, was
 use Rattle.router_promises.specs.Errors.{out_of_memory}
 use Rattle.router_promises.specs.Now as now
 use Rattle.router_promises.specs.Now.{Now, entry_now, now_at, while_ending}
-use Rattle.router_promises.specs.Terms.{Terms}
-use Rattle.shared_router.specs.Ends.{Ending, away_word, ending_of, has_too_much, is_refused_now, may_say_starved, must_go, says_last, word_to}
+use Rattle.router_promises.specs.Terms.{Terms, plan_in}
+use Rattle.shared_router.specs.Ends.{Ending, away_word, ending_of, has_too_much, is_refused_now, is_turned_away, left_word, may_say_starved, must_go, says_last, was_left, word_to}
 use Rattle.shared_router.specs.Fixed.{Fixed, IsNumbered, setup_of}
 use Rattle.shared_router.specs.Judged.{WordsFor}
 use Rattle.shared_router.specs.More.{More}
@@ -122,17 +123,27 @@ module _ (fixed : Fixed) (numbered : IsNumbered fixed) (before later : Log) (e :
     abbrev away_from : ℕ → Arrival → LastWord
     away_from from came = record { from = from; place = Alone; payloads = turned_away came.port }
 
-    word-if : (is_accepted e client && not (served x.terms x.log client)) ≡ true → word_to x client ≡ away_word x client
-    word-if away = ap (λ b. if b then away_word x client else (if must_go x client then None
+    word_but : (left away : Bool) → Option LastWord
+    word_but left away =
+        if left then Some (left_word x) else if away then away_word x client else if must_go x client then None
         else if has_too_much x client then Some (says_last x client (buffers_word x.terms x.ending client))
-        else if is_refused_now x client && may_say_starved x client then Some (says_last x client out_of_memory) else None)) away
+        else if is_refused_now x client && may_say_starved x client then Some (says_last x client out_of_memory) else None
+
+    -- who asked nothing has no message that was left
+    none-left : is_accepted e client ≡ true → (is_refused_now x client && was_left x client) ≡ false
+    none-left accepted = and_right (is_refused_now x client) (was_left x client)
+        (ap (λ n. nat_lt 0 n && (is_none ((plan_in x.terms).routes (name_of client n)) && is_none (own_at (plan_in x.terms) x.ending.tale.moment (name_of client n)))) (newcomer accepted).taken)
+
+    word-if : is_accepted e client ≡ true → (is_accepted e client && not (served x.terms x.log client)) ≡ true → word_to x client ≡ away_word x client
+    unfolding word_but
+    word-if accepted away = ap (λ b. word_but b (is_turned_away x client)) (none-left accepted) ∙ ap (word_but false) away
 
     away-told : (came : Arrival) → is_accepted e client ≡ true → arrival_of client.number.0 (before ++ e ∷ []) ≡ Some came → served t (before ++ e ∷ []) client ≡ false
         → word_to x client ≡ Some (away_from (entry_now x.now) came)
     away-told came accepted arrived unserved =
         let refused : not (served x.terms x.log client) ≡ true = ap not (sym (served-same fixed numbered before e (before ++ e ∷ later) so client looked) ∙ unserved) in
         let away : (is_accepted e client && not (served x.terms x.log client)) ≡ true = and_from (is_accepted e client) (not (served x.terms x.log client)) accepted refused in
-        word-if away ∙ ap (λ l. option_map (away_from (entry_now x.now)) (arrival_of client.number.0 l)) so.entries ∙ ap (option_map (away_from (entry_now x.now))) arrived
+        word-if accepted away ∙ ap (λ l. option_map (away_from (entry_now x.now)) (arrival_of client.number.0 l)) so.entries ∙ ap (option_map (away_from (entry_now x.now))) arrived
 
     pub words-right : WordRight t (before ++ e ∷ []) there behind e client
     words-right = record {

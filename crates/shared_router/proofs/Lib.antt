@@ -75,6 +75,7 @@ pub mod Singled
 pub mod Overdue
 pub mod Takings
 pub mod Quitting
+pub mod Starving
 pub mod Attending
 pub mod Waking
 pub mod Pausing

@@ -1,5 +1,5 @@
 -- Whether a client has to end at an entry, by the last terms and by the world's then.
-use Rattle.std.specs.Prelude.{◌≡◌, ◌≤◌, ℕ, zero, suc, Bool, false, not, ◌&&◌, ◌||◌, is_some, length, nat_eq, List, [], ◌∷◌, ◌++◌, Option}
+use Rattle.std.specs.Prelude.{◌≡◌, ◌≤◌, ℕ, zero, suc, Bool, false, not, ◌&&◌, ◌||◌, is_none, is_some, length, nat_eq, nat_lt, unwrap_or, List, [], ◌∷◌, ◌++◌, Option, None}
 use Rattle.std.specs.List.{list_any}
 use Rattle.std.specs.Option.{option_map_or}
 use Rattle.std.proofs.Common.{refl, sym, ap, ◌∙◌, subst, append_assoc, arith}
@@ -12,19 +12,19 @@ use Rattle.mx_wire.specs.declared.entry.Entry.{Entry}
 use Rattle.private_model.specs.View.{Setup}
 use Rattle.log_story.specs.Clients.{clients_go_on, is_answered}
 use Rattle.log_story.specs.Owed.{messages, name_of, talk_of}
-use Rattle.log_story.specs.Plan.{Plan}
+use Rattle.log_story.specs.Plan.{Plan, Route, own_at}
 use Rattle.log_story.specs.Tale.{Client, Tale, view_of}
 use Rattle.tale_world.specs.Decided.{Agrees, Decided, plan_of}
 use Rattle.tale_world.specs.Deciding.{World}
 use Rattle.tale_world.proofs.Agreeing.{agrees-itself, same_own}
 use Rattle.router_promises.proofs.Saying.{now-tale}
-use Rattle.router_promises.specs.Ends.{breaks_client, is_accepted, is_at_fault, is_refused, loses_client, must_end, quits_at}
+use Rattle.router_promises.specs.Ends.{breaks_client, is_accepted, is_at_fault, is_left, is_refused, loses_client, must_end, quits_at}
 use Rattle.router_promises.specs.Due.{served}
 use Rattle.router_promises.specs.Now as now
 use Rattle.router_promises.specs.Now.{Now, now_at, while_ending}
 use Rattle.router_promises.specs.Takings.{as_told, takings_at}
 use Rattle.router_promises.specs.Terms.{Terms, tale_at}
-use Rattle.shared_router.specs.Ends.{ending_of, must_go}
+use Rattle.shared_router.specs.Ends.{ending_of, must_go, was_left}
 use Rattle.shared_router.specs.Fixed.{Fixed, IsNumbered, setup_of}
 use Rattle.shared_router.specs.Judged.{heard, with_plan}
 use Rattle.shared_router.specs.More.{More, now_of, terms_of}
@@ -96,6 +96,24 @@ module _ (fixed : Fixed) (numbered : IsNumbered fixed) where
       ap (λ (o : Option (List (List ℕ))). is_some o || is_some ((view_of setup tale).replies (name_of client (suc i))))
       (sym (same_own d tale.moment plan agrees (name_of client (suc i)) own.0 own.1))
 
+  -- Whether its last message was left.
+
+  abbrev left_by : Plan → (moment : ℕ) → Client → (ordinal : ℕ) → Bool
+  left_by plan moment client ordinal =
+      nat_lt 0 ordinal && (is_none (plan.routes (name_of client ordinal)) && is_none (own_at plan moment (name_of client ordinal)))
+
+  left-at : (d : Decided) (moment : ℕ) (plan : Plan) (client : Client) → Agrees d moment plan → IsLooked d client → (i : ℕ) → i ≤ client.taken
+      → left_by plan moment client i ≡ left_by (plan_of d) moment client i
+  left-at d moment plan client agrees looked zero below = refl
+  left-at d moment plan client agrees looked (suc i) below =
+      let name = name_of client (suc i) in
+      let route = looked.routes i below in
+      let own = looked.own i below in
+      ap (λ (o : Option Route). nat_lt 0 (suc i) && (is_none o && is_none (own_at plan moment name)))
+      (agrees.routes name route.0 route.1 ∙ sym (ap (λ (o : Option (Option Route)). unwrap_or o None) route.1))
+      ∙ ap (λ (o : Option (List (List ℕ))). nat_lt 0 (suc i) && (is_none ((plan_of d).routes name) && is_none o))
+      (sym (same_own d moment plan agrees name own.0 own.1))
+
   -- The causes, one by one.
 
   abbrev must_by : (loses accepted served refused faulty quits breaks : Bool) → Bool
@@ -148,6 +166,11 @@ module _ (fixed : Fixed) (numbered : IsNumbered fixed) where
         ap (λ x. list_any (quits_by fixed numbered plan client) (takings_at setup plan x e)) so.was
         ∙ quits-same fixed numbered client plan (plan_of d.decided) w e (even_at fixed before) so.agrees (agrees-itself d.decided d.tale.moment)
         ∙ ap (λ (n : Now). list_any (quits_by fixed numbered (plan_of d.decided) client) (takings_at setup (plan_of d.decided) n.tale e)) (sym so.known)
+
+    pub left-same : is_left t ending client ≡ was_left (ending_of fixed d e) client
+    left-same =
+        ap (λ (tale : Tale). left_by plan tale.moment client client.taken) so.tale
+        ∙ left-at d.decided d.tale.moment plan client so.agrees looked client.taken (omega arith)
 
     abbrev was_at : Tale → Now
     was_at tale = record there { tale = tale }

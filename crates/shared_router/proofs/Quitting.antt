@@ -1,9 +1,8 @@
 -- So each message that is taken up goes, or is answered, as is promised, also where its client ends by it.
-use Rattle.std.specs.Prelude.{◌≡◌, ◌≤◌, ◌<◌, ◌⊎◌, ℕ, suc, Bool, true, false, ◌&&◌, ◌||◌, find, map, nat_eq, nat_lt, if◌then◌else◌, unwrap_or, List, [], ◌∷◌, ◌++◌, Option, Some, None}
+use Rattle.std.specs.Prelude.{◌≡◌, ◌≤◌, ◌⊎◌, ℕ, suc, Bool, true, false, ◌&&◌, ◌||◌, find, is_none, map, nat_lt, if◌then◌else◌, List, [], ◌∷◌, ◌++◌, Option, Some, None}
 use Rattle.std.specs.List.{list_any}
-use Rattle.std.specs.Option.{option_map_or}
 use Rattle.std.proofs.Common.{refl, sym, ap, ◌∙◌, subst, append_assoc, arith, inl, inr}
-use Rattle.std.proofs.lemmas.Bool.{and_from, eq-eqb, ltb-false, or_left, or_right}
+use Rattle.std.proofs.lemmas.Bool.{and_from, eq-eqb, lt-ltb, ltb-false, or_left, or_right}
 use Rattle.hostgroups.specs.declared.server.Server.{Server}
 use Rattle.mx_wire.specs.Log.{Log}
 use Rattle.mx_wire.specs.Moments.{LawfulAfter}
@@ -20,10 +19,10 @@ use Rattle.private_model.specs.Names.{ClientNo, MessageName}
 use Rattle.private_model.specs.Story.{Key, is_client}
 use Rattle.private_model.specs.View.{Setup}
 use Rattle.log_story.specs.Owed.{name_of}
-use Rattle.log_story.specs.Plan.{OwnAnswer, Plan, is_before}
+use Rattle.log_story.specs.Plan.{Behind, Plan, Route, is_before, own_at}
 use Rattle.log_story.specs.Tale.{Client, Tale, view_of}
 use Rattle.tale_world.specs.Deciding.{World}
-use Rattle.router_promises.specs.Ends.{breaks_client, is_accepted, is_at_fault, is_quit, is_refused, loses_client, must_end, quits_at}
+use Rattle.router_promises.specs.Ends.{breaks_client, is_accepted, is_at_fault, is_left, is_quit, is_refused, loses_client, must_end, quits_at}
 use Rattle.router_promises.specs.Errors as error
 use Rattle.router_promises.specs.Errors.{out_of_memory}
 use Rattle.router_promises.specs.Now.{Now, entry_now, flag_taken, now_at, takings_now, while_ending}
@@ -32,22 +31,22 @@ use Rattle.router_promises.specs.Running.{servers_after}
 use Rattle.router_promises.specs.Statements.{is_full, next_number}
 use Rattle.router_promises.specs.Takings.{Taking, as_told, message_in, ordinal_of}
 use Rattle.router_promises.specs.Terms.{Terms, plan_in, setup_in}
-use Rattle.router_promises.specs.Uses.{error_code}
 use Rattle.router_promises.specs.Verdicts.{Asks, Chooses, Executes, Goes, Kind, Lists, Malformed, Parts, Pings, Prepares, Quits, ResetsStatement, Restarts, Silent, Tells, Unknown, Unprepared, Verdict, Wanted}
 use Rattle.router_promises.specs.Verdicts.{connection_id, has_nowhere, held_in, is_connection_id, kind_in, pass_of, ruled, sent_unless, tells_one, unless_gone}
 use Rattle.router_promises.specs.Verdicts.{unless_refused, verdict, verdict_by}
-use Rattle.shared_router.specs.Ends.{Ending, ending_of, goes, has_too_much, is_refused_now, is_starved, may_say_starved, must_go, told_starved, was_told_starved}
+use Rattle.shared_router.specs.Ends.{Ending, ending_of, goes, has_too_much, is_refused_now, is_starved, must_go, was_left}
 use Rattle.shared_router.specs.Fixed.{Fixed, IsNumbered, setup_of}
 use Rattle.shared_router.specs.Judged.{AreJudged, IsJudged, IsMet, JudgedSo}
 use Rattle.shared_router.specs.More.{More}
 use Rattle.shared_router.specs.Shared.{final_terms, world_at}
 use Rattle.shared_router.proofs.Ended as ended
 use Rattle.shared_router.proofs.Looked.{Each, IsLooked, each-so, going-looks, looks_at}
-use Rattle.shared_router.proofs.Musts.{ending_world, must-same}
+use Rattle.shared_router.proofs.Musts.{IsEnding, ending_world, left-same, must-same}
 use Rattle.shared_router.proofs.Parting.{even_at}
 use Rattle.shared_router.proofs.Single.{IsAlone, both-each, counts_at, each-alone, going-counts}
 use Rattle.shared_router.proofs.Takings.{IsLast, IsOf, Taken, going-stays, is_his, last-taken, of-clients}
 use Rattle.shared_router.proofs.Walks.{if_either}
+use Rattle.shared_router.proofs.Worded.{left-goes}
 
 isnt : {A : Type 0} → false ≡ true → A
 isnt is = absurd (cc)
@@ -136,13 +135,6 @@ any-later test x xs any = or_right (test x) (list_any test xs) any
 client-itself : (n : ClientNo) → is_client n n ≡ true
 client-itself n = eq-eqb n.0 n.0 refl
 
-abbrev starving : OwnAnswer
-starving = record { from = 0; payloads = out_of_memory ∷ [] }
-
-memory-code : nat_eq (error_code (out_of_memory ∷ [])) 9199 ≡ true
-unfolding out_of_memory
-memory-code = refl
-
 module _ (fixed : Fixed) (numbered : IsNumbered fixed) (before later : Log) (e : Entry) where
   abbrev setup : Setup
   setup = setup_of fixed
@@ -165,19 +157,27 @@ module _ (fixed : Fixed) (numbered : IsNumbered fixed) (before later : Log) (e :
   abbrev m : ℕ
   m = d.tale.moment
 
+  so : IsEnding fixed numbered before e (before ++ e ∷ later)
+  so = ended.so fixed numbered before later e
+
   abbrev takings : List Taking
   takings = takings_now t there e
 
-  -- it is answered so as it is taken up
-  abbrev Starved : MessageName → Type 0
-  Starved name = plan.own name ≡ Some starving
+  -- it is left as it is taken up: it goes nowhere, and isn't answered
+  abbrev pub Left : MessageName → Type 0
+  Left name = (plan.routes name ≡ None) × (own_at plan m name ≡ None)
 
-  abbrev Ends : ClientNo → Type 0
+  abbrev pub Ends : ClientNo → Type 0
   Ends n = (k : ℕ) × ((plan.ends n ≡ Some k) × (k ≤ m))
 
-  record Must (n : ClientNo) : Type 0 where
+  -- where it ends by it, it is told so
+  pub record IsLeft (n : ClientNo) : Type 0 where
+    pub ends : Ends n
+    pub word : plan.ends n ≡ Some m → plan.words n ≡ Some (record { from = m; place = Behind; payloads = out_of_memory ∷ [] })
+
+  pub record Must (n : ClientNo) : Type 0 where
     pub quits : list_any (λ (taking : Taking). is_client taking.client.number n && is_quit (kind_in t taking)) takings ≡ true → Ends n
-    pub starves : fixed.starves m n ≡ true → Each (Taken setup plan n Starved) takings → list_any (is_his setup plan n Starved) takings ≡ true → Ends n
+    pub starves : fixed.starves m n ≡ true → Each (Taken setup plan n Left) takings → list_any (is_his setup plan n Left) takings ≡ true → IsLeft n
 
   -- A client of the tale behind what is taken up.
 
@@ -191,40 +191,32 @@ module _ (fixed : Fixed) (numbered : IsNumbered fixed) (before later : Log) (e :
         let must : must_end t (before ++ e ∷ []) there (while_ending t there e) e client ≡ true =
         or_right (loses_client e client) _ (or_right (is_accepted e client && _) _ (or_right (is_refused t client) _
         (or_right (is_at_fault t (while_ending t there e) client) _ (or_left (quits_at t there e client) breaks quits)))) in
-        ends-if (or_left (must_go x client) _ (sym (must-same fixed numbered before e (before ++ e ∷ later) (ended.so fixed numbered before later e) client looked) ∙ must))
+        ends-if (or_left (must_go x client) _ (sym (must-same fixed numbered before e (before ++ e ∷ later) so client looked) ∙ must))
 
-    -- its last message was answered so
-    was-told : (i : ℕ) → client.taken ≡ suc i → Starved (name_of client (suc i)) → was_told_starved x client ≡ true
-    was-told i taken planned =
-        ap (λ k. option_map_or (told_starved x) (unwrap_or (d.decided.own (name_of client k)) None) false) taken ∙ by_own has.0 has.1
-      where
-        has : (o : Option OwnAnswer) × (d.decided.own (name_of client (suc i)) ≡ Some o)
-        has = looked.own i (omega (arith, taken))
+    -- its last message was left
+    pub was-left : (i : ℕ) → client.taken ≡ suc i → Left (name_of client (suc i)) → was_left x client ≡ true
+    was-left i taken left =
+        sym (left-same fixed numbered before e (before ++ e ∷ later) so client looked)
+        ∙ ap (λ (tale : Tale). is_left t (record (while_ending t there e) { tale = tale }) client) so.tale
+        ∙ ap (λ k. nat_lt 0 k && (is_none (plan.routes (name_of client k)) && is_none (own_at plan m (name_of client k)))) taken
+        ∙ and_from (nat_lt 0 (suc i)) _ (lt-ltb 0 (suc i) (omega arith))
+        (and_from (is_none (plan.routes (name_of client (suc i)))) _ (ap (λ (o : Option Route). is_none o) left.0) (ap (λ (o : Option (List (List ℕ))). is_none o) left.1))
 
-        told : told_starved x starving ≡ true
-        told = and_from (nat_eq 0 (entry_now x.now) || nat_eq 0 0) (nat_eq (error_code (out_of_memory ∷ [])) 9199) (or_right (nat_eq 0 (entry_now x.now)) (nat_eq 0 0) refl) memory-code
-
-        by_own : (o : Option OwnAnswer) → d.decided.own (name_of client (suc i)) ≡ Some o
-            → option_map_or (told_starved x) (unwrap_or (d.decided.own (name_of client (suc i))) None) false ≡ true
-        by_own None is =
-            let late : m < 0 = (ended.so fixed numbered before later e).agrees.unanswered (name_of client (suc i)) starving is planned in absurd (omega (arith, late))
-        by_own (Some answer) is =
-            let by_plan : plan.own (name_of client (suc i)) ≡ Some answer = (ended.so fixed numbered before later e).agrees.answered (name_of client (suc i)) answer is in
-            let same : answer ≡ starving = (let two : Some answer ≡ Some starving = sym by_plan ∙ planned in cc) in
-            ap (λ o. option_map_or (told_starved x) (unwrap_or o None) false) is ∙ ap (told_starved x) same ∙ told
-
-    starves-end : fixed.starves m client.number ≡ true → Each (Taken setup plan client.number Starved) takings
-        → list_any (is_his setup plan client.number Starved) takings ≡ true → Ends client.number
+    starves-end : fixed.starves m client.number ≡ true → Each (Taken setup plan client.number Left) takings
+        → list_any (is_his setup plan client.number Left) takings ≡ true → IsLeft client.number
     starves-end starves taken any =
-        let all : Each (IsLast setup plan client.number Starved) d.tale.clients =
-        subst (λ (tale : Tale). Each (IsLast setup plan client.number Starved) tale.clients) (ended.so fixed numbered before later e).tale
-        (last-taken setup plan client.number Starved (view_of setup there.tale) e (as_told setup plan there.tale e).clients (as_told setup plan there.tale e) taken (inr any)) in
-        let last = each-found (IsLast setup plan client.number Starved) (λ (y : Client). is_client y.number client.number) d.tale.clients client all alone.found (client-itself client.number) in
-        let told : was_told_starved x client ≡ true = was-told last.0 last.1.0 last.1.1 in
-        let refused : is_refused_now x client ≡ true = ap (λ k. fixed.starves k client.number) (ended.x-entry fixed numbered before later e) ∙ starves in
-        let is : is_starved x client ≡ true =
-        and_from (is_refused_now x client) _ refused (or_right (is_accepted e client) _ (or_left (was_told_starved x client) (may_say_starved x client) told)) in
-        ends-if (or_right (must_go x client) _ (or_right (has_too_much x client) (is_starved x client) is))
+        let all : Each (IsLast setup plan client.number Left) d.tale.clients =
+        subst (λ (tale : Tale). Each (IsLast setup plan client.number Left) tale.clients) so.tale
+        (last-taken setup plan client.number Left (view_of setup there.tale) e (as_told setup plan there.tale e).clients (as_told setup plan there.tale e) taken (inr any)) in
+        let last = each-found (IsLast setup plan client.number Left) (λ (y : Client). is_client y.number client.number) d.tale.clients client all alone.found (client-itself client.number) in
+        let entry : entry_now x.now ≡ m = ended.x-entry fixed numbered before later e in
+        let left : (is_refused_now x client && was_left x client) ≡ true =
+        and_from (is_refused_now x client) (was_left x client) (ap (λ k. fixed.starves k client.number) entry ∙ starves) (was-left last.0 last.1.0 last.1.1) in
+        record {
+          ends = ends-if (or_right (must_go x client) _ (or_right (has_too_much x client) (is_starved x client) (left-goes x client left)));
+          word = λ planned. ended.left-said fixed numbered before later e client looked alone planned left
+              ∙ ap (λ k. Some (record { from = k; place = Behind; payloads = out_of_memory ∷ [] })) entry;
+        }
 
   musts : Each (λ (client : Client). Must client.number) d.tale.clients
   musts =
@@ -238,10 +230,9 @@ module _ (fixed : Fixed) (numbered : IsNumbered fixed) (before later : Log) (e :
   abbrev AreOf : List Taking → Type 0
   AreOf = Each (IsOf setup plan Must m)
 
-  all-of : AreOf takings
+  pub all-of : AreOf takings
   all-of =
       let first : Tale = as_told setup plan there.tale e in
-      let so = ended.so fixed numbered before later e in
       let stays = going-stays setup plan (view_of setup there.tale) e first.clients first in
       of-clients setup plan Must m (view_of setup there.tale) e first.clients first (sym stays.moment ∙ ap (λ (tale : Tale). tale.moment) so.tale)
       (each-numbers Must d.tale.clients first.clients (ap (λ (tale : Tale). map (λ (y : Client). y.number) tale.clients) (sym so.tale) ∙ stays.numbers) musts)
@@ -255,19 +246,21 @@ module _ (fixed : Fixed) (numbered : IsNumbered fixed) (before later : Log) (e :
   abbrev Judged : List Server → (ClientNo → ℕ) → List Taking → Type 0
   Judged servers flags row = AreJudged fixed.starves t servers flags row
 
-  -- where memory is refused to it, each is told so
-  all-told : (servers : List Server) (n : ClientNo) → fixed.starves m n ≡ true → (row : List Taking) (flags : ClientNo → ℕ) → AreOf row → Judged servers flags row
-      → Each (Taken setup plan n Starved) row
-  all-told servers n starves [] flags of judged = tt
-  all-told servers n starves (taking ∷ row) flags of judged = (
-    λ his. told (ap (λ k. fixed.starves k taking.client.number) of.0.now ∙ ap (fixed.starves m) (same his) ∙ starves),
-    all-told servers n starves row (flag_taken t flags taking) of.1 judged.1,
+  -- where memory is refused to it, each is left
+  pub all-left : (servers : List Server) (n : ClientNo) → fixed.starves m n ≡ true → (row : List Taking) (flags : ClientNo → ℕ) → AreOf row → Judged servers flags row
+      → Each (Taken setup plan n Left) row
+  all-left servers n starves [] flags of judged = tt
+  all-left servers n starves (taking ∷ row) flags of judged = (
+    λ his. left (ap (λ k. fixed.starves k taking.client.number) of.0.now ∙ ap (fixed.starves m) (same his) ∙ starves),
+    all-left servers n starves row (flag_taken t flags taking) of.1 judged.1,
   ) where
     same : is_client taking.client.number n ≡ true → taking.client.number ≡ n
     same his = client_of taking.client.number n his
 
-    told : fixed.starves taking.tale.moment taking.client.number ≡ true → Starved (message_in taking)
-    told is = (subst (λ b. IsMet b t taking (verdict t servers (flags taking.client.number) taking)) is judged.0).own
+    left : fixed.starves taking.tale.moment taking.client.number ≡ true → Left (message_in taking)
+    left is =
+        let met = subst (λ b. IsMet b t taking (verdict t servers (flags taking.client.number) taking)) is judged.0 in
+        (met.route, subst (λ k. own_at plan k (message_in taking) ≡ None) of.0.now met.unanswered)
 
   module _ (servers : List Server) (whole : ClientNo → ℕ) (all : Judged servers whole takings) where
     abbrev Inside : List Taking → Type 0
@@ -289,10 +282,12 @@ module _ (fixed : Fixed) (numbered : IsNumbered fixed) (before later : Log) (e :
     met-so taking row v true is inside of quits met =
         let n = taking.client.number in
         let now : fixed.starves m n ≡ true = ap (λ k. fixed.starves k n) (sym of.now) ∙ is in
+        let left : IsLeft n = of.one.starves now (all-left servers n now takings whole all-of all)
+        (inside (is_his setup plan n Left) (any-one (is_his setup plan n Left) taking row (client-itself n))) in
+        let ends : plan.ends n ≡ Some taking.tale.moment = ends-now taking of left.ends in
         inr (record {
-          told = met;
-          ends = ends-now taking of (of.one.starves now (all-told servers n now takings whole all-of all)
-              (inside (is_his setup plan n Starved) (any-one (is_his setup plan n Starved) taking row (client-itself n))));
+          left = record { route = met.route; unanswered = met.unanswered; ends = ends };
+          word = left.word (ends ∙ ap (λ k. Some k) of.now) ∙ ap (λ k. Some (record { from = k; place = Behind; payloads = out_of_memory ∷ [] })) (sym of.now);
         })
 
     row-so : (row : List Taking) (flags : ClientNo → ℕ) → Inside row → AreOf row → Judged servers flags row → AreSo t servers flags row

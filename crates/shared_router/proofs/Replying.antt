@@ -25,12 +25,12 @@ use Rattle.shared_router.specs.More.{More}
 use Rattle.shared_router.specs.Onward.{RepliesStaySo}
 use Rattle.shared_router.specs.Ours.{IsOurLog, IsOurs}
 use Rattle.shared_router.specs.Shared.{final_terms, world_at}
-use Rattle.shared_router.proofs.Along.{IsAt, along}
+use Rattle.shared_router.proofs.Along.{IsAt, along, lawful_there}
 use Rattle.shared_router.proofs.Furthering.{tale_more}
 use Rattle.shared_router.proofs.Going.{IsCalm, Keeps, step_keeps}
 use Rattle.shared_router.proofs.Lonely.{Lone, Replied, more_lone, reply_stays}
 use Rattle.shared_router.proofs.Parting.{even_at, tale_then, world_more}
-use Rattle.shared_router.proofs.Reasons.{given_then}
+use Rattle.shared_router.proofs.Reasons.{given_along}
 use Rattle.shared_router.proofs.Since.{step-moment}
 use Rattle.shared_router.proofs.Waking.{held_then}
 use Rattle.shared_router.proofs.Walks.{Comes, Keeping, Says, entry_keeps, writes_keeps}
@@ -131,7 +131,7 @@ module _ (fixed : Fixed) (numbered : IsNumbered fixed) (log : Log) (our : IsOurL
       not_given : (answer : OwnAnswer) → (plan_in t).own m ≡ Some answer → answer.from ≡ suc old.moment → ⊥
       not_given answer is from =
           let here : (now_at t before).tale ≡ old = now-tale t before in
-          let given = subst (λ l. GivenUpSo fixed (final_terms fixed l) before e) at.is (given_then fixed numbered before later e at.fits) in
+          let given = lawful_there (GivenUpSo t) before later log e at.is (given_along fixed numbered log our) in
           let count : (now_at t before).tale.moment ≡ old.moment = ap (λ (x : Tale). x.moment) here in
           let up = given m answer is (omega (arith, from, count)) in
           let heard : Option Reply = (view_of (setup_in t) (now_at t before).tale).replies m in

@@ -20,19 +20,19 @@ use Rattle.tale_world.specs.World.{ended_now, is_ended}
 use Rattle.tale_world.proofs.Agreeing.{same_before}
 use Rattle.tale_world.proofs.Following.{going_even, step_even}
 use Rattle.router_promises.specs.Due.{served, turned_away}
-use Rattle.router_promises.specs.Ends.{IsLastWord, NoMemory, TooMuch, TurnedAway, WordFor, buffers_word, comes_from, is_accepted, is_alone, is_at, is_measured, is_too_much, kept, kept_bytes, kept_in_all, was_answered}
+use Rattle.router_promises.specs.Ends.{IsLastWord, Left, NoMemory, TooMuch, TurnedAway, WordFor, buffers_word, comes_from, is_accepted, is_alone, is_at, is_left, is_measured, is_too_much, kept, kept_bytes, kept_in_all, was_answered}
 use Rattle.router_promises.specs.Errors.{buffers_full, out_of_memory}
 use Rattle.router_promises.specs.Now as now
 use Rattle.router_promises.specs.Now.{Now, entry_now, now_at, while_ending}
 use Rattle.router_promises.specs.Terms.{Terms}
-use Rattle.shared_router.specs.Ends.{Ending, away_word, client_at, ending_of, goes, has_too_much, is_refused_now, is_turned_away, may_say_starved, must_go, place_by, says_last, word_place, word_to, words_by}
+use Rattle.shared_router.specs.Ends.{Ending, away_word, client_at, ending_of, goes, has_too_much, is_refused_now, is_turned_away, left_word, may_say_starved, must_go, place_by, says_last, was_left, word_place, word_to, words_by}
 use Rattle.shared_router.specs.Fixed.{Fixed, IsNumbered, setup_of}
 use Rattle.shared_router.specs.Judged.{with_plan}
 use Rattle.shared_router.specs.More.{More}
 use Rattle.shared_router.specs.Shared.{final_terms, shared, world_at}
 use Rattle.shared_router.proofs.Ended as ended
 use Rattle.shared_router.proofs.Looked.{IsLooked}
-use Rattle.shared_router.proofs.Musts.{IsEnding, answered-same, ending_world, last_plan, served-same}
+use Rattle.shared_router.proofs.Musts.{IsEnding, answered-same, ending_world, last_plan, left-same, served-same}
 use Rattle.shared_router.proofs.Single.{IsAlone}
 use Rattle.shared_router.proofs.Parting.{even_at, next, world_more}
 use Rattle.shared_router.proofs.Since.{log-since, step-moment}
@@ -209,7 +209,7 @@ module _ (fixed : Fixed) (numbered : IsNumbered fixed) (before later : Log) (e :
         ∙ ap (ended_now d.tale.moment true) none ∙ ap (λ n. Some n) (sym (ended.entry-so fixed numbered before later e)))
 
     pub record IsWhy (word : LastWord) : Type 0 where
-      pub answered : was_answered t ending client ≡ true
+      pub answered : (was_answered t ending client || is_left t ending client) ≡ true
       pub why : WordFor t (before ++ e ∷ []) there ending e client word.place word.payloads
 
     -- it was turned away
@@ -223,7 +223,7 @@ module _ (fixed : Fixed) (numbered : IsNumbered fixed) (before later : Log) (e :
       by_came None at so_is = none-said word so_is
       by_came (Some came) at so_is =
           subst IsWhy (some-same _ word so_is) (record {
-            answered = answered;
+            answered = or_left (was_answered t ending client) _ answered;
             why = TurnedAway came parts.0 (ap (arrival_of client.number.0) (sym so.entries) ∙ at)
                 (served-same fixed numbered before e log so client looked ∙ not-true (served x.terms x.log client) parts.1);
           })
@@ -233,7 +233,7 @@ module _ (fixed : Fixed) (numbered : IsNumbered fixed) (before later : Log) (e :
         let parts = and_parts (is_measured x.terms x.now x.ending e client) (is_too_much x.terms x.ending client) much in
         let answered = and_parts (was_answered x.terms x.ending client) (comes_from e client || not (was_answered x.terms x.now client)) parts.0 in
         subst IsWhy (some-same _ word is) (record {
-          answered = answered-end ∙ answered.0;
+          answered = or_left (was_answered t ending client) _ (answered-end ∙ answered.0);
           why = subst (λ text. WordFor t (before ++ e ∷ []) there ending e client (word_place x client) (text ∷ [])) text-same
               (TooMuch (word_place x client) (not-alone _) (much-same ∙ parts.1));
         })
@@ -244,20 +244,30 @@ module _ (fixed : Fixed) (numbered : IsNumbered fixed) (before later : Log) (e :
         let parts = and_parts _ (was_answered x.terms x.ending client && is_at setup x.now e client) says.1 in
         let both = and_parts (was_answered x.terms x.ending client) (is_at setup x.now e client) parts.1 in
         subst IsWhy (some-same _ word is) (record {
-          answered = answered-end ∙ both.0;
+          answered = or_left (was_answered t ending client) _ (answered-end ∙ both.0);
           why = NoMemory (word_place x client) (not-alone _) (sym at-same ∙ both.1);
         })
 
+    left-why : (is_refused_now x client && was_left x client) ≡ true → (word : LastWord) → Some (left_word x) ≡ Some word → IsWhy word
+    left-why left word is =
+        let last : is_left t ending client ≡ true =
+        left-same fixed numbered before e log so client looked ∙ (and_parts (is_refused_now x client) (was_left x client) left).1 in
+        subst IsWhy (some-same _ word is) (record { answered = or_right (was_answered t ending client) _ last; why = Left last })
+
     why-so : (is_accepted e client ≡ true → was_answered t ending client ≡ true) → (word : LastWord) → word_to x client ≡ Some word → IsWhy word
-    why-so idle word is = by_tests (is_turned_away x client) (must_go x client) (has_too_much x client) (is_refused_now x client && may_say_starved x client) refl refl refl is where
-      by_tests : (away must much starved : Bool) → is_turned_away x client ≡ away → has_too_much x client ≡ much → (is_refused_now x client && may_say_starved x client) ≡ starved
-          → (if away then away_word x client else if must then None else if much then Some (says_last x client (buffers_word x.terms x.ending client))
-          else if starved then Some (says_last x client out_of_memory) else None) ≡ Some word → IsWhy word
-      by_tests true must much starved a h s so_is = away-why a (idle (and_parts (is_accepted e client) (not (served x.terms x.log client)) a).0) word so_is
-      by_tests false true much starved a h s so_is = none-said word so_is
-      by_tests false false true starved a h s so_is = much-why h word so_is
-      by_tests false false false true a h s so_is = starved-why s word so_is
-      by_tests false false false false a h s so_is = none-said word so_is
+    why-so idle word is =
+        by_tests (is_refused_now x client && was_left x client) (is_turned_away x client) (must_go x client) (has_too_much x client) (is_refused_now x client && may_say_starved x client) refl refl refl refl is
+      where
+        by_tests : (left away must much starved : Bool) → (is_refused_now x client && was_left x client) ≡ left → is_turned_away x client ≡ away → has_too_much x client ≡ much
+            → (is_refused_now x client && may_say_starved x client) ≡ starved
+            → (if left then Some (left_word x) else if away then away_word x client else if must then None
+            else if much then Some (says_last x client (buffers_word x.terms x.ending client)) else if starved then Some (says_last x client out_of_memory) else None) ≡ Some word → IsWhy word
+        by_tests true away must much starved l a h s so_is = left-why l word so_is
+        by_tests false true must much starved l a h s so_is = away-why a (idle (and_parts (is_accepted e client) (not (served x.terms x.log client)) a).0) word so_is
+        by_tests false false true much starved l a h s so_is = none-said word so_is
+        by_tests false false false true starved l a h s so_is = much-why h word so_is
+        by_tests false false false false true l a h s so_is = starved-why s word so_is
+        by_tests false false false false false l a h s so_is = none-said word so_is
 
     pub word-right : (is_accepted e client ≡ true → was_answered t ending client ≡ true) → (word : LastWord) → plan.words c ≡ Some word → word.from ≡ entry_now there
         → IsLastWord t (before ++ e ∷ []) there e client word

@@ -28,7 +28,7 @@ use Rattle.router_promises.specs.Errors.{out_of_memory}
 use Rattle.router_promises.specs.Now.{Now, entry_now}
 use Rattle.router_promises.specs.Terms.{plan_in}
 use Rattle.router_promises.specs.Verdicts.{Goes, Parts, Tells, Verdict}
-use Rattle.shared_router.specs.Ends.{Ending, client_at, ending_of, has_too_much, is_refused_now, is_turned_away, may_say_starved, must_go, says_last, word_to, words_by}
+use Rattle.shared_router.specs.Ends.{Ending, client_at, ending_of, has_too_much, is_refused_now, is_turned_away, left_word, may_say_starved, must_go, says_last, was_left, word_to, words_by}
 use Rattle.shared_router.specs.Fixed.{Fixed, setup_of}
 use Rattle.shared_router.specs.Judged.{heard}
 use Rattle.shared_router.specs.More.{More, now_of}
@@ -194,8 +194,8 @@ module _ (fixed : Fixed) where
 
   answered-at-once : (w : World More) (client : Client) (message : Framed) (answer : OwnAnswer) → answer_by fixed w client message ≡ Some answer → answer.from ≡ 0
   answered-at-once w client message answer is = by_test (starves_now fixed w client) is where
-    by_test : (b : Bool) → (if b then Some (record { from = 0; payloads = out_of_memory ∷ [] }) else told_by (judged_by fixed w client message)) ≡ Some answer → answer.from ≡ 0
-    by_test true is = ap (λ (o : Option OwnAnswer). option_map_or (λ (a : OwnAnswer). a.from) o 0) (sym is)
+    by_test : (b : Bool) → (if b then None else told_by (judged_by fixed w client message)) ≡ Some answer → answer.from ≡ 0
+    by_test true is = no_answer answer is
     by_test false is = told-at-once (judged_by fixed w client message) answer is
 
   routed-since : (k : ℕ) (w : World More) (client : Client) (d : Decided) (found : Option Framed) → Since k k d (with_route by w client d found)
@@ -252,23 +252,26 @@ module _ (fixed : Fixed) where
   away-from x client None word is = absurd (cc)
   away-from x client (Some came) word is = ap (λ (o : Option LastWord). option_map_or (λ (w : LastWord). w.from) o 0) (sym is)
 
-  last-from : (x : Ending) (client : Client) (payload : List ℕ) (word : LastWord) → Some (says_last x client payload) ≡ Some word → word.from ≡ entry_now x.now
-  last-from x client payload word is = ap (λ (o : Option LastWord). option_map_or (λ (w : LastWord). w.from) o 0) (sym is)
+  one-from : (said word : LastWord) → Some said ≡ Some word → word.from ≡ said.from
+  one-from said word is = ap (λ (o : Option LastWord). option_map_or (λ (w : LastWord). w.from) o 0) (sym is)
 
   no_word : (word : LastWord) (n : ℕ) → None ≡ Some word → word.from ≡ n
   no_word word n is = absurd (cc)
 
   word-from : (x : Ending) (client : Client) (word : LastWord) → word_to x client ≡ Some word → word.from ≡ entry_now x.now
   word-from x client word is =
-      elim (if-word (is_turned_away x client) _ _ word is) [
-        | inl away ↦ away-from x client (arrival_of client.number.0 x.log) word away
-        | inr other ↦ elim (if-word (must_go x client) _ _ word other) [
-          | inl none ↦ no_word word (entry_now x.now) none
-          | inr later ↦ elim (if-word (has_too_much x client) _ _ word later) [
-            | inl much ↦ last-from x client (buffers_word x.terms x.ending client) word much
-            | inr rest ↦ elim (if-word (is_refused_now x client && may_say_starved x client) _ _ word rest) [
-              | inl starved ↦ last-from x client out_of_memory word starved
-              | inr none ↦ no_word word (entry_now x.now) none
+      elim (if-word (is_refused_now x client && was_left x client) _ _ word is) [
+        | inl left ↦ one-from (left_word x) word left
+        | inr here ↦ elim (if-word (is_turned_away x client) _ _ word here) [
+          | inl away ↦ away-from x client (arrival_of client.number.0 x.log) word away
+          | inr other ↦ elim (if-word (must_go x client) _ _ word other) [
+            | inl none ↦ no_word word (entry_now x.now) none
+            | inr later ↦ elim (if-word (has_too_much x client) _ _ word later) [
+              | inl much ↦ one-from (says_last x client (buffers_word x.terms x.ending client)) word much
+              | inr rest ↦ elim (if-word (is_refused_now x client && may_say_starved x client) _ _ word rest) [
+                | inl starved ↦ one-from (says_last x client out_of_memory) word starved
+                | inr none ↦ no_word word (entry_now x.now) none
+              ]
             ]
           ]
         ]

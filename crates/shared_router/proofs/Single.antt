@@ -39,7 +39,7 @@ either-number : (b : Bool) (x y : Client) (n : ℕ) → (b ≡ true → x.number
 either-number true x y n one other = one refl
 either-number false x y n one other = other
 
-numbered-seats : Seats anybody (Numbered 1)
+pub numbered-seats : Seats anybody (Numbered 1)
 numbered-seats = record {
   comes = λ cs link salt comes all. numbered-last (new_client (length cs + 1) link salt) 1 cs all (omega arith);
   hears = λ cs link bytes all. numbered-map (client_hears link bytes)

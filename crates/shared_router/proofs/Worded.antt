@@ -3,7 +3,7 @@ use Rattle.std.specs.Prelude.{◌≡◌, ◌⊎◌, ℕ, zero, suc, Bool, true, 
 use Rattle.std.specs.List.{list_any}
 use Rattle.std.specs.Option.{option_and_then, option_map_or, option_or}
 use Rattle.std.proofs.Common.{refl, sym, ap, ◌∙◌, inl, inr}
-use Rattle.std.proofs.lemmas.Bool.{or_left, or_right, and_parts}
+use Rattle.std.proofs.lemmas.Bool.{and_from, and_parts, or_left, or_right}
 use Rattle.mx_base.specs.declared.names.LinkId.{LinkId}
 use Rattle.mx_wire.specs.Log.{Log}
 use Rattle.mx_wire.specs.declared.entry.Entry.{Entry}
@@ -22,7 +22,7 @@ use Rattle.tale_world.specs.World.{are_taken, decided_last, decided_looked, deci
 use Rattle.router_promises.specs.Ends.{buffers_word, is_accepted}
 use Rattle.router_promises.specs.Errors.{out_of_memory}
 use Rattle.router_promises.specs.Terms.{plan_in}
-use Rattle.shared_router.specs.Ends.{Ending, away_word, client_at, ending_of, ends_by, goes, has_too_much, is_refused_now, is_starved, is_turned_away, may_say_starved, must_go, says_last, was_told_starved, word_to, words_by}
+use Rattle.shared_router.specs.Ends.{Ending, away_word, client_at, ending_of, ends_by, goes, has_too_much, is_refused_now, is_starved, is_turned_away, left_word, may_say_starved, must_go, says_last, was_left, was_told_starved, word_to, words_by}
 use Rattle.shared_router.specs.Fixed.{Fixed, setup_of}
 use Rattle.shared_router.specs.Judged.{heard}
 use Rattle.shared_router.specs.More.{More}
@@ -43,24 +43,30 @@ turned-goes x client is = or_right _ _ (or_left _ _ is)
 pub starved-goes : (x : Ending) (client : Client) → (is_refused_now x client && may_say_starved x client) ≡ true → is_starved x client ≡ true
 starved-goes x client is =
     let parts = and_parts (is_refused_now x client) (may_say_starved x client) is in
-    by_refused (is_refused_now x client) parts.0
-  where
-    by_refused : (b : Bool) → b ≡ true → (b && (is_accepted x.e client || (was_told_starved x client || may_say_starved x client))) ≡ true
-    by_refused true so = or_right _ _ (or_right _ _ (and_parts (is_refused_now x client) (may_say_starved x client) is).1)
-    by_refused false so = absurd (cc)
+    and_from (is_refused_now x client) _ parts.0
+    (or_right (is_accepted x.e client) _ (or_right (was_told_starved x client) _ (or_right (was_left x client) (may_say_starved x client) parts.1)))
+
+pub left-goes : (x : Ending) (client : Client) → (is_refused_now x client && was_left x client) ≡ true → is_starved x client ≡ true
+left-goes x client is =
+    let parts = and_parts (is_refused_now x client) (was_left x client) is in
+    and_from (is_refused_now x client) _ parts.0
+    (or_right (is_accepted x.e client) _ (or_right (was_told_starved x client) _ (or_left (was_left x client) (may_say_starved x client) parts.1)))
 
 pub word-goes : (x : Ending) (client : Client) (word : LastWord) → word_to x client ≡ Some word → goes x client ≡ true
-word-goes x client word is = by_tests (is_turned_away x client) (must_go x client) (has_too_much x client) (is_refused_now x client && may_say_starved x client) refl refl refl refl is where
-  by_tests : (away must much starved : Bool) → is_turned_away x client ≡ away → must_go x client ≡ must → has_too_much x client ≡ much
-      → (is_refused_now x client && may_say_starved x client) ≡ starved
-      → (if away then away_word x client else if must then None else if much then Some (says_last x client (buffers_word x.terms x.ending client))
-      else if starved then Some (says_last x client out_of_memory) else None) ≡ Some word
-      → (must_go x client || (has_too_much x client || is_starved x client)) ≡ true
-  by_tests true must much starved a m h s so = or_left _ _ (turned-goes x client a)
-  by_tests false true much starved a m h s so = none-said word so
-  by_tests false false true starved a m h s so = or_right _ _ (or_left _ _ h)
-  by_tests false false false true a m h s so = or_right _ _ (or_right _ _ (starved-goes x client s))
-  by_tests false false false false a m h s so = none-said word so
+word-goes x client word is =
+    by_tests (is_refused_now x client && was_left x client) (is_turned_away x client) (must_go x client) (has_too_much x client) (is_refused_now x client && may_say_starved x client) refl refl refl refl refl is
+  where
+    by_tests : (left away must much starved : Bool) → (is_refused_now x client && was_left x client) ≡ left → is_turned_away x client ≡ away → must_go x client ≡ must
+        → has_too_much x client ≡ much → (is_refused_now x client && may_say_starved x client) ≡ starved
+        → (if left then Some (left_word x) else if away then away_word x client else if must then None
+        else if much then Some (says_last x client (buffers_word x.terms x.ending client)) else if starved then Some (says_last x client out_of_memory) else None) ≡ Some word
+        → (must_go x client || (has_too_much x client || is_starved x client)) ≡ true
+    by_tests true away must much starved l a m h s so = or_right _ _ (or_right _ _ (left-goes x client l))
+    by_tests false true must much starved l a m h s so = or_left _ _ (turned-goes x client a)
+    by_tests false false true much starved l a m h s so = none-said word so
+    by_tests false false false true starved l a m h s so = or_right _ _ (or_left _ _ h)
+    by_tests false false false false true l a m h s so = or_right _ _ (or_right _ _ (starved-goes x client s))
+    by_tests false false false false false l a m h s so = none-said word so
 
 find-any : {A : Type 0} (p g : A → Bool) (xs : List A) (x : A) → find p xs ≡ Some x → g x ≡ true → list_any (λ y. p y && g y) xs ≡ true
 find-any p g [] x is holds = absurd (cc)

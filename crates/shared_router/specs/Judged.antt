@@ -13,7 +13,6 @@ use Rattle.tale_world.specs.Decided.{plan_of}
 use Rattle.tale_world.specs.Deciding.{World}
 use Rattle.tale_world.specs.World.{are_freed, decided_last, decided_looked, goes_on, is_called, is_counted, is_told, is_up, next_message, next_of, taken_once, with_taken}
 use Rattle.router_promises.specs.Ends.{EndsRight, WordRight}
-use Rattle.router_promises.specs.Errors.{out_of_memory}
 use Rattle.router_promises.specs.Now.{flag_taken, next, now_at, takings_now}
 use Rattle.router_promises.specs.Routed.{IsRoute, IsTold}
 use Rattle.router_promises.specs.Running.{servers_after}
@@ -32,7 +31,7 @@ with_plan terms plan = record terms { decided = record terms.decided { plan = pl
 abbrev pub with_rest : Terms → Plan → (bare : LinkId → Bool) → (tried : ℕ → Tried) → Terms
 with_rest terms plan bare tried = record terms { decided = record terms.decided { plan = plan; bare = bare; tried = tried } }
 
--- its client parts: neither a route nor an answer by now
+-- its client parts by it: neither a route nor an answer by now
 pub record IsLeft (terms : Terms) (taking : Taking) : Type 0 where
   pub route : (plan_in terms).routes (message_in taking) ≡ None
   pub unanswered : own_at (plan_in terms) taking.tale.moment (message_in taking) ≡ None
@@ -42,9 +41,9 @@ IsJudged terms taking Parts = IsLeft terms taking
 IsJudged terms taking (Tells payloads) = IsTold terms taking payloads
 IsJudged terms taking (Goes wanted) = IsRoute terms taking wanted
 
--- where memory is refused, it is told so
+-- where memory is refused, it is left
 abbrev pub IsMet : (starves : Bool) → Terms → Taking → Verdict → Type 0
-IsMet true terms taking verdict = IsTold terms taking (out_of_memory ∷ [])
+IsMet true terms taking verdict = IsLeft terms taking
 IsMet false terms taking verdict = IsJudged terms taking verdict
 
 -- A message comes up, and nothing was decided of it before.

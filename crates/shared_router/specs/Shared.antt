@@ -11,7 +11,6 @@ use Rattle.log_story.specs.Plan.{OwnAnswer, Route}
 use Rattle.log_story.specs.Tale.{Client}
 use Rattle.tale_world.specs.Deciding.{Deciding, World}
 use Rattle.tale_world.specs.World.{world_after}
-use Rattle.router_promises.specs.Errors.{out_of_memory}
 use Rattle.router_promises.specs.Now.{flag_taken, taken_since}
 use Rattle.router_promises.specs.Router.{service_of}
 use Rattle.router_promises.specs.Running.{servers_after}
@@ -48,7 +47,7 @@ told_by Parts = None
 told_by (Tells payloads) = Some (record { from = 0; payloads = payloads })
 told_by (Goes wanted) = None
 
--- for want of memory it is answered so, whatever it is
+-- for want of memory it is left, whatever it is, and its client ends
 abbrev pub starves_now : Fixed → World More → Client → Bool
 starves_now fixed w client = fixed.starves w.tale.moment client.number
 
@@ -56,8 +55,7 @@ abbrev pub route_by : Fixed → World More → Client → Framed → Option Rout
 route_by fixed w client message = if starves_now fixed w client then None else goes_by fixed (judged_by fixed w client message)
 
 abbrev pub answer_by : Fixed → World More → Client → Framed → Option OwnAnswer
-answer_by fixed w client message =
-    if starves_now fixed w client then Some (record { from = 0; payloads = out_of_memory ∷ [] }) else told_by (judged_by fixed w client message)
+answer_by fixed w client message = if starves_now fixed w client then None else told_by (judged_by fixed w client message)
 
 -- As an entry is told: what has to be known of before it is kept.
 

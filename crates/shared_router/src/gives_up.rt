@@ -3,7 +3,6 @@ ghost use Rattle.std.specs.Prelude.{◌≡◌, ℕ, List, None, true};
 ghost use Rattle.hostgroups.specs.declared.server.Server.{Server};
 ghost use Rattle.mx_wire.specs.Log.{Log};
 ghost use Rattle.mx_wire.specs.Moments.{AllLawful};
-ghost use Rattle.mx_wire.specs.Tells.{Fits};
 ghost use Rattle.mx_wire.specs.declared.entry.Entry.TheVariants.{Woke};
 ghost use Rattle.private_model.specs.Names.{MessageName};
 ghost use Rattle.log_story.specs.Plan.{Route};
@@ -12,12 +11,13 @@ ghost use Rattle.shared_router.specs.Fixed.{Fixed, IsNumbered};
 ghost use Rattle.shared_router.specs.Given.{GivenUpSo, IsOverdue, RefusesOneSo};
 ghost use Rattle.shared_router.specs.Known.{Known, present_by};
 ghost use Rattle.shared_router.specs.Lends.{is_readied_for};
+ghost use Rattle.shared_router.specs.Ours.{IsOurLog};
 ghost use Rattle.shared_router.specs.Shared.{final_terms};
 
-/// Each statement that is given up at an entry of a log that a wire can tell was in work, and has its cause: one of the promise's, with the
-/// error that goes with it, or that memory is refused to its client.
+/// Each statement that is given up at an entry was in work, and has its cause, with the error that goes with it; who has one given up for want
+/// of memory ends by it.
 pub fn gives_up_for_a_cause()
-    ensures { (fixed : Fixed) (log : Log) → IsNumbered fixed → AllLawful Fits log → AllLawful (GivenUpSo fixed (final_terms fixed log)) log }
+    ensures { (fixed : Fixed) (log : Log) → IsNumbered fixed → IsOurLog fixed log → AllLawful (GivenUpSo (final_terms fixed log)) log }
 {}
 
 /// A step that a server refuses gives up one statement.

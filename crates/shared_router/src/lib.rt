@@ -47,7 +47,7 @@ pub fn is_routers()
 {}
 
 /// As a message comes up of which nothing was decided: by each plan that agrees with what is decided then, it goes where the verdict
-/// by that plan says, or is answered as it says; where memory is refused to its client, it is told so.
+/// by that plan says, or is answered as it says; where memory is refused to its client, it is left.
 pub fn is_judged()
     ensures { (fixed : Fixed) (w : World More) (client : Client) (message : Framed) (bare : LinkId → Bool) (tried : ℕ → Tried) (plan : Plan)
         → IsNumbered fixed → IsFresh fixed w client message → Agrees (decided_next (setup_of fixed) (shared fixed) w client) w.tale.moment plan
@@ -61,7 +61,7 @@ pub fn is_prompt()
 {}
 
 /// So at each entry of the log, each message that is taken up goes where the verdict by the last plan says, or is answered as it says; where
-/// memory is refused to its client, it is told so.
+/// memory is refused to its client, it is left.
 pub fn judges_each()
     ensures { (fixed : Fixed) (log : Log) → IsNumbered fixed → IsOurLog fixed log → AllLawful (JudgedSo fixed.starves (final_terms fixed log)) log }
 {
