@@ -1,22 +1,20 @@
 -- What the router asks for itself is wanted: a step by the statement whose link it is, or by one that waits for a link of its key, a
 -- preparation on the way to a statement, and a STMT_CLOSE where there are too many or one is in the way.
-use Rattle.std.specs.Prelude.{◌≡◌, ◌⊎◌, ℕ, Bool, true, false, length, nat_le, List, [], Some}
+use Rattle.std.specs.Prelude.{◌≡◌, ℕ, Bool, true, false, [], Some}
 use Rattle.mx_base.specs.declared.tag.Tag.{Tag}
 use Rattle.mx_base.specs.declared.tag.Tag.TheVariants as tags
 use Rattle.mx_wire.specs.Log.{Log}
 use Rattle.mx_wire.specs.declared.entry.Entry.{Entry}
 use Rattle.mx_wire.specs.declared.entry.Entry.TheVariants.{Wrote}
-use Rattle.private_model.specs.Commands.{Number, Prepare, Quit}
-use Rattle.private_model.specs.Names.{LinkId, SessionName}
-use Rattle.private_model.specs.Story.{Due}
+use Rattle.private_model.specs.Commands.{Number, Quit}
+use Rattle.private_model.specs.Names.{LinkId}
 use Rattle.server_rule.specs.Classes.{Reads}
 use Rattle.log_story.specs.Plan.{Asks, Closes, StepText}
 use Rattle.log_story.specs.Servers.{may_begin}
 use Rattle.log_story.specs.Tale.{is_to_server}
 use Rattle.tale_world.specs.Tests.{is_set}
-use Rattle.router_promises.specs.Dues.{is_due}
-use Rattle.router_promises.specs.Now.{Now, link_now, now_at, view_now, wire_now}
-use Rattle.router_promises.specs.Steps.{is_prep_wanted, is_wanted, live_keys}
+use Rattle.router_promises.specs.Now.{Now, link_now, now_at, wire_now}
+use Rattle.router_promises.specs.Steps.{IsClose, is_prep_wanted, is_wanted}
 use Rattle.router_promises.specs.Terms.{Terms, plan_in, setup_in}
 use Rattle.shared_router.specs.Fixed.{Fixed}
 
@@ -28,27 +26,11 @@ SpellsIds fixed = (id : ℕ) (number : Number) → fixed.ids id ≡ Some number 
 abbrev pub ReadsNothing : Reads → Type 0
 ReadsNothing reads = (tx : Bool) → is_set (reads.class []) tx ≡ false
 
--- a statement that is due is to prepare what stands there under its key
-pub record IsPreparedAgain (terms : Terms) (now : Now) (key : ℕ) : Type 0 where
-  pub name : SessionName
-  pub due : Due
-  pub text : List ℕ
-  pub waits : is_due terms now.tale name ≡ true
-  pub there : (view_now (setup_in terms) now).dues name ≡ Some due
-  pub same : due.key ≡ key
-  pub prepares : due.command ≡ Prepare text
-
--- a STMT_CLOSE names a number that is live, where 1,000 are, or where a statement that is due is to prepare what stands under its key
-pub record IsCleared (terms : Terms) (now : Now) (link : LinkId) (number : ℕ) : Type 0 where
-  pub key : ℕ
-  pub live : (link_now (setup_in terms) now link).live key ≡ Some number
-  pub needed : (nat_le 1000 (length (live_keys (setup_in terms) now link)) ≡ true) ⊎ IsPreparedAgain terms now key
-
 -- a QUIT is no step
 abbrev pub IsWantedThere : Terms → Now → LinkId → StepText → Type 0
 IsWantedThere terms now link (Asks Quit) = Unit {0}
 IsWantedThere terms now link (Asks command) = is_wanted terms now link command (link_now (setup_in terms) now link).carries ≡ true
-IsWantedThere terms now link (Closes number) = IsCleared terms now link number
+IsWantedThere terms now link (Closes number) = IsClose terms now link number
 IsWantedThere terms now link _ = Unit {0}
 
 abbrev pub LeadsFor : Terms → Now → LinkId → StepText → Tag → Type 0

@@ -42,7 +42,7 @@ pub fn sends_what_is_due()
 
 /// Each step is wanted by the statement whose link it is, or by one that waits for a link of its key: it leads to a schema or to settings that
 /// the link wasn't told, or sets the session's insert id. Each preparation is for a statement that is due, and its text doesn't stand there.
-/// A STMT_CLOSE names a number that is live, where 1,000 are, or where a statement that is due is to prepare what stands under its key.
+/// A STMT_CLOSE names a number that is live, where 1,000 are, or where a statement that is due is to prepare its text anew.
 /// Where insert ids are spelt as they are, and an empty text isn't read as a SET.
 pub fn takes_steps_that_are_wanted()
     ensures { (fixed : Fixed) (log : Log) → IsNumbered fixed → SpellsIds fixed → ReadsNothing fixed.router.reads → IsOurLog fixed log
