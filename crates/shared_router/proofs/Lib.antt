@@ -99,3 +99,4 @@ pub mod Adding
 pub mod Furthering
 pub mod Onwards
 pub mod Answering
+pub mod Summing

@@ -18,3 +18,4 @@ pub mod Given
 pub mod Leads
 pub mod Waited
 pub mod Onward
+pub mod Kept

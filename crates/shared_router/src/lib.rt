@@ -4,6 +4,7 @@
 mod clients;
 pub mod departing;
 mod gives_up;
+mod kept;
 mod keys;
 mod links;
 mod replies;
