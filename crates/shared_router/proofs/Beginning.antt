@@ -101,7 +101,7 @@ else_form : (setup : Setup) (n : SessionName) (due : Due) (step : Command → Qu
 else_form setup n due step None other form = form
 else_form setup n due step (Some command) other form = Stepping command
 
-form_of : (fits : ℕ → Option Number) (setup : Setup) (n : SessionName) (due : Due) (step : Command → Question) (link : Link) (held : Held)
+pub form_of : (fits : ℕ → Option Number) (setup : Setup) (n : SessionName) (due : Due) (step : Command → Question) (link : Link) (held : Held)
     → IsForm setup n due step (question_for texts fits setup n due step link held)
 form_of fits setup n due step link held = by_test (is_unprepared link.live due due.command) where
   by_test : (b : Bool) → IsForm setup n due step

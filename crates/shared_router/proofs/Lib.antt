@@ -94,6 +94,7 @@ pub mod Going
 pub mod Grouping
 pub mod Lonely
 pub mod Replying
+pub mod Readily
 pub mod Fronted
 pub mod Adding
 pub mod Furthering

@@ -16,6 +16,7 @@ pub mod Lent
 pub mod Sends
 pub mod Given
 pub mod Leads
+pub mod Ready
 pub mod Waited
 pub mod Onward
 pub mod Kept

@@ -1,5 +1,6 @@
 // Links to servers: what is known of them, for whom they are opened, and why they are closed.
-ghost use Rattle.std.specs.Prelude.{◌≡◌, ◌++◌};
+ghost use Rattle.std.specs.Prelude.{◌≡◌, ◌++◌, Some, is_some, true};
+ghost use Rattle.mx_base.specs.declared.names.LinkId.{LinkId};
 ghost use Rattle.mx_wire.specs.Log.{Log};
 ghost use Rattle.mx_wire.specs.Moments.{AllLawful};
 ghost use Rattle.router_promises.specs.Closes.{ClosesSo};
@@ -8,11 +9,16 @@ ghost use Rattle.router_promises.specs.Opens.{OpensSo};
 ghost use Rattle.router_promises.specs.Terms.{AreWhoTheySay};
 ghost use Rattle.server_rule.specs.Classes.{router_reads};
 ghost use Rattle.shared_router.specs.Fixed.{Fixed, IsNumbered};
+ghost use Rattle.shared_router.specs.Known.{Known};
 ghost use Rattle.shared_router.specs.Leads.{LeadsSo, ReadsNothing, SpellsIds};
+ghost use Rattle.shared_router.specs.Lends.{readied_now};
 ghost use Rattle.shared_router.specs.More.{now_of};
 ghost use Rattle.shared_router.specs.Ours.{IsOurLog};
+ghost use Rattle.shared_router.specs.Ready.{IsReadyFor};
 ghost use Rattle.shared_router.specs.Sends.{SendsSo};
 ghost use Rattle.shared_router.specs.Shared.{final_terms, world_at};
+ghost use Rattle.shared_router.specs.Wishes.{wish_on};
+ghost use Rattle.tale_world.specs.Policy.{Readied};
 
 /// By what was decided in the end, all that is known at a moment of the log is what the world knows then: the clock, the tale, servers'
 /// states, clients' flags, since when messages are taken up, and how links were used.
@@ -52,4 +58,9 @@ pub fn takes_steps_that_are_wanted()
 /// As the router reads texts, an empty one is no SET.
 pub fn reads_no_set_in_nothing()
     ensures { ReadsNothing router_reads }
+{}
+
+/// A link that is readied for a statement is asked for it, where all else that the test looks at is as it should be.
+pub fn asks_for_who_is_ready()
+    ensures { (k : Known) (link : LinkId) (r : Readied) → readied_now k link ≡ Some r → IsReadyFor k link r → is_some (wish_on k link) ≡ true }
 {}
