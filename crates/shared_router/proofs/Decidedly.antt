@@ -38,6 +38,7 @@ pub record AreDecided (d : Decided) (view : View) : Type 0 where
   pub due : (n : SessionName) (due : Due) → view.dues n ≡ Some due → GoesTo d (message_of n due) n.hostgroup
   pub stands : (l : LinkId) (m : MessageName) → stated_at (view.links l).stage ≡ Some m → IsDecided d m
   pub answered : (m : MessageName) → is_some (view.replies m) ≡ true → IsDecided d m
+  pub carried : (m : MessageName) → is_some (view.carriers m) ≡ true → IsDecided d m
 
 isnt : {A : Type 0} → false ≡ true → A
 isnt is = absurd (cc)
@@ -53,6 +54,7 @@ first_decided d setup = record {
   due = λ n due is. no_some due is;
   stands = λ l m is. no_some m is;
   answered = λ m is. isnt is;
+  carried = λ m is. isnt is;
 }
 
 -- more is decided
@@ -78,6 +80,7 @@ are_more old new view more are = record {
   due = λ n due is. goes_more old new (message_of n due) n.hostgroup more (are.due n due is);
   stands = λ l m is. decided_more old new m more (are.stands l m is);
   answered = λ m is. decided_more old new m more (are.answered m is);
+  carried = λ m is. decided_more old new m more (are.carried m is);
 }
 
 -- what goes somewhere was decided
@@ -113,6 +116,7 @@ module _ (d : Decided) (setup : Setup) where
     due = are.due;
     stands = put_stage view.links link _ (λ m is. no_some m is) are.stands;
     answered = λ m is. answers question now m is;
+    carried = are.carried;
   } where
     answers : (question : Question) → ((m : MessageName) → stated question ≡ Some m → IsDecided d m) → (m : MessageName)
         → is_some (for_statement question (λ n due. put is_message view.replies (message_of n due) (Some reply)) view.replies m) ≡ true → IsDecided d m
@@ -145,6 +149,19 @@ module _ (d : Decided) (setup : Setup) where
   sent_dues view (End n) are k due is = are.due k due is
   sent_dues view (Capture n) are k due is = are.due k due is
 
+  sent_carried : (view : View) (question : Question) (link : LinkId) → ((n : SessionName) (due : Due) → question ≡ Statement n due → view.dues n ≡ Some due) → AreDecided d view
+      → (m : MessageName) → is_some (for_statement question (λ n due. put is_message view.carriers (message_of n due) (Some link)) view.carriers m) ≡ true → IsDecided d m
+  sent_carried view (Statement n due) link here are m is = by_test (is_message m (message_of n due)) refl is where
+    by_test : (b : Bool) → is_message m (message_of n due) ≡ b → is_some (if b then Some link else view.carriers m) ≡ true → IsDecided d m
+    by_test true same is =
+        subst (IsDecided d) (sym (message_is m (message_of n due) same)) (goes_decided d (message_of n due) n.hostgroup (are.due n due (here n due refl)))
+    by_test false other is = are.carried m is
+  sent_carried view (Prep n key text) link here are m is = are.carried m is
+  sent_carried view (Sync n command) link here are m is = are.carried m is
+  sent_carried view (Own command) link here are m is = are.carried m is
+  sent_carried view (End n) link here are m is = are.carried m is
+  sent_carried view (Capture n) link here are m is = are.carried m is
+
   sent_is_due : (view : View) (link : LinkId) (question : Question) → MayTell view (Sent link question) → (n : SessionName) (due : Due) → question ≡ Statement n due
       → view.dues n ≡ Some due
   sent_is_due view link question may n due is = subst (λ (q : Question). MayTell view (Sent link q)) is may
@@ -157,6 +174,7 @@ module _ (d : Decided) (setup : Setup) where
     due = are.due;
     stands = put_stage (view_after setup past).links link _ (λ m is. no_some m is) are.stands;
     answered = are.answered;
+    carried = are.carried;
   }
   keeps_more past (BecameDue client hostgroup ordinal key command multiplex) may are = absurd may
   keeps_more past (Sent link question) may are =
@@ -165,6 +183,7 @@ module _ (d : Decided) (setup : Setup) where
         due = sent_dues view question are;
         stands = put_stage view.links link _ (asked_stage view question (sent_is_due view link question may) are) are.stands;
         answered = are.answered;
+        carried = sent_carried view question link (sent_is_due view link question may) are;
       }
   keeps_more past (Ran link) may are =
       let view = view_after setup past in
@@ -172,6 +191,7 @@ module _ (d : Decided) (setup : Setup) where
         due = are.due;
         stands = put_stage view.links link _ (λ m is. are.stands link m (sym (ran_stage (view.links link).stage (view.links link) refl) ∙ is)) are.stands;
         answered = are.answered;
+        carried = are.carried;
       }
   keeps_more past (Heard link reply) may are =
       heard_of (view_after setup past) link reply ((view_after setup past).links link).stage (λ m is. are.stands link m is) are
@@ -179,21 +199,24 @@ module _ (d : Decided) (setup : Setup) where
     due = are.due;
     stands = put_stage (view_after setup past).links link _ (λ m is. are.stands link m is) are.stands;
     answered = are.answered;
+    carried = are.carried;
   }
   keeps_more past (Unprepared link number) may are = record {
     due = are.due;
     stands = put_stage (view_after setup past).links link _ (λ m is. are.stands link m is) are.stands;
     answered = are.answered;
+    carried = are.carried;
   }
   keeps_more past (Dropped link) may are = are
   keeps_more past (Gone link) may are = record {
     due = are.due;
     stands = put_stage (view_after setup past).links link _ (λ m is. are.stands link m is) are.stands;
     answered = are.answered;
+    carried = are.carried;
   }
-  keeps_more past (Left client) may are = record { due = are.due; stands = are.stands; answered = are.answered }
+  keeps_more past (Left client) may are = record { due = are.due; stands = are.stands; answered = are.answered; carried = are.carried }
   keeps_more past Broke may are = absurd may
-  keeps_more past (Mirrored client job) may are = record { due = are.due; stands = are.stands; answered = are.answered }
+  keeps_more past (Mirrored client job) may are = record { due = are.due; stands = are.stands; answered = are.answered; carried = are.carried }
 
   -- a statement becomes due, of which this was decided
   pub became_due : (past : Story) (client : ClientNo) (hostgroup : Hostgroup) (ordinal key : ℕ) (command : Command) (multiplex : Option Bool)
@@ -202,6 +225,7 @@ module _ (d : Decided) (setup : Setup) where
     due = λ n due is. by_test n due (is_name n (present view client hostgroup)) refl is;
     stands = are.stands;
     answered = are.answered;
+    carried = are.carried;
   } where
     view : View
     view = view_after setup past

@@ -31,6 +31,7 @@ use Rattle.shared_router.specs.Known.{Known}
 use Rattle.shared_router.specs.More.{More}
 use Rattle.shared_router.specs.Shared.{shared}
 use Rattle.shared_router.proofs.Decidedly.{AreDecided, GoesTo, are_more, keeps_more}
+use Rattle.shared_router.proofs.Fitly.{Fit, more_fit}
 use Rattle.shared_router.proofs.Lonely.{Lone, more_lone}
 use Rattle.shared_router.proofs.Numbered.{AreNumbered, IsOld, numbered_moves, old_moves}
 use Rattle.shared_router.proofs.Walks.{Keeping, MayTell, Stays, ending_keeps, if_either}
@@ -52,6 +53,7 @@ pub record IsHeld (setup : Setup) (n : ℕ) (d : Decided) (clients : List Client
   pub numbered : AreNumbered 1 clients
   pub few : length clients ≤ n
   pub lone : Lone setup story
+  pub fit : Fit setup story
   pub unbroken : has_broken story ≡ false
 
 -- the same but for breaches
@@ -61,6 +63,7 @@ pub record IsLoose (setup : Setup) (n : ℕ) (d : Decided) (clients : List Clien
   pub numbered : AreNumbered 1 clients
   pub few : length clients ≤ n
   pub lone : Lone setup story
+  pub fit : Fit setup story
 
 pub isnt : {A : Type 0} → false ≡ true → A
 isnt is = absurd (cc)
@@ -111,7 +114,7 @@ unbroken_told setup (e ∷ es) past told none =
 
 module _ (setup : Setup) (n : ℕ) (d : Decided) where
   pub more_loose : (clients : List Client) (past : Story) (e : Happening) → MayTell (view_after setup past) e → IsLoose setup n d clients past → IsLoose setup n d clients (e ∷ past)
-  more_loose clients past e may held = record { tabled = held.tabled; decided = keeps_more d setup past e may held.decided; numbered = held.numbered; few = held.few; lone = more_lone setup past e may held.lone }
+  more_loose clients past e may held = record { tabled = held.tabled; decided = keeps_more d setup past e may held.decided; numbered = held.numbered; few = held.few; lone = more_lone setup past e may held.lone; fit = more_fit setup past e may held.lone held.fit }
 
   pub moves_loose : (clients : List Client) (past : Story) (f : Client → Client) → Stays f → IsLoose setup n d clients past → IsLoose setup n d (map f clients) past
   moves_loose clients past f stays held = record {
@@ -120,19 +123,20 @@ module _ (setup : Setup) (n : ℕ) (d : Decided) where
     numbered = numbered_moves f stays 1 clients held.numbered;
     few = let same : length (map f clients) ≡ length clients = length-map clients f in omega (arith, same, held.few);
     lone = held.lone;
+    fit = held.fit;
   }
 
   abbrev pub loosely : Keeping setup
   loosely = record { holds = IsLoose setup n d; more = more_loose; moves = moves_loose }
 
   pub breaks_loose : (clients : List Client) (past : Story) → IsLoose setup n d clients past → IsLoose setup n d clients (Broke ∷ past)
-  breaks_loose clients past held = record { tabled = held.tabled; decided = held.decided; numbered = held.numbered; few = held.few; lone = held.lone }
+  breaks_loose clients past held = record { tabled = held.tabled; decided = held.decided; numbered = held.numbered; few = held.few; lone = held.lone; fit = held.fit }
 
   pub loose : (clients : List Client) (story : Story) → IsHeld setup n d clients story → IsLoose setup n d clients story
-  loose clients story held = record { tabled = held.tabled; decided = held.decided; numbered = held.numbered; few = held.few; lone = held.lone }
+  loose clients story held = record { tabled = held.tabled; decided = held.decided; numbered = held.numbered; few = held.few; lone = held.lone; fit = held.fit }
 
   pub whole : (clients : List Client) (story : Story) → IsLoose setup n d clients story → has_broken story ≡ false → IsHeld setup n d clients story
-  whole clients story held none = record { tabled = held.tabled; decided = held.decided; numbered = held.numbered; few = held.few; lone = held.lone; unbroken = none }
+  whole clients story held none = record { tabled = held.tabled; decided = held.decided; numbered = held.numbered; few = held.few; lone = held.lone; fit = held.fit; unbroken = none }
 
   pub more_held : (clients : List Client) (past : Story) (e : Happening) → MayTell (view_after setup past) e → IsHeld setup n d clients past → IsHeld setup n d clients (e ∷ past)
   more_held clients past e may held =
@@ -196,6 +200,7 @@ module _ (fixed : Fixed) where
         numbered = held.numbered;
         few = held.few;
         lone = held.lone;
+        fit = held.fit;
         unbroken = held.unbroken;
       } in
       if_either (λ (t : Tale). IsHeld setup n d t.clients t.story) (is_done (plan_of d) w.tale.moment (view_of setup w.tale) (w.tale.wires link) (link_in setup w.tale link))
@@ -245,10 +250,12 @@ module _ (fixed : Fixed) where
           };
       stands = held.decided.stands;
       answered = held.decided.answered;
+      carried = held.decided.carried;
     };
     numbered = held.numbered;
     few = held.few;
     lone = held.lone;
+    fit = held.fit;
     unbroken = held.unbroken;
   }
 
@@ -289,9 +296,10 @@ module _ (fixed : Fixed) where
   ending_held n w e held =
       ending_keeps setup (plan_of (decided_ends by w e)) (holding setup n (decided_ends by w e)) w.tale (record {
         tabled = record { routes = held.tabled.routes; own = held.tabled.own; lone = held.tabled.lone; counted = held.tabled.counted };
-        decided = record { due = λ k due is. goes_as w.decided (decided_ends by w e) (message_of k due) k.hostgroup refl refl (held.decided.due k due is); stands = held.decided.stands; answered = held.decided.answered };
+        decided = record { due = λ k due is. goes_as w.decided (decided_ends by w e) (message_of k due) k.hostgroup refl refl (held.decided.due k due is); stands = held.decided.stands; answered = held.decided.answered; carried = held.decided.carried };
         numbered = held.numbered;
         few = held.few;
         lone = held.lone;
+        fit = held.fit;
         unbroken = held.unbroken;
       })

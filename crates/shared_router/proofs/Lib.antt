@@ -93,8 +93,10 @@ pub mod Passing
 pub mod Going
 pub mod Grouping
 pub mod Lonely
+pub mod Fitly
 pub mod Replying
 pub mod Readily
+pub mod Freshly
 pub mod Fronted
 pub mod Adding
 pub mod Furthering

@@ -38,6 +38,7 @@ use Rattle.shared_router.specs.Shared.{shared, world_at}
 use Rattle.shared_router.proofs.Decidedly.{are_more, first_decided}
 use Rattle.shared_router.proofs.Passing.{passes_so}
 use Rattle.shared_router.proofs.Stepping.{AreBegun, begun_then, first_begun}
+use Rattle.shared_router.proofs.Fitly.{first_fit}
 use Rattle.shared_router.proofs.Lonely.{first_lone}
 use Rattle.shared_router.proofs.Numbered.{AreNumbered, IsIn, IsOld, IsReady, latest_in, numbered_comes, old_comes, old_moves}
 use Rattle.shared_router.proofs.Numbered.{there_in}
@@ -108,10 +109,12 @@ module _ (fixed : Fixed) where
               };
           stands = held.decided.stands;
           answered = held.decided.answered;
+          carried = held.decided.carried;
         };
         numbered = held.numbered;
         few = held.few;
         lone = held.lone;
+        fit = held.fit;
         unbroken = held.unbroken;
       }
 
@@ -303,6 +306,7 @@ module _ (fixed : Fixed) where
       numbered = held.numbered;
       few = omega (arith, held.few);
       lone = held.lone;
+      fit = held.fit;
       unbroken = held.unbroken;
     }
 
@@ -323,6 +327,7 @@ module _ (fixed : Fixed) where
           numbered = numbered_comes 1 w.tale.clients one held.numbered (omega arith);
           few = let size : length (w.tale.clients ++ one ∷ []) ≡ length w.tale.clients + 1 = length-append w.tale.clients (one ∷ []) in omega (arith, size, held.few);
           lone = held.lone;
+          fit = held.fit;
           unbroken = held.unbroken;
         }
     comes _ = tt
@@ -389,6 +394,7 @@ module _ (fixed : Fixed) where
     numbered = tt;
     few = omega arith;
     lone = first_lone setup;
+    fit = first_fit setup;
     unbroken = refl;
   }
 

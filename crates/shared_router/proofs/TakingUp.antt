@@ -35,6 +35,7 @@ use Rattle.shared_router.proofs.Parting.{next}
 use Rattle.shared_router.proofs.Walks.{if_either}
 use Rattle.shared_router.proofs.Asking.{route_asks}
 use Rattle.shared_router.proofs.Judging.{same_later}
+use Rattle.shared_router.proofs.Fitly.{comes_fit, requested_statement}
 use Rattle.shared_router.proofs.Lonely.{IsDueIn, StandsOn, comes_lone}
 use Rattle.shared_router.proofs.Holding.{IsHeld, IsJob, IsTabled, filled_by, isnt, more_held, no_some, some_of}
 
@@ -216,6 +217,9 @@ module _ (fixed : Fixed) where
     none_replied : (view_of setup w.tale).replies name ≡ None
     none_replied = none_of ((view_of setup w.tale).replies name) (λ reply is. isnt (sym undecided ∙ held.decided.answered name (ap (λ x. is_some x) is)))
 
+    none_carried : (view_of setup w.tale).carriers name ≡ None
+    none_carried = none_of ((view_of setup w.tale).carriers name) (λ link is. isnt (sym undecided ∙ held.decided.carried name (ap (λ x. is_some x) is)))
+
     -- where it is up, it is taken up
     pub taken_some : (message : Framed) → up ≡ true → found ≡ Some message → taken_once setup by w client ≡ Some (taken_then message ((plan_of d).routes name))
     taken_some message is_up next =
@@ -245,6 +249,7 @@ module _ (fixed : Fixed) where
       numbered = numbered_taken (next_of client) 1 w.tale.clients held.numbered;
       few = let same : length next_clients ≡ length w.tale.clients = length-map w.tale.clients (replaced (next_of client)) in omega (arith, same, held.few);
       lone = held.lone;
+      fit = held.fit;
       unbroken = held.unbroken;
     }
 
@@ -286,7 +291,7 @@ module _ (fixed : Fixed) where
         if_either (λ (t : Tale). IsHeld setup n d next_clients t.story) (nat_eq (slice_index_or message.payload 0 0) com_reset) (tell (Left client.number) w.tale) w.tale
         (more_held setup n d next_clients w.tale.story (Left client.number) tt start_then) start_then
     taken_is message (Some r) is_up next routed =
-        due_is (requested setup (view_of setup w.tale) (plan_of d) client (suc client.taken) r message.payload) (asked_then message r is_up next routed)
+        due_is (requested setup (view_of setup w.tale) (plan_of d) client (suc client.taken) r message.payload) refl (asked_then message r is_up next routed)
       where
         goes : GoesTo d name r.hostgroup
         goes = goes_then message r is_up next routed
@@ -294,9 +299,9 @@ module _ (fixed : Fixed) where
         tabled_lone : r.mirror ≡ None
         tabled_lone = start_then.tabled.lone name r (route_is (d.routes name) r routed)
 
-        due_is : (request : Option Request) → is_some request ≡ true → IsHeld setup n d next_clients (due_by client (suc client.taken) r request w.tale).story
-        due_is None asked = isnt asked
-        due_is (Some request) asked =
+        due_is : (request : Option Request) → requested setup (view_of setup w.tale) (plan_of d) client (suc client.taken) r message.payload ≡ request → is_some request ≡ true → IsHeld setup n d next_clients (due_by client (suc client.taken) r request w.tale).story
+        due_is None at asked = isnt asked
+        due_is (Some request) at asked =
             subst (λ mirror. IsHeld setup n d next_clients
             (copied name request.command mirror (tell (BecameDue client.number r.hostgroup (suc client.taken) request.key request.command r.multiplex) w.tale)).story)
             (sym tabled_lone)
@@ -306,6 +311,7 @@ module _ (fixed : Fixed) where
               numbered = start_then.numbered;
               few = start_then.few;
               lone = comes_lone setup w.tale.story client.number r.hostgroup (suc client.taken) request.key request.command r.multiplex none_due none_there none_replied held.lone;
+              fit = comes_fit setup w.tale.story client.number r.hostgroup (suc client.taken) request.key request.command r.multiplex (requested_statement setup (view_of setup w.tale) (plan_of d) client (suc client.taken) r message.payload request at) none_carried held.fit;
               unbroken = start_then.unbroken;
             })
 
@@ -323,6 +329,7 @@ module _ (fixed : Fixed) where
       numbered = held.numbered;
       few = held.few;
       lone = held.lone;
+      fit = held.fit;
       unbroken = held.unbroken;
     }
 

@@ -17,6 +17,7 @@ pub mod Sends
 pub mod Given
 pub mod Leads
 pub mod Ready
+pub mod Fresh
 pub mod Waited
 pub mod Onward
 pub mod Kept

@@ -2,13 +2,14 @@
 ghost use Rattle.std.specs.Prelude.{◌≡◌, ◌++◌, Some, is_some, true};
 ghost use Rattle.mx_base.specs.declared.names.LinkId.{LinkId};
 ghost use Rattle.mx_wire.specs.Log.{Log};
-ghost use Rattle.mx_wire.specs.Moments.{AllLawful};
+ghost use Rattle.mx_wire.specs.Moments.{AllLawful, AtEachMoment};
 ghost use Rattle.router_promises.specs.Closes.{ClosesSo};
 ghost use Rattle.router_promises.specs.Now.{now_at};
 ghost use Rattle.router_promises.specs.Opens.{OpensSo};
 ghost use Rattle.router_promises.specs.Terms.{AreWhoTheySay};
 ghost use Rattle.server_rule.specs.Classes.{router_reads};
 ghost use Rattle.shared_router.specs.Fixed.{Fixed, IsNumbered};
+ghost use Rattle.shared_router.specs.Fresh.{FreshSo};
 ghost use Rattle.shared_router.specs.Known.{Known};
 ghost use Rattle.shared_router.specs.Leads.{LeadsSo, ReadsNothing, SpellsIds};
 ghost use Rattle.shared_router.specs.Lends.{readied_now};
@@ -63,4 +64,9 @@ pub fn reads_no_set_in_nothing()
 /// A link that is readied for a statement is asked for it, where all else that the test looks at is as it should be.
 pub fn asks_for_who_is_ready()
     ensures { (k : Known) (link : LinkId) (r : Readied) → readied_now k link ≡ Some r → IsReadyFor k link r → is_some (wish_on k link) ≡ true }
+{}
+
+/// What is due is a statement that was sent nowhere and has no reply, and is due in one session.
+pub fn keeps_dues_fresh()
+    ensures { (fixed : Fixed) (log : Log) → IsOurLog fixed log → AtEachMoment (FreshSo (final_terms fixed log)) log }
 {}
