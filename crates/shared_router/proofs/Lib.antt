@@ -95,6 +95,7 @@ pub mod Grouping
 pub mod Lonely
 pub mod Fitly
 pub mod Replying
+pub mod Unmarked
 pub mod Readily
 pub mod Freshly
 pub mod Fronted

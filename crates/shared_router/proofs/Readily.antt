@@ -25,6 +25,7 @@ use Rattle.shared_router.specs.Waits.{Waits}
 use Rattle.shared_router.specs.Wishes.{asked_on, if_may, is_present, kept_due, may_go, standing_on, texts, wish_on}
 use Rattle.shared_router.proofs.Beginning.{IsForm, Preparing, Stating, Stepping, form_of}
 use Rattle.shared_router.proofs.Readying.{readied_waits}
+use Rattle.shared_router.proofs.Unmarked.{unmarked_after}
 use Rattle.shared_router.proofs.Vacant.{readied_vacant}
 
 isnt : {A : Type 0} → true ≡ false → A
@@ -90,7 +91,7 @@ module _ (k : Known) (link : LinkId) (r : Readied) (at : readied_now k link ≡ 
       (and_from (tests.is_nobody there.carries) _ (ap tests.is_nobody nobody) homeless)
 
   free : IsFor (setup_by k) (view_by k) n there
-  free = record { usable = ready.usable; quiet = ready.quiet; lends = lends; account = ready.account; unmarked = ready.unmarked }
+  free = record { usable = ready.usable; quiet = ready.quiet; lends = lends; account = ready.account; unmarked = unmarked_after (setup_by k) k.now.tale.story link nobody }
 
   abbrev question : Question
   question = question_for texts k.fixed.ids (setup_by k) n r.due Own there (held_by k n)

@@ -20,7 +20,6 @@ pub record IsReadyFor (k : Known) (link : LinkId) (r : Readied) : Type 0 where
   pub quiet : is_quiet (link_by k link).stage ≡ true
   pub unread : has_bytes (wire_now k.now link).unread ≡ false
   pub account : is_account (link_by k link).account ((setup_by k).accounts r.name.client) ≡ true
-  pub unmarked : (link_by k link).marked ≡ false
   -- the statement is one of its key, wasn't sent, and reads nothing of earlier ones
   pub statement : is_statement r.due.command ≡ true
   pub of_key : is_of_key (setup_by k) r.due r.due.command ≡ true
