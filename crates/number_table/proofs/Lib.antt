@@ -1,0 +1,4 @@
+mod Lists
+mod Numbering
+mod Swapping
+mod Leaving
