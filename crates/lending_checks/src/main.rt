@@ -1,6 +1,7 @@
 //! Shows what the calls on links that clients share answer, a line for each case of stdin.
 #![tactic(auto)]
 
+mod numbers;
 mod pools;
 mod prepared;
 mod steps;
@@ -14,6 +15,8 @@ fn read(fields: &mut Fields<'_>) {
         "pool" => pools::run(fields),
         "client" => prepared::client(fields),
         "link" => prepared::link(fields),
+        "number" => numbers::number(fields),
+        "place" => numbers::place(fields),
         "next" => steps::next(fields),
         "prepare" => steps::prepare(fields),
         _ => fields.answer.bad(),
