@@ -22,7 +22,7 @@ use Rattle.private_model.specs.View.{Carried, Joined, Lent, Nobody}
 use Rattle.log_story.specs.Plan.{Alone, Asks, Behind, Closes, ForLogin, LastWord, OwnAnswer, Resets, Route, StepText, WordPlace, is_now}
 use Rattle.log_story.specs.Servers.{may_begin}
 use Rattle.log_story.specs.Tale.{Client}
-use Rattle.router_promises.specs.Closes.{Amiss, ClosesBy, HasCause, Idle, IsNeedless, Leaving, MakesRoom, MayDrop, MayQuit, Needless, PastReset, Refused, Spoilt, Starved, Told}
+use Rattle.router_promises.specs.Closes.{Amiss, ClosesBy, HasCause, Idle, IsNeedless, Leaving, MakesRoom, MayDrop, MayQuit, Needless, PastReset, Refused, Spoilt, Starved, WasTold}
 use Rattle.router_promises.specs.Ends.{AllWritten, Broken, EndsBy, EndsRight, IsLastWord, MayPart, NoMemory, NotServed, PartsBy, PartsRight, TimeIsOver, TooMuch, TurnedAway, Unheard, WordFor, WordRight, buffers_word, is_alone, is_at, is_too_much}
 use Rattle.router_promises.specs.Errors.{out_of_memory, replay_refused, server_offline}
 use Rattle.router_promises.specs.GivenUp.{Cause, BadBytes, GivesUp, IsOnLink, IsStepFor, LinkLost, NoLink, NoResult, StepRefused, TakenOffline, WaitedTooLong, key_tried}
@@ -142,7 +142,7 @@ quit-so terms log now link is = elim (or_cases _ _ is) [
 
 drop-so : (terms : Terms) (log : Log) (now : Now) (link : LinkId) → may_drop terms log now link ≡ true → MayDrop terms log now link
 drop-so terms log now link is = elim (or_cases _ _ is) [
-  | inl told ↦ Told told
+  | inl told ↦ WasTold told
   | inr why ↦ HasCause (quit-so terms log now link why)
 ]
 

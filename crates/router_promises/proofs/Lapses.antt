@@ -14,7 +14,7 @@ use Rattle.private_model.specs.Story.{is_name}
 use Rattle.private_model.specs.View.{Carried, Joined, present}
 use Rattle.log_story.specs.Plan.{LastWord, WordPlace}
 use Rattle.log_story.specs.Tale.{Client}
-use Rattle.router_promises.specs.Closes.{Amiss, Idle, Leaving, HasCause, MakesRoom, MayDrop, MayQuit, Needless, PastReset, Refused, Spoilt, Starved, Told, is_joined, is_past_reset_by, is_spoilt, is_starved_by, was_amiss, was_starved}
+use Rattle.router_promises.specs.Closes.{Amiss, Idle, Leaving, HasCause, MakesRoom, MayDrop, MayQuit, Needless, PastReset, Refused, Spoilt, Starved, WasTold, is_joined, is_past_reset_by, is_spoilt, is_starved_by, was_amiss, was_starved}
 use Rattle.router_promises.specs.Ends.{EndsBy, EndsRight, IsLastWord, Left, NoMemory, TooMuch, TurnedAway, WordFor, WordRight, is_accepted, is_at, is_left, is_too_much, may_end, must_end}
 use Rattle.router_promises.specs.Now.{Now, entry_now, link_now, next, now_at, view_now, while_ending}
 use Rattle.router_promises.specs.Terms.{Terms, plan_in, setup_in}
@@ -53,7 +53,7 @@ pub session-dropped : (terms : Terms) (log : Log) (now : Now) (link : LinkId) (n
     → is_name n (present (view_now (setup_in terms) now) n.client n.hostgroup) ≡ true → is_spoilt terms log now link ≡ false
     → was_amiss (setup_in terms) link now.tale.story ≡ false → list_any (is_starved_by terms log now link) now.tale.clients ≡ false
     → MayDrop terms log now link → ⊥
-session-dropped terms log now link n untold carries here sound right fed (Told is) = never (sym is ∙ untold)
+session-dropped terms log now link n untold carries here sound right fed (WasTold is) = never (sym is ∙ untold)
 session-dropped terms log now link n untold carries here sound right fed (HasCause why) = session-quit terms log now link n carries here sound right fed why
 
 -- A client that is ended.

@@ -24,7 +24,7 @@ use Rattle.session_state.specs.Pins.{is_pinned, reads_own}
 use Rattle.session_state.specs.declared.pin.Pin.{Pin}
 use Rattle.pin_classifier.specs.declared.class.Class.{Class}
 use Rattle.log_story.specs.Tale.{Tale, is_to_server, link_in}
-use Rattle.router_promises.specs.Closes.{is_usable, Amiss, Idle, Leaving, HasCause, MakesRoom, MayDrop, MayQuit, Needless, PastReset, Refused, Spoilt, Starved, Told}
+use Rattle.router_promises.specs.Closes.{is_usable, Amiss, Idle, Leaving, HasCause, MakesRoom, MayDrop, MayQuit, Needless, PastReset, Refused, Spoilt, Starved, WasTold}
 use Rattle.router_promises.specs.Keys.{LinkKey, key_of, oldest, waiters}
 use Rattle.router_promises.specs.Now.{Now, entry_now, held_now, link_now, next, now_at, present_now, takings_now, view_now, wire_now}
 use Rattle.router_promises.specs.Routed.{AreSo, IsRoute, IsSo, IsStarved, RoutesBy}
@@ -87,7 +87,7 @@ may-quit terms before link none (Needless is nobodys needless) = never (sym is �
 
 pub may-drop : (terms : Terms) (before : Log) (link : LinkId) → HasNoCause terms before (now_at terms before) link → (wire_now (now_at terms before) link).quits ≡ false
     → MayDrop terms before (now_at terms before) link → ⊥
-may-drop terms before link none untold (Told is) = never (sym is ∙ untold)
+may-drop terms before link none untold (WasTold is) = never (sym is ∙ untold)
 may-drop terms before link none untold (HasCause why) = may-quit terms before link none why
 
 pub at-index : {A : Type 0} (P : A → Type 0) (xs : List A) (k : ℕ) (x : A) → All P xs → k < length xs → slice_index_or xs k x ≡ x → P x

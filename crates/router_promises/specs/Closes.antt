@@ -201,7 +201,7 @@ pub data MayQuit (terms : Terms) (log : Log) (now : Now) (link : LinkId) : Type 
 
 -- it was told QUIT, or is closed for a cause of its own
 pub data MayDrop (terms : Terms) (log : Log) (now : Now) (link : LinkId) : Type 0 where
-  Told : (wire_now now link).quits ≡ true → MayDrop terms log now link
+  WasTold : (wire_now now link).quits ≡ true → MayDrop terms log now link
   HasCause : MayQuit terms log now link → MayDrop terms log now link
 
 abbrev pub ClosesBy : Terms → Log → Now → Entry → Type 0

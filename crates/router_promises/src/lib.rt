@@ -36,8 +36,8 @@ pub use misled::{
     steps_without_change, tells_other_bytes, uses_a_spoilt_link, writes_other_bytes,
 };
 pub use refused::{
-    answers_nobody, closes_for_nothing, logs_in_as_another, opens_one_too_many, opens_without_room, quits_for_nothing,
-    waits_with_an_idle_link,
+    answers_nobody, closes_for_nothing, logs_in_as_another, opens_one_too_many, opens_without_room,
+    quits_for_nothing, waits_with_an_idle_link,
 };
 
 /// What the router writes on links to servers is what log_story asks for.

@@ -109,7 +109,7 @@ module _ (fixed : Fixed) (log : Log) (now : Now) (v last : World More) (alike : 
 
   pub drops_so : (is_open link log && ((wire_now now link).quits || has_cause)) ≡ true → MayDrop one log now link
   drops_so is = elim (either_of (wire_now now link).quits _ (right_is (is_open link log) _ is)) [
-    | inl told ↦ closing.Told told
+    | inl told ↦ closing.WasTold told
     | inr why ↦ closing.HasCause (quits_so why)
   ]
 
