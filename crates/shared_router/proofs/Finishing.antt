@@ -179,12 +179,12 @@ module _ (k : Known) (link : LinkId) (login : Login) where
       asked_whole : (question : Question) → there.stage ≡ Asked question → wire.written ≡ question_spelt question there
       asked_whole question at = by_entered wire.entered refl where
         by_begins : wire.entered ≡ true → (b : Bool) → begins_now ≡ b → wire.written ≡ question_spelt question there
-        by_begins entered true begins = isnt (sym (ap is_quiet at) ∙ (and_parts (is_quiet there.stage) _ (and_parts wire.entered _ begins).1).0)
-        by_begins entered false stands =
-            let some : 0 < length wire.written = (clean entered).some (or_right (is_mute wire.step) _ (ap (λ (s : Stage). not (is_quiet s)) at)) in
+        by_begins in_it true begins = isnt (sym (ap is_quiet at) ∙ (and_parts (is_quiet there.stage) _ (and_parts wire.entered _ begins).1).0)
+        by_begins in_it false stands =
+            let some : 0 < length wire.written = (clean in_it).some (or_right (is_mute wire.step) _ (ap (λ (s : Stage). not (is_quiet s)) at)) in
             all_of wire.written (question_spelt question there)
-            (subst (λ (s : Stage). IsFront wire.written (text_on wire.quits wire.step s there.live)) at (clean entered).front)
-            (ap (λ (s : Stage). has_bytes (drop (length wire.written) (begun_there wire.step s there))) (sym at) ∙ rest_none entered stands some)
+            (subst (λ (s : Stage). IsFront wire.written (text_on wire.quits wire.step s there.live)) at (clean in_it).front)
+            (ap (λ (s : Stage). has_bytes (drop (length wire.written) (begun_there wire.step s there))) (sym at) ∙ rest_none in_it stands some)
 
         by_entered : (b : Bool) → wire.entered ≡ b → wire.written ≡ question_spelt question there
         by_entered true is = by_begins is begins_now refl
@@ -197,15 +197,16 @@ module _ (k : Known) (link : LinkId) (login : Login) where
 
     -- where all is answered a question may begin
 
-    module _ (answered : is_answered_on (setup_by k) k.now link ≡ true) (joined : is_joined there.carries ≡ true) where
+    -- the router is logged in on one that carries a session
+    pub joined_entered : is_joined there.carries ≡ true → wire.entered ≡ true
+    joined_entered joined = by_test wire.entered refl where
+      by_test : (b : Bool) → wire.entered ≡ b → wire.entered ≡ true
+      by_test true is = is
+      by_test false is = isnt (sym (ap (λ (x : Link). is_joined x.carries) (so.fresh is)) ∙ joined)
+
+    module _ (answered : is_answered_on (setup_by k) k.now link ≡ true) (logged_in : wire.entered ≡ true) where
       parts : (is_quiet there.stage ≡ true) × (not (is_reset_step wire.step) ≡ true)
       parts = and_parts (is_quiet there.stage) (not (is_reset_step wire.step)) answered
-
-      logged_in : wire.entered ≡ true
-      logged_in = by_test wire.entered refl where
-        by_test : (b : Bool) → wire.entered ≡ b → wire.entered ≡ true
-        by_test true is = is
-        by_test false is = isnt (sym (ap (λ (x : Link). is_joined x.carries) (so.fresh is)) ∙ joined)
 
       -- nothing stands there in part
       none_behind : (text_of_step false wire.step ≡ []) → (written_in wire.written).rest ≡ []
@@ -269,7 +270,7 @@ module _ (fixed : Fixed) (numbered : IsNumbered fixed) (log : Log) (our : IsOurL
         let kept = then_false (is_open link w.more.log) ((w.tale.wires link).quits || is_to_quit k link) (stays_open k may.acted link to_server) opened in
         left_false (was_lost w.more.log link) _ (left_false rest _ (right_false (w.tale.wires link).quits (is_to_quit k link) kept))
 
-    known_so : IsKnown k link (plan.logins link)
+    pub known_so : IsKnown k link (plan.logins link)
     known_so = record {
       stood = stands link to_server;
       tagged = subst (λ (l : Log). IsTagged link l (w.tale.wires link)) (sym (log_at fixed before)) (tagged_at link fixed before);
@@ -294,9 +295,11 @@ module _ (fixed : Fixed) (numbered : IsNumbered fixed) (log : Log) (our : IsOurL
   pub asks_nothing : AllLawful (AsItWaits AskNothing (final_terms fixed log)) log
   asks_nothing = as_it_waits fixed numbered log AskNothing (λ before later e at may link to_server opened goes answered.
       let w : World More = world_at fixed before in
+      let login : Login = (last_plan fixed numbered log).logins link in
+      let so = known_so before later e at may link to_server opened in
       by_carries w link (link_by (known fixed w) link).carries refl (λ joined.
       owes_none (known fixed w) link may to_server opened goes
-      (may_ask (known fixed w) link ((last_plan fixed numbered log).logins link) (known_so before later e at may link to_server opened) may to_server opened goes answered joined))) our
+      (may_ask (known fixed w) link login so may to_server opened goes answered (joined_entered (known fixed w) link login so may to_server opened goes joined)))) our
     where
       by_carries : (w : World More) (link : LinkId) (carried : Carried) → (link_by (known fixed w) link).carries ≡ carried
           → (is_joined (link_by (known fixed w) link).carries ≡ true → OwesNoStep (known fixed w).terms (known fixed w).now link)

@@ -104,3 +104,4 @@ pub mod Furthering
 pub mod Onwards
 pub mod Answering
 pub mod Summing
+pub mod Working

@@ -85,7 +85,7 @@ module _ (k : Known) (link : LinkId) where
     quiet = (and_parts (is_quiet there.stage) _ (and_parts (wire_now k.now link).entered _ may.begins).1).0
 
     -- what is owed there is what is wished
-    owed_is : owed_on k link ≡ owed_next k link (wish_on k link)
+    pub owed_is : owed_on k link ≡ owed_next k link (wish_on k link)
     owed_is =
         ap by_server to_server
         ∙ ap (λ o. if option_map_or (is_link_id link) o false then farewell k link else owed_there k link (wire_now k.now link).entered begins_now) calm
@@ -166,7 +166,7 @@ module _ (k : Known) (link : LinkId) where
   not_lasting : is_past_reset setup k.now link ≡ false → (n : SessionName) → there.carries ≡ Joined n → not (is_there n) ≡ true → view.lasting n ≡ false
   not_lasting past n carried left = then_false (not (is_there n)) (view.lasting n) (ap (is_past_reset_by setup k.now link) (sym carried) ∙ past) left
 
-  kept_sound : is_to_close k link ≡ false → is_open link k.log ≡ true → is_spoilt k.terms k.log k.now link ≡ false
+  pub kept_sound : is_to_close k link ≡ false → is_open link k.log ≡ true → is_spoilt k.terms k.log k.now link ≡ false
   kept_sound stays opened =
       let spoilt : Bool = is_spoilt k.terms k.log k.now link in
       let rest : Bool = was_amiss setup link k.now.tale.story || (is_refused k link || (is_past_reset setup k.now link || is_let_go k link)) in

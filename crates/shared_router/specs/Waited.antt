@@ -1,5 +1,5 @@
 -- Parts of the promise that the loop waits at rest, in its own words.
-use Rattle.std.specs.Prelude.{All, ◌≡◌, ◌⊎◌, ◌<◌, ◌≤◌, false, true}
+use Rattle.std.specs.Prelude.{All, ◌≡◌, ◌⊎◌, ◌<◌, ◌≤◌, false, is_some, true}
 use Rattle.std.specs.List.{list_any}
 use Rattle.mx_base.specs.declared.names.LinkId.{LinkId}
 use Rattle.mx_wire.specs.Log.{Log, is_open, of_link, written_of}
@@ -11,11 +11,15 @@ use Rattle.log_story.specs.Owed.{name_of}
 use Rattle.log_story.specs.Tale.{Client, is_to_server}
 use Rattle.router_promises.specs.Due.{due_to}
 use Rattle.router_promises.specs.Ends.{was_answered}
-use Rattle.router_promises.specs.Keys.{LinkKey, how_many, is_idle, is_stepping, waiting}
+use Rattle.router_promises.specs.Keys.{LinkKey, how_many, is_at_work, is_idle, is_stepping, is_vacant, waiting}
 use Rattle.router_promises.specs.Now.{Now, link_now, now_at, wire_now}
 use Rattle.router_promises.specs.Rest.{IsBegunWhole, IsInWork, IsRead, is_answered_on, is_failed_write, owes_capture, owes_reset}
 use Rattle.router_promises.specs.Terms.{Terms, plan_in, setup_in}
 use Rattle.router_promises.specs.Wakes.{has_ended, wakes_at}
+use Rattle.shared_router.specs.Fixed.{Fixed}
+use Rattle.shared_router.specs.Known.{Known, known}
+use Rattle.shared_router.specs.Shared.{world_at}
+use Rattle.shared_router.specs.Wishes.{wish_on}
 
 -- it holds where the loop waits, or is over
 abbrev pub AsItWaits : (Terms → Log → Now → Type 0) → Terms → Log → Entry → Type 0
@@ -78,3 +82,15 @@ IsWorked terms log now client = has_ended terms now client ≡ false → was_ans
 pub record AreDone (terms : Terms) (log : Log) (now : Now) : Type 0 where
   pub clients : All (λ (client : Client). is_open client.link log ≡ true → IsWorked terms log now client) now.tale.clients
   pub idle : (key : LinkKey) → 0 < how_many is_idle terms log now key → waiting terms now key ≤ how_many is_stepping terms log now key
+
+-- A link that carries nobody and on which something is wished is at work: something is unanswered there, or it takes no more.
+abbrev pub WorksOn : Known → Type 0
+WorksOn k = (link : LinkId) → is_to_server k.now.tale link ≡ true → is_vacant k.terms k.log k.now link ≡ true → is_some (wish_on k link) ≡ true
+    → is_at_work k.terms k.log k.now link ≡ true
+
+-- where the loop waits, or is over
+abbrev pub WorksSo : Fixed → Log → Entry → Type 0
+WorksSo fixed log (Woke until_ms now_ms) = WorksOn (known fixed (world_at fixed log))
+WorksSo fixed log WaitFailed = WorksOn (known fixed (world_at fixed log))
+WorksSo fixed log Over = WorksOn (known fixed (world_at fixed log))
+WorksSo fixed log _ = Unit {0}

@@ -13,7 +13,7 @@ ghost use Rattle.shared_router.specs.Ours.{IsOurLog};
 ghost use Rattle.shared_router.specs.Rests.{HasEnough, IsCalm, SaysLogin};
 ghost use Rattle.shared_router.specs.Shared.{final_terms};
 ghost use Rattle.shared_router.specs.Spelt.{RunsReadSo};
-ghost use Rattle.shared_router.specs.Waited.{AreDone, AreRead, AreTold, AreUnbroken, AreWhole, AskNothing, AsItWaits, WakesSo};
+ghost use Rattle.shared_router.specs.Waited.{AreDone, AreRead, AreTold, AreUnbroken, AreWhole, AskNothing, AsItWaits, WakesSo, WorksSo};
 
 /// Where the loop waits, each open link was read dry, or may be left: it is that of a client that ended, or that has a message in work and
 /// a mebibyte behind it; or it carries a client for whom a mebibyte is unwritten.
@@ -51,6 +51,11 @@ pub fn writes_what_it_begins()
 pub fn asks_for_nothing()
     ensures { (fixed : Fixed) (log : Log) → IsNumbered fixed → IsOurLog fixed log
         → AllLawful (AsItWaits AskNothing (final_terms fixed log)) log }
+{}
+
+/// Where the loop waits, a link that carries nobody and on which something is wished is at work: so one that is readied is on its way to be lent.
+pub fn works_on_what_is_wished()
+    ensures { (fixed : Fixed) (log : Log) → IsNumbered fixed → IsOurLog fixed log → AllLawful (WorksSo fixed) log }
 {}
 
 /// Where no more statements of a key wait than links are on their way to be lent, once a link of it is idle: where links are enough by the
