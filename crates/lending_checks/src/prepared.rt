@@ -73,6 +73,7 @@ fn add(answer: &mut Answer, statements: &mut ClientStatements, step: &str) {
     let prepared = Prepared {
         key,
         hostgroup,
+        multiplex: None,
         params,
     };
     answer.separate(0, ", ");
@@ -89,6 +90,7 @@ fn fill(answer: &mut Answer, statements: &mut ClientStatements, step: &str) {
         let prepared = Prepared {
             key,
             hostgroup: Hostgroup(0),
+            multiplex: None,
             params: 0,
         };
         if statements.add(answer.alloc(), prepared).is_err() {
@@ -110,6 +112,7 @@ fn push_statement(answer: &mut Answer, statement: &Statement) {
         key,
         hostgroup,
         params,
+        ..
     } = statement.prepared;
     push(answer, "key ");
     answer.display(key);

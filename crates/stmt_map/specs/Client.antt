@@ -1,6 +1,7 @@
 -- A client's prepared statements by their numbers.
-use Rattle.std.specs.Prelude.{◌≡◌, ℕ, ◌+◌, false, nat_eq, nat_le, ◌||◌, List, if◌then◌else◌, Option, Some, None}
+use Rattle.std.specs.Prelude.{◌≡◌, ℕ, ◌+◌, false, nat_eq, nat_le, ◌||◌, List, [], if◌then◌else◌, Option, Some, None}
 use Rattle.std.specs.HashMap.{get, hash_map_len}
+use Rattle.session_vars.specs.declared.long_part.LongPart.{LongPart}
 use Rattle.stmt_map.specs.declared.client.ClientStatements.{ClientStatements}
 use Rattle.stmt_map.specs.declared.statement.Prepared.{Prepared}
 use Rattle.stmt_map.specs.declared.statement.Statement.{Statement}
@@ -29,3 +30,8 @@ with_long parameter bytes statement =
 
 abbrev pub used_up : Statement → Statement
 used_up statement = record { prepared = statement.prepared; types = statement.types; long = no_long }
+
+-- the long data of a statement, none where there is no statement
+abbrev pub long_at : Option Statement → List LongPart
+long_at None = []
+long_at (Some statement) = statement.long.parts

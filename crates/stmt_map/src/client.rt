@@ -1,13 +1,15 @@
 // A client's prepared statements.
 ghost use Rattle.std.specs.Prelude.{◌≡◌, ◌+◌, ◌^◌, ◌<◌, ℕ, None, Some, is_some, OnOk, OnErr, IfOk};
 ghost use Rattle.std.specs.Option.{option_copied, option_map};
-ghost use Rattle.stmt_map.specs.Client.{Changes, fresh, next_number, statement_at, used_up, with_long, with_types};
+ghost use Rattle.stmt_map.specs.Client.{Changes, fresh, long_at, next_number, statement_at, used_up, with_long, with_types};
 
 use crate::long::{LongData, LongFault};
 use crate::statement::{AddFault, Prepared, Statement};
 use mx_base::{Bytes, OutOfMemory};
+use session_vars::LongPart;
 use std::alloc::Global;
 use std::collections::HashMap;
+use std::mem;
 
 /// How many statements a client has at most.
 pub const MOST_STATEMENTS: usize = 65_535;
@@ -73,6 +75,7 @@ impl ClientStatements {
     /// An execute binds types. Nothing changes where the number is unknown.
     pub fn bind(&mut self, alloc: Global, number: u32, types: &[u8]) -> Result<(), OutOfMemory>
         ensures bound { OnOk result (Changes self.old self.new number (option_map (with_types types.now) (statement_at self.old number))) }
+        ensures last { OnOk result (self.new.last ≡ self.old.last) }
     {
         let types = Bytes::from_slice(alloc, types)?;
         if let Some(statement) = self.statements.get_mut(&number) {
@@ -91,6 +94,7 @@ impl ClientStatements {
         most: u64,
     ) -> Result<(), LongFault>
         ensures appended { OnOk result (Changes self.old self.new number (option_map (with_long parameter bytes.now) (statement_at self.old number))) }
+        ensures last { OnOk result (self.new.last ≡ self.old.last) }
     {
         if let Some(statement) = self.statements.get_mut(&number) {
             statement.long.append(alloc, parameter, bytes, most)?;
@@ -98,12 +102,28 @@ impl ClientStatements {
         Ok(())
     }
 
-    /// An execute uses the long data up, whatever its answer.
+    /// The long data are forgotten.
     pub fn use_up(&mut self, alloc: Global, number: u32)
-        ensures { Changes self.old self.new number (option_map used_up (statement_at self.old number)) }
+        ensures used { Changes self.old self.new number (option_map used_up (statement_at self.old number)) }
+        ensures last { self.new.last ≡ self.old.last }
     {
         if let Some(statement) = self.statements.get_mut(&number) {
             statement.long = LongData::new(alloc);
+        }
+    }
+
+    /// An execute takes the long data, whatever its answer.
+    pub fn take_long(&mut self, alloc: Global, number: u32) -> Vec<LongPart>
+        ensures parts { result.items ≡ long_at (statement_at self.old number) }
+        ensures used { Changes self.old self.new number (option_map used_up (statement_at self.old number)) }
+        ensures last { self.new.last ≡ self.old.last }
+    {
+        match self.statements.get_mut(&number) {
+            Some(statement) => {
+                let long = mem::replace(&mut statement.long, LongData::new(alloc));
+                long.into_parts()
+            }
+            None => Vec::new(alloc),
         }
     }
 
@@ -111,6 +131,7 @@ impl ClientStatements {
     pub fn close(&mut self, number: u32) -> bool
         ensures known { result ≡ is_some (statement_at self.old number) }
         ensures closed { Changes self.old self.new number None }
+        ensures last { self.new.last ≡ self.old.last }
     {
         self.statements.remove(&number).is_some()
     }

@@ -60,6 +60,13 @@ impl LongData {
         &self.parts
     }
 
+    /// The parts, taken out. Takes no memory.
+    pub fn into_parts(self) -> Vec<LongPart>
+        ensures { result.items ≡ self.parts }
+    {
+        self.parts
+    }
+
     /// Appends bytes to a parameter's part. `most` is how many bytes there may be of all parameters.
     pub fn append(
         &mut self,

@@ -2,12 +2,13 @@
 use crate::long::LongData;
 use mx_base::{Bytes, Hostgroup, OutOfMemory};
 
-/// What was prepared: a number for its text with the schema and the settings of its preparation, where it was routed, and how many
-/// parameters it has.
+/// What was prepared: a number for its text with the schema and the settings of its preparation, where it was routed, what the rules
+/// said there of sharing the link, and how many parameters it has.
 #[derive(Clone, Copy)]
 pub struct Prepared {
     pub key: u32,
     pub hostgroup: Hostgroup,
+    pub multiplex: Option<bool>,
     pub params: u16,
 }
 
