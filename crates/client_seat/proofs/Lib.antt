@@ -1,0 +1,9 @@
+pub mod Sending
+pub mod Asking
+pub mod Notes
+pub mod Owing
+pub mod Hearing
+pub mod Keeping
+pub mod Passing
+pub mod Answering
+pub mod Entering

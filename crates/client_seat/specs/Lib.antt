@@ -1,0 +1,9 @@
+pub mod Outgoing
+pub mod Seats
+pub mod Turns
+pub mod Numbers
+pub mod Requests
+pub mod Takings
+pub mod Answers
+pub mod Words
+pub mod Stands
