@@ -7,3 +7,4 @@ pub mod Keeping
 pub mod Passing
 pub mod Answering
 pub mod Entering
+pub mod Preparing

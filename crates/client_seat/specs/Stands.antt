@@ -1,5 +1,5 @@
 -- How a seat stands for its client in a tale: by the plan, what the router knows, and the moment.
-use Rattle.std.specs.Prelude.{◌≡◌, ◌<◌, ℕ, suc, ◌+◌, true, is_some, slice_get, List, [], ◌∷◌, ◌++◌, length, take, Option, Some, None}
+use Rattle.std.specs.Prelude.{◌≡◌, ◌<◌, ℕ, suc, ◌+◌, true, is_some, slice_get, List, [], ◌∷◌, ◌++◌, length, take, Option, Some, None, ◌≤◌, Bool, drop, not}
 use Rattle.packet_frame.specs.Packets.{Framed, next_id, spellings, split, with_front}
 use Rattle.reply_track.specs.Grammar.{renamed}
 use Rattle.server_side.specs.Account.{Account}
@@ -9,9 +9,11 @@ use Rattle.client_session.specs.Answers as talks
 use Rattle.client_session.specs.Answers.{commands, front}
 use Rattle.private_model.specs.Commands.{Reply}
 use Rattle.private_model.specs.View.{View}
+use Rattle.log_story.specs.Executes.{bound_by, prepared_by}
 use Rattle.log_story.specs.Owed.{due_bytes, due_for, kind_of, messages, name_of, number_of, talk_of}
 use Rattle.log_story.specs.Plan.{Plan, own_at}
 use Rattle.log_story.specs.Tale.{Client}
+use Rattle.client_seat.specs.Numbers.{Numbered}
 use Rattle.client_seat.specs.Seats.{Seat}
 use Rattle.client_seat.specs.declared.phase.Phase.{Phase}
 use Rattle.client_seat.specs.declared.phase.Phase.TheVariants as phase
@@ -106,3 +108,18 @@ pub record Answers (x y : Known) (client : Client) (before : List Framed) (messa
   pub there : answer_to y client (1 + length before) message ≡ Some bytes
   pub answered : AreAnswered x client 1 before
   pub same : (ordinal : ℕ) (other : Framed) → ordinal < 1 + length before → answer_to y client ordinal other ≡ answer_to x client ordinal other
+
+-- What it has prepared, by its numbers: an execute that comes next runs what was prepared, and binds what was bound since.
+
+abbrev pub is_refused : Known → Client → (ordinal : ℕ) → Bool
+is_refused x client ordinal = not (is_some (x.plan.routes (name_of client ordinal)))
+
+-- under the number of the router's own stands this key of the story's
+pub record IsNumbered (x : Known) (client : Client) (named : ℕ → ℕ) (number : ℕ) (one : Numbered) : Type 0 where
+  pub ordinal : ℕ
+  pub prepared : prepared_by x.view x.plan client number 1 (messages x.plan client)
+      ≡ Some (record { key = named one.prepared.key; params = one.prepared.params; ordinal = ordinal })
+  pub taken_up : ordinal ≤ client.taken
+  pub bound : bound_by one.prepared.params number (is_refused x client) (suc ordinal) (drop ordinal (take client.taken (messages x.plan client)))
+      (record { types = None; long = [] })
+      ≡ one.bound

@@ -1,5 +1,7 @@
 // Laws of seats, for whoever stands on this crate.
-ghost use Rattle.std.specs.Prelude.{◌≡◌, ◌≤◌, ◌<◌, ℕ, suc, ◌+◌, Bool, List, ◌++◌, length, Some, None};
+ghost use Rattle.std.specs.Prelude.{◌≡◌, ◌≤◌, ◌<◌, ℕ, suc, ◌+◌, Bool, true, false, List, ◌++◌, length, nat_eq, slice_index_or, Some, None};
+ghost use Rattle.std.specs.Option.{option_map};
+ghost use Rattle.mx_base.specs.Fields.{number_at};
 ghost use Rattle.handshake.specs.declared.response.Response.{Response};
 ghost use Rattle.packet_frame.specs.Packets.{Framed, first_message};
 ghost use Rattle.packet_frame.specs.Packets.Found.{Whole};
@@ -9,10 +11,15 @@ ghost use Rattle.client_side.specs.Reading.{HasStepped, said_to};
 ghost use Rattle.client_side.specs.Steps.{next_of};
 ghost use Rattle.client_session.specs.Accounts.{account_of};
 ghost use Rattle.log_story.specs.Owed.{messages};
-ghost use Rattle.log_story.specs.Plan.{Plan};
+ghost use Rattle.log_story.specs.Executes.{requested};
+ghost use Rattle.log_story.specs.Plan.{Plan, Route, com_execute};
+ghost use Rattle.private_model.specs.View.{Setup};
+ghost use Rattle.stmt_map.specs.declared.client.ClientStatements.{ClientStatements};
+ghost use Rattle.client_seat.specs.Numbers.{Numbered, noted, number_in};
+ghost use Rattle.client_seat.specs.Requests.{asked_in, request_of};
 ghost use Rattle.log_story.specs.Tale.{Client};
 ghost use Rattle.client_seat.specs.Seats.{Seat, got, wrote};
-ghost use Rattle.client_seat.specs.Stands.{Answers, IsEntering, IsHeard, IsNext, IsServed, IsWho, IsWrittenOf, Known, answer_to, due_so_far};
+ghost use Rattle.client_seat.specs.Stands.{Answers, IsEntering, IsHeard, IsNext, IsNumbered, IsServed, IsWho, IsWrittenOf, Known, answer_to, due_so_far, is_refused};
 ghost use Rattle.client_seat.specs.Takings.{passed};
 ghost use Rattle.client_seat.specs.Turns.{admitted, stepped};
 
@@ -76,4 +83,26 @@ pub fn seats_owe()
     ensures answered { (x y : Known) (client : Client) (before : List Framed) →
         (message : Framed) (bytes : List ℕ) → Answers x y client before message bytes →
         due_so_far y client ≡ due_so_far x client ++ bytes }
+{}
+
+/// What a client has prepared under a number stands so as its messages are taken up; and what a message asks for is what it asks for in
+/// a story, where the router's own number of a preparation stands for the story's key.
+pub fn seats_prepare()
+    ensures noted { (x : Known) (client : Client) (named : ℕ → ℕ) (number : ℕ) →
+        (one now : Numbered) (message : Framed) → IsNumbered x client named number one →
+        client.taken ≤ length (messages x.plan client) → IsNext x.plan client message →
+        noted (is_refused x client (suc client.taken)) number message.payload one ≡ Some now →
+        IsNumbered x (record client { taken = suc client.taken }) named number now }
+    ensures text { (x : Known) (setup : Setup) (client : Client) (statements : ClientStatements) →
+        (named : ℕ → ℕ) (route : Route) (payload : List ℕ) →
+        nat_eq (slice_index_or payload 0 0) com_execute ≡ false →
+        requested setup x.view x.plan client (suc client.taken) route payload
+        ≡ option_map (request_of setup route.key named) (asked_in statements payload route.text) }
+    ensures runs { (x : Known) (setup : Setup) (client : Client) (statements : ClientStatements) →
+        (named : ℕ → ℕ) (route : Route) (payload : List ℕ) (number : ℕ) (one : Numbered) →
+        nat_eq (slice_index_or payload 0 0) com_execute ≡ true →
+        number_at 4 1 payload ≡ Some number → number_in statements number ≡ Some one →
+        IsNumbered x client named number one →
+        requested setup x.view x.plan client (suc client.taken) route payload
+        ≡ option_map (request_of setup route.key named) (asked_in statements payload route.text) }
 {}
