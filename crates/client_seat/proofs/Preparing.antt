@@ -75,37 +75,42 @@ number-noted x client named number one now message was within next is =
 
 -- What a message asks for.
 
-text-asks : (setup : Setup) (key : ℕ) (named : ℕ → ℕ) (asked : Option Command)
-    → option_map (λ (command : Command). record { command = command; key = key }) asked ≡ option_map (request_of setup key named) (option_map (λ command. Says command) asked)
-text-asks setup key named None = refl
-text-asks setup key named (Some command) = refl
+text-asks : (setup : Setup) (stands : List ℕ) (key : ℕ) (named : ℕ → ℕ) (asked : Option Command)
+    → option_map (λ (command : Command). record { command = command; key = key }) asked
+    ≡ option_map (request_of setup stands key named) (option_map (λ command. Says command) asked)
+text-asks setup stands key named None = refl
+text-asks setup stands key named (Some command) = refl
+
+-- the schema in which the client stands
+abbrev stands_in : Known → Client → List ℕ
+stands_in x client = (x.view.places client.number).schema
 
 pub asks-text : (x : Known) (setup : Setup) (client : Client) (statements : ClientStatements) (named : ℕ → ℕ) (route : Route) (payload : List ℕ)
     → nat_eq (slice_index_or payload 0 0) com_execute ≡ false
-    → requested setup x.view x.plan client (suc client.taken) route payload ≡ option_map (request_of setup route.key named) (asked_in statements payload route.text)
+    → requested setup x.view x.plan client (suc client.taken) route payload ≡ option_map (request_of setup (stands_in x client) route.key named) (asked_in statements payload route.text)
 asks-text x setup client statements named route payload other =
-    rw other (text-asks setup route.key named (text_asked (slice_index_or payload 0 0) (unwrap_or route.text (drop 1 payload))))
+    rw other (text-asks setup (stands_in x client) route.key named (text_asked (slice_index_or payload 0 0) (unwrap_or route.text (drop 1 payload))))
 
 pub asks-run : (x : Known) (setup : Setup) (client : Client) (statements : ClientStatements) (named : ℕ → ℕ) (route : Route) (payload : List ℕ) (number : ℕ) (one : Numbered)
     → nat_eq (slice_index_or payload 0 0) com_execute ≡ true → number_at 4 1 payload ≡ Some number → number_in statements number ≡ Some one
     → IsNumbered x client named number one
-    → requested setup x.view x.plan client (suc client.taken) route payload ≡ option_map (request_of setup route.key named) (asked_in statements payload route.text)
+    → requested setup x.view x.plan client (suc client.taken) route payload ≡ option_map (request_of setup (stands_in x client) route.key named) (asked_in statements payload route.text)
 asks-run x setup client statements named route payload number one runs at found is =
     rw runs (law ∙ sym code) where
       before : take (suc client.taken - 1) (messages x.plan client) ≡ take client.taken (messages x.plan client)
       before = let one_less : suc client.taken - 1 ≡ client.taken = omega arith in ap (λ (n : ℕ). take n (messages x.plan client)) one_less
 
-      law : option_and_then (executed_by setup x.view x.plan client (suc client.taken) payload) (number_at 4 1 payload) ≡ Some (run_of setup (args_by one payload) (named one.prepared.key))
+      law : option_and_then (executed_by setup x.view x.plan client (suc client.taken) route payload) (number_at 4 1 payload) ≡ Some (run_of setup (args_by one payload) (stands_in x client) route.key (named one.prepared.key))
       law =
-          ap (option_and_then (executed_by setup x.view x.plan client (suc client.taken) payload)) at
-          ∙ ap (option_map (λ (prepared : Prepared). run_of setup (args_in prepared.params number (is_refused x client) prepared.ordinal (take (suc client.taken - 1) (messages x.plan client)) payload) prepared.key)) is.prepared
-          ∙ ap (λ (sent : List Framed). Some (run_of setup (args_in one.prepared.params number (is_refused x client) is.ordinal sent payload) (named one.prepared.key))) before
+          ap (option_and_then (executed_by setup x.view x.plan client (suc client.taken) route payload)) at
+          ∙ ap (option_map (λ (prepared : Prepared). run_of setup (args_in prepared.params number (is_refused x client) prepared.ordinal (take (suc client.taken - 1) (messages x.plan client)) payload) (stands_in x client) route.key prepared.key)) is.prepared
+          ∙ ap (λ (sent : List Framed). Some (run_of setup (args_in one.prepared.params number (is_refused x client) is.ordinal sent payload) (stands_in x client) route.key (named one.prepared.key))) before
           ∙ ap (λ (bound : Bound). Some (run_of setup (record (given_in one.prepared.params payload) {
             types = option_or (given_in one.prepared.params payload).types bound.types;
             long = bound.long;
-          }) (named one.prepared.key))) is.bound
+          }) (stands_in x client) route.key (named one.prepared.key))) is.bound
 
-      code : option_map (request_of setup route.key named) (run_in statements payload) ≡ Some (run_of setup (args_by one payload) (named one.prepared.key))
+      code : option_map (request_of setup (stands_in x client) route.key named) (run_in statements payload) ≡ Some (run_of setup (args_by one payload) (stands_in x client) route.key (named one.prepared.key))
       code =
-          ap (λ (n : Option ℕ). option_map (request_of setup route.key named) (option_map (λ (numbered : Numbered). Runs numbered.prepared.key (args_by numbered payload)) (option_and_then (number_in statements) n))) at
-          ∙ ap (λ (o : Option Numbered). option_map (request_of setup route.key named) (option_map (λ (numbered : Numbered). Runs numbered.prepared.key (args_by numbered payload)) o)) found
+          ap (λ (n : Option ℕ). option_map (request_of setup (stands_in x client) route.key named) (option_map (λ (numbered : Numbered). Runs numbered.prepared.key (args_by numbered payload)) (option_and_then (number_in statements) n))) at
+          ∙ ap (λ (o : Option Numbered). option_map (request_of setup (stands_in x client) route.key named) (option_map (λ (numbered : Numbered). Runs numbered.prepared.key (args_by numbered payload)) o)) found

@@ -21,10 +21,10 @@ pub data Asked : Type 0 where
   Says : Command → Asked
   Runs : (key : ℕ) → Args → Asked
 
--- what that is in a story, where a preparation has this key, and the number stands for that one
-abbrev pub request_of : Setup → (key : ℕ) → (named : ℕ → ℕ) → Asked → executes.Request
-request_of setup key named (Says command) = record { command = command; key = key }
-request_of setup key named (Runs number args) = run_of setup args (named number)
+-- what that is in a story, where its route has this key, its client stands in this schema, and numbers stand for the story's keys
+abbrev pub request_of : Setup → (stands : List ℕ) → (key : ℕ) → (named : ℕ → ℕ) → Asked → executes.Request
+request_of setup stands key named (Says command) = record { command = command; key = key }
+request_of setup stands key named (Runs number args) = run_of setup args stands key (named number)
 
 -- the text stands in place of the message's own
 abbrev pub text_in : (payload : List ℕ) → (text : Option (List ℕ)) → Option Asked

@@ -97,12 +97,12 @@ pub fn seats_prepare()
         (named : ℕ → ℕ) (route : Route) (payload : List ℕ) →
         nat_eq (slice_index_or payload 0 0) com_execute ≡ false →
         requested setup x.view x.plan client (suc client.taken) route payload
-        ≡ option_map (request_of setup route.key named) (asked_in statements payload route.text) }
+        ≡ option_map (request_of setup (x.view.places client.number).schema route.key named) (asked_in statements payload route.text) }
     ensures runs { (x : Known) (setup : Setup) (client : Client) (statements : ClientStatements) →
         (named : ℕ → ℕ) (route : Route) (payload : List ℕ) (number : ℕ) (one : Numbered) →
         nat_eq (slice_index_or payload 0 0) com_execute ≡ true →
         number_at 4 1 payload ≡ Some number → number_in statements number ≡ Some one →
         IsNumbered x client named number one →
         requested setup x.view x.plan client (suc client.taken) route payload
-        ≡ option_map (request_of setup route.key named) (asked_in statements payload route.text) }
+        ≡ option_map (request_of setup (x.view.places client.number).schema route.key named) (asked_in statements payload route.text) }
 {}
