@@ -1,0 +1,3 @@
+pub mod Hears
+pub mod Links
+pub mod Reads

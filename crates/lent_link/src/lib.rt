@@ -1,0 +1,10 @@
+//! A link to a server: the router's login, what is written there and what is read, over pieces of any length, and behind the login what
+//! stands on the link.
+#![tactic(auto)]
+
+mod hearing;
+mod link;
+mod reading;
+
+pub use link::{Begins, LentLink, Step};
+pub use reading::{Reading, Took};
