@@ -1,3 +1,5 @@
 pub mod Hears
 pub mod Links
+pub mod Pieces
 pub mod Reads
+pub mod Rests

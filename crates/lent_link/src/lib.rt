@@ -3,8 +3,11 @@
 #![tactic(auto)]
 
 mod hearing;
+mod laws;
 mod link;
 mod reading;
+mod resting;
 
+pub use laws::pieces_are_one;
 pub use link::{Begins, LentLink, Step};
 pub use reading::{Reading, Took};

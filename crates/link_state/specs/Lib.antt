@@ -1,5 +1,6 @@
 pub mod Answers
 pub mod Asks
+pub mod Dones
 pub mod Places
 pub mod Spells
 pub mod States

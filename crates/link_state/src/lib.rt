@@ -3,6 +3,7 @@
 #![tactic(auto)]
 
 mod asking;
+mod done;
 mod effect;
 mod place;
 mod spells;
@@ -12,6 +13,7 @@ mod wish;
 mod writing;
 
 pub use asking::{Asking, Form, Purpose};
+pub use done::is_done_by;
 pub use spells::{Spelt, spell, spell_execute, spell_id, spell_numbered, spell_text};
 pub use standing::Standing;
 pub use state::{Carried, LinkState, Stage};
