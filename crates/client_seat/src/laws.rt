@@ -64,7 +64,8 @@ pub fn seats_log_in()
         (next_of seat.client.stage seat.client).client x.plan.service.version switched →
         account_of x.plan.service.users client.salt response ≡ Some user →
         IsServed x.plan client (admitted default user response first (stepped seat)) user
-        × IsWrittenOf client (admitted default user response first (stepped seat)) (due_so_far x client) }
+        × IsWrittenOf client (admitted default user response first (stepped seat))
+        (due_so_far x client) }
 {}
 
 /// What was written to a client and what is to be written are together what it is due: as bytes are written, as more is due, as a

@@ -16,7 +16,7 @@ use Rattle.log_story.specs.Plan.{LastWord, WordPlace}
 use Rattle.log_story.specs.Tale.{Client}
 use Rattle.router_promises.specs.Closes.{Amiss, Idle, Leaving, HasCause, MakesRoom, MayDrop, MayQuit, Needless, PastReset, Refused, Spoilt, Starved, WasTold, is_joined, is_past_reset_by, is_spoilt, is_starved_by, was_amiss, was_starved}
 use Rattle.router_promises.specs.Ends.{EndsBy, EndsRight, IsLastWord, Left, NoMemory, TooMuch, TurnedAway, WordFor, WordRight, is_accepted, is_at, is_left, is_too_much, may_end, must_end}
-use Rattle.router_promises.specs.Now.{Now, entry_now, link_now, next, now_at, view_now, while_ending}
+use Rattle.router_promises.specs.Now.{Now, entry_now, link_now, next, now_at, view_now, while_ending, wire_now}
 use Rattle.router_promises.specs.Terms.{Terms, plan_in, setup_in}
 use Rattle.router_promises.specs.Wakes.{lacks_an_event, moments, wakes_at}
 use Rattle.router_promises.proofs.Refusals.{at-index, never}
