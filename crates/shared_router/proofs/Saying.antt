@@ -88,7 +88,7 @@ none_more written bytes front some = no_front bytes (subst (IsFront bytes) (drop
 rest_front : (written bytes : List ℕ) (quits : Bool) (step : Option StepText) (stage : Stage) (link : Link) → IsFront written (text_on quits step stage link.live)
     → IsFront bytes (drop (length written) (begun_there step stage link)) → 0 < length bytes → IsFront (written ++ bytes) (text_on quits step stage link.live)
 rest_front written bytes quits step (Asked question) link old new some = on_front written bytes _ old new
-rest_front written bytes quits step (Answered question) link old new some = none_more written bytes new some
+rest_front written bytes quits step (Answered question) link old new some = on_front written bytes _ old new
 rest_front written bytes quits None Quiet link old new some = none_more written bytes new some
 rest_front written bytes quits (Some (Asks command)) Quiet link old new some = none_more written bytes new some
 rest_front written bytes quits (Some (Closes number)) Quiet link old new some = on_front written bytes _ old new

@@ -111,7 +111,7 @@ owed_next k link (Some wish) = record { tag = wish_tag k wish; bytes = wish_spel
 -- what began and isn't answered
 abbrev pub begun_there : Option StepText → Stage → Link → List ℕ
 begun_there step (Asked question) link = question_spelt question link
-begun_there step (Answered question) link = []
+begun_there step (Answered question) link = question_spelt question link
 begun_there (Some (Closes number)) Quiet link = spelling 0 (step_payload (Closes number))
 begun_there (Some (Resets number)) Quiet link = spelling 0 (step_payload (Resets number))
 begun_there _ Quiet link = []
