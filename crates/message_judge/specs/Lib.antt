@@ -1,0 +1,4 @@
+pub mod Callers
+pub mod Drafts
+pub mod Judging
+pub mod Told
