@@ -1,11 +1,11 @@
 -- What the form of a text tells of its class.
-use Rattle.std.specs.Prelude.{◌≡◌, ℕ, Bool, true, false, ◌&&◌, ◌||◌, nat_eq, bytes_eq, List, [], ◌∷◌, codes, length, map, slice_get, Option, None, Some, if◌then◌else◌}
+use Rattle.std.specs.Prelude.{◌≡◌, ℕ, Bool, true, false, not, ◌&&◌, ◌||◌, nat_eq, bytes_eq, List, [], ◌∷◌, codes, length, map, slice_get, Option, None, Some, if◌then◌else◌}
 use Rattle.std.proofs.Common.{refl, sym, ap, ◌∙◌}
 use Rattle.std.proofs.lemmas.Bool.{cond-true, cond-false, and_from, and_left, or_left, or_right}
 use Rattle.std.specs.Char.{to_ascii_lowercase}
 use Rattle.std.specs.Cmp.Lexicographic.{bytes_decides}
 use Rattle.std.specs.List.{list_any}
-use Rattle.sql_tokens.specs.Words.{bytes_of, is_symbol, is_symbol_kind, is_word, same_text, says, word_of}
+use Rattle.sql_tokens.specs.Words.{bytes_of, is_symbol, is_symbol_kind, is_word, same_text, says, word_by, word_of}
 use Rattle.sql_tokens.specs.declared.token.Token.{Token}
 use Rattle.sql_tokens.specs.declared.token.TokenKind.{TokenKind}
 use Rattle.sql_tokens.specs.declared.token.TokenKind.TheVariants as kinds
@@ -16,7 +16,7 @@ use Rattle.pin_classifier.specs.Classes.{class_of, first, is_deep, is_deep_insid
 use Rattle.pin_classifier.specs.Functions.{calls_any, names_session_function}
 use Rattle.pin_classifier.specs.Shapes.{asks_connection_id, is_end, is_there, shape_of, use_or_other, used_schema}
 use Rattle.pin_classifier.specs.Starts.{locks_tables, makes_id, names_tables, shows_diagnostics}
-use Rattle.pin_classifier.specs.Statement.{first_word, has_hidden, has_word, is_hidden_kind, neighbours, next_word, statement}
+use Rattle.pin_classifier.specs.Statement.{first_word, has_user_variable, has_word, is_quoted, is_user_variable, neighbours, next_word, statement}
 use Rattle.pin_classifier.specs.declared.class.Locking.TheVariants.{Takes as Locks}
 use Rattle.pin_classifier.specs.declared.class.Shape.TheVariants.{ConnectionId}
 use Rattle.mem_rule.specs.Forms.{captured_by, fixed_if, is_word_piece, taken_as}
@@ -150,7 +150,7 @@ locks_by_name text has =
     let call = calls_second text (statement text) (codes "SELECT") (codes "GET_LOCK") (codes "<x>" ∷ codes "," ∷ codes "0" ∷ codes ")" ∷ []) refl (stated text forms.Lock has) names_session_function is_function in
     deep_inside text (or_left _ _ (or_left _ _ (or_left _ _ (or_right _ _ call))))
 
-names_by : (kind : TokenKind) (text : List ℕ) (token : Token) → is_taken (captured_by kind text (codes "<a>") token) ≡ true → is_hidden_kind kind ≡ true
+names_by : (kind : TokenKind) (text : List ℕ) (token : Token) → is_taken (captured_by kind text (codes "<a>") token) ≡ true → is_user_variable kind ≡ true
 names_by kinds.UserVar text token is = refl
 names_by kinds.Symbol text token is = asks (bytes_eq (bytes_of text token) (codes "?")) is
   where
@@ -159,15 +159,20 @@ names_by kinds.Symbol text token is = asks (bytes_eq (bytes_of text token) (code
     asks false is = is
 names_by _ text token is = is
 
-hides_second : (text : List ℕ) (tokens : List Token) (a : List ℕ) (pieces : List (List ℕ)) → Takes text tokens (a ∷ codes "<a>" ∷ pieces) → has_hidden text tokens ≡ true
-hides_second text [] a pieces takes = absurd takes
-hides_second text (one ∷ []) a pieces takes = absurd takes.1
-hides_second text (one ∷ two ∷ tokens) a pieces takes = or_right _ _ (or_left _ _ (or_left _ _ (names_by two.kind text two takes.1.0)))
+no_account : (kind : TokenKind) (bytes piece : List ℕ) → is_word (word_by kind bytes) piece ≡ true → not (is_quoted kind) ≡ true
+no_account kinds.Quoted bytes piece is = absurd (cc)
+no_account _ bytes piece is = refl
+
+hides_second : (text : List ℕ) (tokens : List Token) (a : List ℕ) (pieces : List (List ℕ)) → is_word_piece a ≡ true → Takes text tokens (a ∷ codes "<a>" ∷ pieces) → has_user_variable text tokens ≡ true
+hides_second text [] a pieces is takes = absurd takes
+hides_second text (one ∷ []) a pieces is takes = absurd takes.1
+hides_second text (one ∷ two ∷ tokens) a pieces is takes =
+    or_left _ _ (and_from _ _ (names_by two.kind text two takes.1.0) (no_account one.kind (bytes_of text one) a (says_piece text a one is takes.0)))
 
 pub sets_variable : (text : List ℕ) → HasForm text forms.SetVariable → is_deep text ≡ true
 unfolding is_deep_inside
 sets_variable text has =
-    deep_inside text (or_left _ _ (or_left _ _ (or_left _ _ (or_left _ _ (or_right _ _ (hides_second text (statement text) (codes "SET") (codes "=" ∷ codes "<n>" ∷ []) (stated text forms.SetVariable has)))))))
+    deep_inside text (or_left _ _ (or_left _ _ (or_left _ _ (or_left _ _ (or_right _ _ (hides_second text (statement text) (codes "SET") (codes "=" ∷ codes "<n>" ∷ []) refl (stated text forms.SetVariable has)))))))
 
 has_second : (text : List ℕ) (tokens : List Token) (a b : List ℕ) (pieces : List (List ℕ)) → is_word_piece b ≡ true → Takes text tokens (a ∷ b ∷ pieces) → has_word text tokens b ≡ true
 has_second text [] a b pieces is takes = absurd takes
@@ -178,4 +183,4 @@ pub creates_temporary : (text : List ℕ) → HasForm text forms.CreateTemporary
 unfolding is_deep is_deep_start makes_temporary
 creates_temporary text has =
     let temporary = and_from _ _ (first_is text forms.CreateTemporary has (codes "CREATE")) (has_second text (statement text) (codes "CREATE") (codes "TEMPORARY") (codes "TABLE" ∷ codes "t" ∷ []) refl (stated text forms.CreateTemporary has)) in
-    or_left _ _ (or_left _ _ (or_right _ _ (or_left _ _ (or_left _ _ (or_left _ _ (or_left _ _ (or_left _ _ (or_left _ _ (or_left _ _ temporary)))))))))
+    or_left _ _ (or_left _ _ (or_right _ _ (or_left _ _ (or_left _ _ (or_left _ _ (or_left _ _ (or_left _ _ (or_left _ _ (or_left _ _ (or_left _ _ temporary))))))))))

@@ -8,7 +8,7 @@ use Rattle.session_vars.specs.declared.change.SlotValue.{SlotValue}
 use Rattle.session_vars.specs.declared.change.SlotValue.TheVariants.{Default}
 use Rattle.session_vars.specs.Slots.{place_of}
 use Rattle.session_vars.specs.declared.slot.Slot.{Slot}
-use Rattle.session_vars.specs.declared.slot.Slot.TheVariants.{Names, CharacterSetResults, Autocommit, SqlMode, TimeZone, TransactionIsolation, TransactionReadOnly, SqlSafeUpdates, ForeignKeyChecks, UniqueChecks, SqlSelectLimit, GroupConcatMaxLen, LcTimeNames, LcMessages, WaitTimeout, NetReadTimeout, NetWriteTimeout, InnodbLockWaitTimeout, LockWaitTimeout, MaxExecutionTime, SqlAutoIsNull}
+use Rattle.session_vars.specs.declared.slot.Slot.TheVariants.{Names, CharacterSetResults, Autocommit, SqlMode, TimeZone, TransactionIsolation, TransactionReadOnly, SqlSafeUpdates, ForeignKeyChecks, UniqueChecks, SqlSelectLimit, GroupConcatMaxLen, LcTimeNames, LcMessages, WaitTimeout, NetReadTimeout, NetWriteTimeout, InnodbLockWaitTimeout, LockWaitTimeout, MaxExecutionTime, SqlAutoIsNull, CharacterSetServer, SqlBigSelects, SqlNotes, SqlQuoteShowCreate, DefaultStorageEngine, InteractiveTimeout, MaxStatementTime, SessionTrackSchema, SessionTrackStateChange, SessionTrackSystemVariables, SessionTrackTransactionInfo, SessionTrackGtids}
 use Rattle.session_state.specs.Classes.{Effect, Tracked, effect_of, is_autocommit, settings_by, sets_autocommit}
 use Rattle.session_state.specs.Endings.{is_ok}
 use Rattle.pin_classifier.specs.Classes.{class_of}
@@ -82,6 +82,18 @@ elsewhere InnodbLockWaitTimeout isnt = λ e. omega arith
 elsewhere LockWaitTimeout isnt = λ e. omega arith
 elsewhere MaxExecutionTime isnt = λ e. omega arith
 elsewhere SqlAutoIsNull isnt = λ e. omega arith
+elsewhere CharacterSetServer isnt = λ e. omega arith
+elsewhere SqlBigSelects isnt = λ e. omega arith
+elsewhere SqlNotes isnt = λ e. omega arith
+elsewhere SqlQuoteShowCreate isnt = λ e. omega arith
+elsewhere DefaultStorageEngine isnt = λ e. omega arith
+elsewhere InteractiveTimeout isnt = λ e. omega arith
+elsewhere MaxStatementTime isnt = λ e. omega arith
+elsewhere SessionTrackSchema isnt = λ e. omega arith
+elsewhere SessionTrackStateChange isnt = λ e. omega arith
+elsewhere SessionTrackSystemVariables isnt = λ e. omega arith
+elsewhere SessionTrackTransactionInfo isnt = λ e. omega arith
+elsewhere SessionTrackGtids isnt = λ e. omega arith
 
 other_stays : (values : List SlotValue) (change : Change) → is_autocommit change.slot ≡ false → value_at (changed values change) Autocommit ≡ value_at values Autocommit
 other_stays values change isnt = get_or-set_other values (place_of change.slot) 2 (value_after (value_at values change.slot) change) Default (elsewhere change.slot isnt)

@@ -2,11 +2,11 @@
 use Rattle.std.proofs.Common.{◌≡◌, ℕ, Bool, false, ◌||◌, List, [], Option, None, codes, refl}
 use Rattle.sql_tokens.specs.declared.token.Token.{Token}
 use Rattle.sql_tokens.specs.Words.{is_word, says, word_of}
-use Rattle.pin_classifier.specs.Passing.{callee, is_quoted_call, is_release, seen_of, seen_behind, with_next}
+use Rattle.pin_classifier.specs.Passing.{callee, is_quoted_call, is_release, is_variable, seen_of, seen_behind, with_next}
 use Rattle.pin_classifier.specs.WordLists.{is_any}
 use Rattle.pin_classifier.specs.declared.word_list.WordList.TheVariants as lists
 use Rattle.pin_classifier.specs.Functions.{calls_any, has_call_of, names_session_function}
-use Rattle.pin_classifier.specs.Statement.{calls, calls_quoted, has_call, has_variable, has_word, is_from, is_hidden, is_part, is_unread, is_wide_name, releases, variable_of}
+use Rattle.pin_classifier.specs.Statement.{calls, calls_quoted, has_call, has_variable, has_word, is_from, is_hidden, is_part, is_unread, is_variable_behind, is_wide_name, releases, variable_of}
 use Rattle.pin_classifier.specs.declared.seen.Seen.{Seen}
 use Rattle.pin_classifier.proofs.Anywhere.{seen_token, seen_pair, callee_is, callee_passes}
 use Rattle.pin_classifier.proofs.Firsts.{opening_seen}
@@ -65,4 +65,5 @@ seen_is text tokens =
       dual = word_seen text (λ seen. seen.dual) (codes "DUAL") (λ _ _ _. refl) refl tokens i;
       into = word_seen text (λ seen. seen.into) (codes "INTO") (λ _ _ _. refl) refl tokens i;
       quoted_call = seen_pair text (λ seen. seen.quoted_call) (is_quoted_call text) (calls_quoted text) nothing (λ _ _ _. refl) refl (λ _. refl) (λ _ _. refl) tokens i;
+      user_variable = seen_pair text (λ seen. seen.user_variable) is_variable is_variable_behind nothing (λ _ _ _. refl) refl (λ _. refl) (λ _ _. refl) tokens i;
     }

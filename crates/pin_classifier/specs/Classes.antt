@@ -1,5 +1,5 @@
 -- The class of a statement: what it does to the session in which it runs, and what it reads there.
-use Rattle.std.specs.Prelude.{ℕ, Bool, true, false, not, ◌||◌, ◌&&◌, nat_eq, List, slice_get, codes, Option, Some, None, if◌then◌else◌}
+use Rattle.std.specs.Prelude.{ℕ, Bool, true, false, not, ◌||◌, ◌&&◌, List, slice_get, codes, Option, Some, None, if◌then◌else◌}
 use Rattle.std.specs.List.{list_any}
 use Rattle.session_vars.specs.Shapes.{set_shape}
 use Rattle.sql_tokens.specs.Words.{is_word}
@@ -8,10 +8,10 @@ use Rattle.session_vars.specs.declared.shape.SetShape.TheVariants.{Global, NextT
 use Rattle.pin_classifier.specs.WordLists.{is_any}
 use Rattle.pin_classifier.specs.declared.word_list.WordList.TheVariants as lists
 use Rattle.pin_classifier.specs.Functions.{has_call_of, names_session_function}
-use Rattle.pin_classifier.specs.Marks.{stands}
+use Rattle.pin_classifier.specs.Marks.{is_other_blank, stands}
 use Rattle.pin_classifier.specs.Shapes.{is_end, shape_of}
-use Rattle.pin_classifier.specs.Starts.{begins_unknown, analyzes_other, changes_schema, explains, gives_rows, goes_back, returns_rows, shows_connection, starts_other, writes_tables, locks_tables, unlocks_tables, locks_other, ends_transaction, is_savepoint, makes_id, shows_diagnostics}
-use Rattle.pin_classifier.specs.Statement.{statement, first_word, next_word, has_from, has_word, has_call, has_release, has_variable, has_wide_variable, has_hidden, has_unread, has_quoted_call}
+use Rattle.pin_classifier.specs.Starts.{begins_unknown, analyzes_other, changes_schema, explains, flushes_other, gives_rows, goes_back, returns_rows, shows_connection, starts_other, writes_tables, locks_tables, unlocks_tables, locks_other, ends_transaction, is_savepoint, makes_id, shows_diagnostics}
+use Rattle.pin_classifier.specs.Statement.{statement, first_word, next_word, has_from, has_word, has_call, has_release, has_variable, has_wide_variable, has_hidden, has_unread, has_quoted_call, has_user_variable}
 use Rattle.pin_classifier.specs.declared.class.Class.{Class}
 use Rattle.pin_classifier.specs.declared.class.Locking.{Locking}
 use Rattle.pin_classifier.specs.declared.class.Locking.TheVariants.{None as Neither, Takes, Frees}
@@ -71,15 +71,16 @@ unfoldable pub gives_id : (text : List ℕ) → Bool
 gives_id text = has_call text (statement text) (codes "LAST_INSERT_ID") && stands text GivenId
 
 -- a server may read it as another statement: it has an executed comment, what isn't closed, a NUL byte, or a word with a
--- byte A0
+-- byte A0 or FF
 unfoldable pub is_unread_text : (text : List ℕ) → Bool
-is_unread_text text = has_unread text (statement text) || (list_any (λ b. nat_eq b 160) text && stands text BlankInWord)
+is_unread_text text = has_unread text (statement text) || (list_any is_other_blank text && stands text BlankInWord)
 
 -- something in it lives in a session, or can't be read as a server does
 unfoldable pub is_deep_inside : (text : List ℕ) → Bool
 is_deep_inside text =
     is_unread_text text
     || has_hidden text (statement text)
+    || has_user_variable text (statement text)
     || has_call_of text (statement text) names_session_function
     || has_quoted_call text (statement text)
     || has_wide_variable text (statement text)
@@ -99,6 +100,7 @@ is_deep_start text =
     || begins_other text
     || analyzes_other (first text) (second text) (third text)
     || locks_other (first text) (second text)
+    || flushes_other (first text) (second text)
     || begins_unknown text (slice_get (statement text) 0)
 
 -- the statement may change its session in a way that isn't tracked
@@ -167,6 +169,7 @@ may_last text =
     is_unread_text text
     || begins_unknown text (slice_get (statement text) 0)
     || begins_other text
+    || flushes_other (first text) (second text)
     || (is_other (set_shape text) && stands text Lasting)
 
 -- it names a connection: KILL, a call of CONNECTION_ID but for SELECT CONNECTION_ID(), a call of a function that names the

@@ -20,16 +20,19 @@ nothing = record { last = None; earlier = None }
 abbrev pub followed_by : Recent → Token → Recent
 followed_by recent token = record { last = Some token; earlier = recent.last }
 
--- a word with a byte A0, which servers may read as a blank
+-- a word with a byte that is a blank in some character set, as servers may read it
+abbrev pub is_other_blank : ℕ → Bool
+is_other_blank b = nat_eq b 160 || nat_eq b 255
+
 abbrev pub has_blank : TokenKind → List ℕ → Bool
-has_blank Word bytes = list_any (λ b. nat_eq b 160) bytes
+has_blank Word bytes = list_any is_other_blank bytes
 has_blank _ bytes = false
 
 -- a word of what lasts, or a name that may be read as one
 abbrev pub lasts : (text : List ℕ) → Token → Bool
 lasts text token = is_any lists.Lasting (word_of text token) || is_wide_name (word_of text token) || is_any_part lists.Lasting (variable_of text token) || is_wide_name (variable_of text token)
 
--- a call of LAST_INSERT_ID with an argument, PREVIOUS VALUE FOR a sequence, FOR CONNECTION, a byte A0 in a word, what reads
+-- a call of LAST_INSERT_ID with an argument, PREVIOUS VALUE FOR a sequence, FOR CONNECTION, a byte A0 or FF in a word, what reads
 -- diagnostics or the last values, or what lasts
 abbrev pub passes : (text : List ℕ) → Mark → Recent → Token → Bool
 passes text GivenId recent token = is_byte text recent.last 40 && is_there text recent.earlier (codes "LAST_INSERT_ID") && not (is_symbol text token 41)

@@ -17,9 +17,9 @@ definition_words = codes "CREATE" ∷ codes "ALTER" ∷ codes "DROP" ∷ codes "
 abbrev pub transaction_words : List (List ℕ)
 transaction_words = codes "BEGIN" ∷ codes "START" ∷ codes "COMMIT" ∷ codes "ROLLBACK" ∷ codes "SAVEPOINT" ∷ codes "RELEASE" ∷ codes "LOCK" ∷ codes "UNLOCK" ∷ []
 
--- upkeep of tables, and accounts
+-- upkeep of tables, accounts, and what stands beside them
 abbrev pub upkeep_words : List (List ℕ)
-upkeep_words = codes "ANALYZE" ∷ codes "OPTIMIZE" ∷ codes "CHECK" ∷ codes "REPAIR" ∷ codes "GRANT" ∷ codes "REVOKE" ∷ []
+upkeep_words = codes "ANALYZE" ∷ codes "OPTIMIZE" ∷ codes "CHECK" ∷ codes "REPAIR" ∷ codes "GRANT" ∷ codes "REVOKE" ∷ codes "FLUSH" ∷ codes "CHECKSUM" ∷ codes "HELP" ∷ codes "SIGNAL" ∷ []
 
 -- what is shown, and the session itself
 abbrev pub session_words : List (List ℕ)
@@ -54,6 +54,10 @@ changes_schema first second third fourth =
 unfoldable pub analyzes_other : (first second third : Option (List ℕ)) → Bool
 analyzes_other first second third =
     is_word first (codes "ANALYZE") && not (names_tables second || ((is_word second (codes "NO_WRITE_TO_BINLOG") || is_word second (codes "LOCAL")) && names_tables third))
+
+-- FLUSH but for FLUSH PRIVILEGES
+unfoldable pub flushes_other : (first second : Option (List ℕ)) → Bool
+flushes_other first second = is_word first (codes "FLUSH") && not (is_word second (codes "PRIVILEGES"))
 
 -- EXPLAIN, DESCRIBE and DESC
 unfoldable pub explains : (first : Option (List ℕ)) → Bool

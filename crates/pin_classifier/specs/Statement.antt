@@ -111,10 +111,21 @@ is_from text token = says text token (codes "FROM") && is_plain_word token.kind
 abbrev pub has_from : (text : List ℕ) → List Token → Bool
 has_from text tokens = list_any (is_from text) tokens
 
--- what lives in a session, or may be read in another way: a user variable, and half of a system variable
-abbrev pub is_hidden_kind : TokenKind → Bool
-is_hidden_kind UserVar = true
-is_hidden_kind _ = false
+-- A user variable, which lives in a session. No statement that is known begins with one; and right behind a quoted text it is
+-- the host of an account.
+abbrev pub is_user_variable : TokenKind → Bool
+is_user_variable UserVar = true
+is_user_variable _ = false
+
+abbrev pub is_quoted : TokenKind → Bool
+is_quoted Quoted = true
+is_quoted _ = false
+
+abbrev pub is_variable_behind : Token × Token → Bool
+is_variable_behind pair = is_user_variable pair.1.kind && not (is_quoted pair.0.kind)
+
+abbrev pub has_user_variable : (text : List ℕ) → List Token → Bool
+has_user_variable text tokens = list_any is_variable_behind (neighbours tokens)
 
 -- scopes that are no names of variables
 abbrev pub variable_scopes : List (List ℕ)
@@ -126,7 +137,7 @@ is_half SysVar bytes = list_any (same_text (drop 2 bytes)) variable_scopes || na
 is_half _ bytes = false
 
 abbrev pub is_hidden : (text : List ℕ) → Token → Bool
-is_hidden text token = is_hidden_kind token.kind || is_half token.kind (bytes_of text token)
+is_hidden text token = is_half token.kind (bytes_of text token)
 
 abbrev pub has_hidden : (text : List ℕ) → List Token → Bool
 has_hidden text tokens = list_any (is_hidden text) tokens

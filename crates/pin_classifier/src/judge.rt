@@ -10,9 +10,9 @@ use crate::marks::{Mark, has_blank_byte, stands};
 use crate::seen::Seen;
 use crate::shape::{is_end, shape_of};
 use crate::starts::{
-    analyzes_other, begins_unknown, changes_schema, ends_transaction, explains, gives_rows,
-    goes_back, is_savepoint, locks_other, locks_tables, makes_id, returns_rows, shows_connection,
-    shows_diagnostics, starts_other, unlocks_tables, writes_tables,
+    analyzes_other, begins_unknown, changes_schema, ends_transaction, explains, flushes_other,
+    gives_rows, goes_back, is_savepoint, locks_other, locks_tables, makes_id, returns_rows,
+    shows_connection, shows_diagnostics, starts_other, unlocks_tables, writes_tables,
 };
 use crate::words::{first_word, next_word};
 use crate::{Class, Locking, Refusal, Shape};
@@ -94,6 +94,7 @@ fn is_deep_inside(text: &[u8], seen: &Seen, verb: Option<&[u8]>, unread: bool, g
 {
     unread
         || seen.hidden
+        || seen.user_variable
         || seen.calls.session_function
         || seen.quoted_call
         || seen.variables.wide
@@ -129,6 +130,7 @@ fn is_deep_start(text: &[u8], seen: &Seen, verb: Option<&[u8]>) -> bool
         || begins_other(text, seen, verb)
         || analyzes_other(verb, second, third)
         || locks_other(verb, second)
+        || flushes_other(verb, second)
         || begins_unknown(text, seen.opening.first)
 }
 
@@ -277,6 +279,7 @@ fn may_last(text: &[u8], seen: &Seen, shape: &Shape, verb: Option<&[u8]>, unread
     unread
         || begins_unknown(text, seen.opening.first)
         || begins_other(text, seen, verb)
+        || flushes_other(verb, next_word(text, seen.opening.second))
         || (is_other(shape) && stands(text, Mark::Lasting))
 }
 

@@ -1,7 +1,7 @@
 // What is looked for in statements that may have it.
-ghost use Rattle.std.specs.Prelude.{◌≡◌, nat_eq};
+ghost use Rattle.std.specs.Prelude.{◌≡◌};
 ghost use Rattle.std.specs.List.{list_any};
-ghost use Rattle.pin_classifier.specs.Marks.{has_blank, lasts, passes, stands};
+ghost use Rattle.pin_classifier.specs.Marks.{has_blank, is_other_blank, lasts, passes, stands};
 
 use crate::diagnostics::{is_any_part, tells};
 use crate::recent::Recent;
@@ -17,7 +17,7 @@ pub(crate) enum Mark {
     // PREVIOUS VALUE FOR (MariaDB, "Sequence Functions").
     PreviousValue,
     ForConnection,
-    // A byte A0 in a word, which servers may read as a blank.
+    // A byte A0 or FF in a word, which servers may read as a blank.
     BlankInWord,
     // What reads diagnostics or last values, also in executed comments.
     Diagnostic,
@@ -40,9 +40,9 @@ fn lasts(text: &[u8], token: &Token) -> bool
 
 #[tactic(auto, using(crate::proofs::Blanks::no_blank))]
 pub(crate) fn has_blank_byte(text: &[u8]) -> bool
-    ensures { result ≡ list_any (λ b. nat_eq b 160) text.now }
+    ensures { result ≡ list_any is_other_blank text.now }
 {
-    !text.is_ascii() && text.iter().any(|byte| *byte == 0xA0)
+    !text.is_ascii() && text.iter().any(|byte| *byte == 0xA0 || *byte == 0xFF)
 }
 
 fn has_blank(kind: TokenKind, bytes: &[u8]) -> bool

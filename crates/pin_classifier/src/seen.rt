@@ -7,7 +7,7 @@ use crate::calls::Calls;
 use crate::opening::Opening;
 use crate::variables::Variables;
 use crate::words::{
-    callee, is_from, is_hidden, is_quoted_call, is_release, is_unread, variable_of,
+    callee, is_from, is_hidden, is_quoted_call, is_release, is_unread, is_variable, variable_of,
 };
 use sql_tokens::{Token, TokenKind, Tokens, is_word, word_of};
 
@@ -15,7 +15,7 @@ use sql_tokens::{Token, TokenKind, Tokens, is_word, word_of};
 #[derive(Clone, Copy)]
 pub(crate) struct Seen {
     pub opening: Opening,
-    // A user variable, or half of a system variable.
+    // Half of a system variable.
     pub hidden: bool,
     // An executed comment, what isn't closed, or a NUL byte.
     pub unread: bool,
@@ -32,6 +32,8 @@ pub(crate) struct Seen {
     pub dual: bool,
     pub into: bool,
     pub quoted_call: bool,
+    // A user variable, but for the host of an account.
+    pub user_variable: bool,
 }
 
 impl Seen {
@@ -53,6 +55,7 @@ impl Seen {
             dual: false,
             into: false,
             quoted_call: false,
+            user_variable: false,
         }
     }
 
@@ -75,6 +78,7 @@ impl Seen {
         self.dual |= is_word(word, b"DUAL");
         self.into |= is_word(word, b"INTO");
         self.quoted_call |= is_quoted_call(text, before, &token);
+        self.user_variable |= is_variable(before, &token);
     }
 
     // What is seen of a statement. Takes no memory.

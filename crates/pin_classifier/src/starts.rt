@@ -1,12 +1,12 @@
 // How statements begin.
 ghost use Rattle.std.specs.Prelude.{◌≡◌, option_copied};
-ghost use Rattle.pin_classifier.specs.Starts.{is_known, begins_unknown, analyzes_other, changes_schema, explains, gives_rows, goes_back, names_schema, returns_rows, shows_connection, starts_other, writes_tables, names_tables, locks_tables, unlocks_tables, locks_other, ends_transaction, is_savepoint, makes_id, shows_diagnostics};
+ghost use Rattle.pin_classifier.specs.Starts.{is_known, begins_unknown, analyzes_other, changes_schema, explains, flushes_other, gives_rows, goes_back, names_schema, returns_rows, shows_connection, starts_other, writes_tables, names_tables, locks_tables, unlocks_tables, locks_other, ends_transaction, is_savepoint, makes_id, shows_diagnostics};
 
 use crate::words::opening_word;
 use sql_tokens::{Token, is_one_of, is_word};
 
 // The words that begin the statements whose effect on a session is known, mostly the likelier ones first.
-static KNOWN_WORDS: [&[u8]; 36] = [
+static KNOWN_WORDS: [&[u8]; 40] = [
     // MySQL Reference Manual, "Data Manipulation Statements".
     b"SELECT",
     b"INSERT",
@@ -48,6 +48,11 @@ static KNOWN_WORDS: [&[u8]; 36] = [
     b"REPAIR",
     b"GRANT",
     b"REVOKE",
+    // "FLUSH Statement", "CHECKSUM TABLE Statement", "HELP Statement" and "SIGNAL Statement".
+    b"FLUSH",
+    b"CHECKSUM",
+    b"HELP",
+    b"SIGNAL",
 ];
 
 fn is_known(word: Option<&[u8]>) -> bool
@@ -106,6 +111,14 @@ pub(crate) fn analyzes_other(
         && !(names_tables(second)
             || ((is_word(second, b"NO_WRITE_TO_BINLOG") || is_word(second, b"LOCAL"))
                 && names_tables(third)))
+}
+
+// FLUSH but for FLUSH PRIVILEGES.
+#[tactic(auto, unfolding(crate::specs::Starts::flushes_other))]
+pub(crate) fn flushes_other(first: Option<&[u8]>, second: Option<&[u8]>) -> bool
+    ensures { result ≡ flushes_other (option_copied first.entry) (option_copied second.entry) }
+{
+    is_word(first, b"FLUSH") && !is_word(second, b"PRIVILEGES")
 }
 
 // EXPLAIN, DESCRIBE, DESC.

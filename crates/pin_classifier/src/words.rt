@@ -2,9 +2,9 @@
 ghost use Rattle.std.specs.Prelude.{◌≡◌, ◌-◌, ◌&&◌, nat_eq, nat_lt, codes, length, slice_index_or, option_copied};
 ghost use Rattle.std.specs.List.{list_all, list_any, slice_split};
 ghost use Rattle.sql_tokens.specs.Words.{is_word, same_text};
-ghost use Rattle.pin_classifier.specs.Passing.{callee, is_quoted_call, is_release};
+ghost use Rattle.pin_classifier.specs.Passing.{callee, is_quoted_call, is_release, is_variable};
 ghost use Rattle.pin_classifier.specs.Shapes.{is_there, is_byte};
-ghost use Rattle.pin_classifier.specs.Statement.{first_word, next_word, opening_word, has_part, is_part, is_double_quoted, is_half, is_hidden, is_hidden_kind, is_plain_word, is_unread, is_unread_kind, is_wide, is_wide_name, releases, variable_of};
+ghost use Rattle.pin_classifier.specs.Statement.{first_word, next_word, opening_word, has_part, is_part, is_double_quoted, is_half, is_hidden, is_plain_word, is_quoted, is_user_variable, is_unread, is_unread_kind, is_wide, is_wide_name, releases, variable_of};
 
 use sql_tokens::{
     Token, TokenKind, behind, bytes_of, is_one_of, is_symbol, is_word, same_text, says, word_of,
@@ -122,10 +122,26 @@ pub(crate) fn is_unread(text: &[u8], token: &Token) -> bool
     is_unread_kind(token.kind) || is_symbol(text, token, b'\0')
 }
 
-fn is_hidden_kind(kind: TokenKind) -> bool
-    ensures { result ≡ is_hidden_kind kind }
+fn is_user_variable(kind: TokenKind) -> bool
+    ensures { result ≡ is_user_variable kind }
 {
     kind == TokenKind::UserVar
+}
+
+fn is_quoted(kind: TokenKind) -> bool
+    ensures { result ≡ is_quoted kind }
+{
+    kind == TokenKind::Quoted
+}
+
+// Whether this token is a user variable, and not the host of an account, which stands right behind a quoted text.
+pub(crate) fn is_variable(before: Option<Token>, token: &Token) -> bool
+    ensures { result ≡ is_variable before token.now }
+{
+    match before {
+        Some(before) => is_user_variable(token.kind) && !is_quoted(before.kind),
+        None => false,
+    }
 }
 
 // Scopes that are no names of variables.
@@ -147,11 +163,11 @@ fn ends_in_dot(bytes: &[u8]) -> bool
     !bytes.is_empty() && bytes[bytes.len() - 1] == b'.'
 }
 
-// Whether this token lives in a session, or may be read in another way.
+// Whether this token may be read in another way.
 pub(crate) fn is_hidden(text: &[u8], token: &Token) -> bool
     ensures { result ≡ is_hidden text.now token.now }
 {
-    is_hidden_kind(token.kind) || is_half(token.kind, bytes_of(text, token))
+    is_half(token.kind, bytes_of(text, token))
 }
 
 // The name of a system variable, behind its `@@`.

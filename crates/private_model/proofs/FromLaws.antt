@@ -136,13 +136,13 @@ module _ (reads : Reads) (tests : Tests) (rule : server.Step) (tame : IsTame rea
   locks_after stored s ok (InitDb schema) shallow takes none = ap (λ (x : Session). x.locks) (uses_law stored s ok (InitDb schema) schema refl).1 ∙ none
   locks_after stored s ok c shallow takes none = left (λ (x : Session). x.locks) (λ n d x. refl) stored s ok c refl shallow ∙ none
 
-  none_after : (stored : List ℕ) (s : Session) → Accepts tests stored s → (c : Command) → (class_of reads c).deep ≡ false → sets_next (class_of reads c) (end_of (step stored s c).reply) ≡ false → is_lone_savepoint (class_of reads c) (is_some_of s.tx) ≡ false → s.deep ≡ [] → (step stored s c).session.deep ≡ []
+  none_after : (stored : List ℕ) (s : Session) → Accepts tests stored s → (c : Command) → (class_of reads c).deep ≡ false → sets_next (class_of reads c) (end_of (step stored s c).reply) ≡ false → is_lone_savepoint (class_of reads c) (end_of (step stored s c).reply) ≡ false → s.deep ≡ [] → (step stored s c).session.deep ≡ []
   none_after stored s ok (Query text) shallow next inside none = tame.texts.none stored s ok (cmd.Query text) text refl shallow next inside none
   none_after stored s ok (Run text schema settings args) shallow next inside none = tame.texts.none stored s ok (cmd_of (Run text schema settings args)) text refl shallow next inside none
   none_after stored s ok (InitDb schema) shallow next inside none = ap (λ (x : Session). x.deep) (uses_law stored s ok (InitDb schema) schema refl).1 ∙ none
   none_after stored s ok c shallow next inside none = left (λ (x : Session). x.deep) (λ n d x. refl) stored s ok c refl shallow ∙ none
 
-  brief_after : (stored : List ℕ) (s : Session) → Accepts tests stored s → (c : Command) → (class_of reads c).deep ≡ false → is_lone_savepoint (class_of reads c) (is_some_of s.tx) ≡ false → is_brief s.deep ≡ true → is_brief (step stored s c).session.deep ≡ true
+  brief_after : (stored : List ℕ) (s : Session) → Accepts tests stored s → (c : Command) → (class_of reads c).deep ≡ false → is_lone_savepoint (class_of reads c) (end_of (step stored s c).reply) ≡ false → is_brief s.deep ≡ true → is_brief (step stored s c).session.deep ≡ true
   brief_after stored s ok (Query text) shallow inside brief = tame.texts.brief stored s ok (cmd.Query text) text refl shallow inside brief
   brief_after stored s ok (Run text schema settings args) shallow inside brief = tame.texts.brief stored s ok (cmd_of (Run text schema settings args)) text refl shallow inside brief
   brief_after stored s ok (InitDb schema) shallow inside brief = ap (λ (x : Session). is_brief x.deep) (uses_law stored s ok (InitDb schema) schema refl).1 ∙ brief

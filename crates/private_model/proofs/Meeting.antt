@@ -15,11 +15,12 @@ use Rattle.server_rule.specs.Classes.{Reads, core}
 use Rattle.server_rule.specs.Servers.{Accepts, AgreeWhere, Tests, is_some_of, with_diag, with_id}
 use Rattle.server_rule.specs.declared.session.Session.{Session}
 use Rattle.session_state.specs.Classes.{frees, leaves_diag, leaves_found, sets_autocommit, takes}
-use Rattle.session_state.specs.Endings.{warns}
+use Rattle.session_state.specs.Endings.{shows_neither, warns}
 use Rattle.session_state.specs.Pins.{deep_after, is_pinned, no_pin, pin_answered, pin_prepared, shows_none, tx_after}
 use Rattle.session_state.specs.declared.names.SessionName.{SessionName}
 use Rattle.session_state.specs.declared.pin.Pin.{Pin}
 use Rattle.session_state.specs.declared.place.Told.{Told}
+use Rattle.session_state.specs.declared.reply_end.ReplyEnd.{ReplyEnd}
 use Rattle.session_vars.specs.declared.change.SlotValue.{SlotValue}
 
 session_by : (a b : Session) → a.user ≡ b.user → a.capabilities ≡ b.capabilities → a.schema ≡ b.schema → a.settings ≡ b.settings → a.last_id ≡ b.last_id → a.tx ≡ b.tx → a.locks ≡ b.locks → a.deep ≡ b.deep → a.diag ≡ b.diag → a ≡ b
@@ -264,23 +265,23 @@ module _ (reads : Reads) (step : Step) (tests : Tests) (tame : Tame reads tests 
   suits_statement Reset multiplex pin suits = suits_after reads step tests tame stored p ok_p Reset refl multiplex pin suits
   suits_statement Quit multiplex pin suits = suits_after reads step tests tame stored p ok_p Quit refl multiplex pin suits
 
-  shallow_after : (class : Class) (pin : Pin) → deep_after class pin ≡ false → (pin.deep ≡ false) × (class.deep ≡ false)
-  shallow_after class pin e = (or_left pin.deep _ e, or_left class.deep _ (or_right pin.deep _ e))
+  shallow_after : (class : Class) (end : ReplyEnd) (pin : Pin) → deep_after class end pin ≡ false → (pin.deep ≡ false) × (class.deep ≡ false)
+  shallow_after class end pin e = (or_left pin.deep _ e, or_left class.deep _ (or_right pin.deep _ e))
 
   shallow_prepared : (class : Class) (multiplex : Option Bool) (reply : Reply) (pin : Pin) (err : Bool) → (if err then pin_answered class multiplex (end_of reply) pin else pin_prepared class (end_of reply) pin).deep ≡ false → (pin.deep ≡ false) × (false ≡ false)
   shallow_prepared class multiplex reply pin true e = (or_left pin.deep _ e, refl)
   shallow_prepared class multiplex reply pin false e = (e, refl)
 
   pub shallow_before : (c : Command) (multiplex : Option Bool) (reply : Reply) (pin : Pin) → (pin_statement reads c multiplex reply pin).deep ≡ false → (pin.deep ≡ false) × ((class_of reads c).deep ≡ false)
-  shallow_before (Query text) multiplex reply pin e = shallow_after (class_of reads (Query text)) pin e
-  shallow_before (InitDb schema) multiplex reply pin e = shallow_after (class_of reads (InitDb schema)) pin e
-  shallow_before (FieldList rest) multiplex reply pin e = shallow_after (class_of reads (FieldList rest)) pin e
-  shallow_before (SetId n) multiplex reply pin e = shallow_after (class_of reads (SetId n)) pin e
-  shallow_before ReadId multiplex reply pin e = shallow_after (class_of reads ReadId) pin e
+  shallow_before (Query text) multiplex reply pin e = shallow_after (class_of reads (Query text)) (end_of reply) pin e
+  shallow_before (InitDb schema) multiplex reply pin e = shallow_after (class_of reads (InitDb schema)) (end_of reply) pin e
+  shallow_before (FieldList rest) multiplex reply pin e = shallow_after (class_of reads (FieldList rest)) (end_of reply) pin e
+  shallow_before (SetId n) multiplex reply pin e = shallow_after (class_of reads (SetId n)) (end_of reply) pin e
+  shallow_before ReadId multiplex reply pin e = shallow_after (class_of reads ReadId) (end_of reply) pin e
   shallow_before (Prepare text) multiplex reply pin e = shallow_prepared (reads.class text) multiplex reply pin (is_err reply) e
-  shallow_before (Run text schema settings args) multiplex reply pin e = shallow_after (class_of reads (Run text schema settings args)) pin e
-  shallow_before Reset multiplex reply pin e = shallow_after (class_of reads Reset) pin e
-  shallow_before Quit multiplex reply pin e = shallow_after (class_of reads Quit) pin e
+  shallow_before (Run text schema settings args) multiplex reply pin e = shallow_after (class_of reads (Run text schema settings args)) (end_of reply) pin e
+  shallow_before Reset multiplex reply pin e = shallow_after (class_of reads Reset) (end_of reply) pin e
+  shallow_before Quit multiplex reply pin e = shallow_after (class_of reads Quit) (end_of reply) pin e
 
   pub met_alike : (c : Command) (user : Account) (marked : Bool) (told : Told) (link_id : Option ℕ) (pin : Pin) (id : Option ℕ) → IsMet tests reads c user marked told link_id pin id s p → IsAlikeAfter reads tests c p s (step stored p c) (step stored s c)
   met_alike c user marked told link_id pin id met = alike_after reads step tests tame stored s p ok ok_p met.rest c met.diag (λ e. met.marks (mark_of reads c e))
@@ -497,7 +498,7 @@ module _ (reads : Reads) (step : Step) (tests : Tests) (tame : Tame reads tests 
     plain = record {
       tx = calm ∙ free.plain.tx;
       locks = tame.text.locks stored s ok c shallow (ap (λ b. b && not (is_err (step stored s c).reply)) takes) free.plain.locks;
-      deep = tame.text.none stored s ok c shallow (ap (λ b. b && is_ok (step stored s c).reply) next) (ap (λ b. b && not (is_some_of s.tx)) savepoint) free.plain.deep;
+      deep = tame.text.none stored s ok c shallow (ap (λ b. b && is_ok (step stored s c).reply) next) (ap (λ b. b && shows_neither (end_of (step stored s c).reply)) savepoint) free.plain.deep;
     };
     follows = follows_after reads step tests tame stored s ok c told no_reset shallow free.follows;
     knows = knows_after reads step tests tame stored s ok c link_id free.knows;

@@ -12,6 +12,7 @@ use Rattle.server_rule.specs.Replies.{one_number}
 use Rattle.server_rule.specs.Servers.{Accepts, Tests, is_brief, is_some_of}
 use Rattle.server_rule.specs.declared.session.Session.{Session}
 use Rattle.session_state.specs.Classes.{Effect, Neither, Tracked, Uses, effect_of, frees, frees_locks, is_lone_savepoint, schema_by, sets_next, settings_by, takes, takes_locks}
+use Rattle.session_state.specs.Endings.{shows_neither}
 use Rattle.session_state.specs.Pins.{deep_after, is_pinned, locks_after, needs_reset, next_after, no_pin, pin_answered, shows_none, tx_after}
 use Rattle.session_state.specs.declared.pin.Pin.{Pin}
 use Rattle.session_state.specs.declared.place.Told.{Told}
@@ -52,13 +53,6 @@ pub and_right : (a b : Bool) → (a && b) ≡ true → b ≡ true
 and_right true b e = e
 and_right false b e = apart e refl
 
--- a savepoint that brings no Deep stands in a transaction
-in_transaction : (savepoint tx after_err has : Bool) → (after_err ≡ false → has ≡ tx) → (savepoint && not (tx && not after_err)) ≡ false → (savepoint && not has) ≡ false
-in_transaction false tx after_err has known e = refl
-in_transaction true true true has known e = apart refl e
-in_transaction true true false has known e = ap not (known refl)
-in_transaction true false after_err has known e = apart refl e
-
 none_shown : (shown : Option Bool) → shows_none shown ≡ true → shown ≡ Some false
 none_shown (Some true) e = apart e refl
 none_shown (Some false) e = refl
@@ -90,14 +84,14 @@ module _ (reads : Reads) (step : Step) (tests : Tests) (tame : Tame reads tests 
       ]
 
   -- deep state goes with the transaction that it is of
-  suits_ended : (class_of reads c).deep ≡ false → sets_next (class_of reads c) (end_of (step stored s c).reply) ≡ false → is_lone_savepoint (class_of reads c) (is_some_of s.tx) ≡ false
+  suits_ended : (class_of reads c).deep ≡ false → sets_next (class_of reads c) (end_of (step stored s c).reply) ≡ false → is_lone_savepoint (class_of reads c) (end_of (step stored s c).reply) ≡ false
       → is_brief s.deep ≡ true → (is_some_of s.tx ≡ false → s.deep ≡ []) → is_some_of (step stored s c).session.tx ≡ false → (step stored s c).session.deep ≡ []
   suits_ended shallow unset inside brief none over = elim (bool_cases (is_some_of s.tx)) [
     | inl there ↦ tame.text.ended stored s ok c shallow there over brief
     | inr shut ↦ tame.text.none stored s ok c shallow unset inside (none shut)
   ]
 
-  suits_none : is_flagged c ≡ true → (pin : Pin) → Suits pin s → pin.deep ≡ false → (class_of reads c).deep ≡ false → is_lone_savepoint (class_of reads c) (is_some_of s.tx) ≡ false
+  suits_none : is_flagged c ≡ true → (pin : Pin) → Suits pin s → pin.deep ≡ false → (class_of reads c).deep ≡ false → is_lone_savepoint (class_of reads c) (end_of (step stored s c).reply) ≡ false
       → next_after (class_of reads c) (end_of (step stored s c).reply) pin ≡ false → (step stored s c).session.deep ≡ []
   suits_none flagged pin suits was shallow inside e =
       let class = class_of reads c in
@@ -109,7 +103,7 @@ module _ (reads : Reads) (step : Step) (tests : Tests) (tame : Tame reads tests 
         | inr unset ↦ tame.text.none stored s ok c shallow went.0 inside (suits.none was unset)
       ]
 
-  suits_past : is_flagged c ≡ true → (pin : Pin) → Suits pin s → pin.deep ≡ false → (class_of reads c).deep ≡ false → is_lone_savepoint (class_of reads c) (is_some_of s.tx) ≡ false
+  suits_past : is_flagged c ≡ true → (pin : Pin) → Suits pin s → pin.deep ≡ false → (class_of reads c).deep ≡ false → is_lone_savepoint (class_of reads c) (end_of (step stored s c).reply) ≡ false
       → (err : Bool) → is_err (step stored s c).reply ≡ err → tx_after (flags (step stored s c).reply) pin.tx ≡ true → is_some_of (step stored s c).session.tx ≡ false → (step stored s c).session.deep ≡ []
   suits_past flagged pin suits was shallow inside false is there over =
       let shows = tame.shows stored s ok c flagged is in
@@ -126,10 +120,9 @@ module _ (reads : Reads) (step : Step) (tests : Tests) (tame : Tame reads tests 
   suits_after flagged multiplex pin suits =
       let class = class_of reads c in
       let reply = (step stored s c).reply in
-      let inside : (deep_after class pin ≡ false) → is_lone_savepoint class (is_some_of s.tx) ≡ false =
-      λ e. in_transaction class.savepoint pin.tx pin.after_err (is_some_of s.tx) suits.tx (or_right class.deep _ (or_right pin.deep _ e)) in
-      let was : (deep_after class pin ≡ false) → pin.deep ≡ false = λ e. or_left pin.deep _ e in
-      let shallow : (deep_after class pin ≡ false) → class.deep ≡ false = λ e. or_left class.deep _ (or_right pin.deep _ e) in
+      let inside : (deep_after class (end_of reply) pin ≡ false) → is_lone_savepoint class (end_of reply) ≡ false = λ e. or_right class.deep _ (or_right pin.deep _ e) in
+      let was : (deep_after class (end_of reply) pin ≡ false) → pin.deep ≡ false = λ e. or_left pin.deep _ e in
+      let shallow : (deep_after class (end_of reply) pin ≡ false) → class.deep ≡ false = λ e. or_left class.deep _ (or_right pin.deep _ e) in
       record {
         tx = λ fine. suits_tx reply pin.tx (is_some_of (step stored s c).session.tx) (tame.in_trans stored s ok c flagged) (tame.shows stored s ok c flagged fine);
         locks = λ e none. suits_locks pin.locks (shallow e) (suits.locks (was e)) none;
@@ -145,7 +138,7 @@ module _ (reads : Reads) (step : Step) (tests : Tests) (tame : Tame reads tests 
       let reply = (step stored s c).reply in
       let no_takes : takes_locks (class_of reads c) (end_of reply) ≡ false = ap (λ b. b && not (is_err reply)) takes in
       let no_next : sets_next (class_of reads c) (end_of reply) ≡ false = ap (λ b. b && is_ok reply) next in
-      let inside : is_lone_savepoint (class_of reads c) (is_some_of s.tx) ≡ false = ap (λ b. b && not (is_some_of s.tx)) savepoint in
+      let inside : is_lone_savepoint (class_of reads c) (end_of reply) ≡ false = ap (λ b. b && shows_neither (end_of reply)) savepoint in
       record {
         tx = λ fine. ap is_some_of (calm (or_left pin.after_err _ fine)) ∙ suits.tx (or_left pin.after_err _ fine);
         locks = λ was none. tame.text.locks stored s ok c shallow no_takes (suits.locks was none);

@@ -51,8 +51,8 @@ pub record TextLaw (reads : Reads) (tests : Tests) (step : Step) : Type 0 where
   pub schema : (stored : List ℕ) (s : Session) → Accepts tests stored s → (c : Command) → (class_of reads c).deep ≡ false → (step stored s c).session.schema ≡ schema_by (effect_of (class_of reads c)) (is_ok (step stored s c).reply) s.schema
   pub settings : (stored : List ℕ) (s : Session) → Accepts tests stored s → (c : Command) → (class_of reads c).deep ≡ false → (step stored s c).session.settings ≡ settings_by (effect_of (class_of reads c)) (is_ok (step stored s c).reply) s.settings
   pub locks : (stored : List ℕ) (s : Session) → Accepts tests stored s → (c : Command) → (class_of reads c).deep ≡ false → takes_locks (class_of reads c) (end_of (step stored s c).reply) ≡ false → s.locks ≡ [] → (step stored s c).session.locks ≡ []
-  pub none : (stored : List ℕ) (s : Session) → Accepts tests stored s → (c : Command) → (class_of reads c).deep ≡ false → sets_next (class_of reads c) (end_of (step stored s c).reply) ≡ false → is_lone_savepoint (class_of reads c) (is_some_of s.tx) ≡ false → s.deep ≡ [] → (step stored s c).session.deep ≡ []
-  pub brief : (stored : List ℕ) (s : Session) → Accepts tests stored s → (c : Command) → (class_of reads c).deep ≡ false → is_lone_savepoint (class_of reads c) (is_some_of s.tx) ≡ false → is_brief s.deep ≡ true → is_brief (step stored s c).session.deep ≡ true
+  pub none : (stored : List ℕ) (s : Session) → Accepts tests stored s → (c : Command) → (class_of reads c).deep ≡ false → sets_next (class_of reads c) (end_of (step stored s c).reply) ≡ false → is_lone_savepoint (class_of reads c) (end_of (step stored s c).reply) ≡ false → s.deep ≡ [] → (step stored s c).session.deep ≡ []
+  pub brief : (stored : List ℕ) (s : Session) → Accepts tests stored s → (c : Command) → (class_of reads c).deep ≡ false → is_lone_savepoint (class_of reads c) (end_of (step stored s c).reply) ≡ false → is_brief s.deep ≡ true → is_brief (step stored s c).session.deep ≡ true
   pub ended : (stored : List ℕ) (s : Session) → Accepts tests stored s → (c : Command) → (class_of reads c).deep ≡ false → is_some_of s.tx ≡ true → is_some_of (step stored s c).session.tx ≡ false → is_brief s.deep ≡ true → (step stored s c).session.deep ≡ []
 
 -- two outcomes that are the same but for diagnostics, which show the same where they are of this command, or did before

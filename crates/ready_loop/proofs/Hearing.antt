@@ -1,5 +1,5 @@
 -- What a machine is told of a read.
-use Rattle.std.proofs.Common.{◌≡◌, ℕ, zero, suc, ◌+◌, Bool, false, List, [], ◌∷◌, Option, Some, None, take, arith, refl, subst, inl}
+use Rattle.std.proofs.Common.{◌≡◌, ℕ, zero, suc, ◌+◌, Bool, false, true, List, [], ◌∷◌, Option, Some, None, take, arith, refl, subst, inl}
 use Rattle.mx_base.specs.declared.names.LinkId.{LinkId}
 use Rattle.mx_wire.specs.Log.{Log, link_of}
 use Rattle.mx_wire.specs.Answers.{got_entry}
@@ -82,11 +82,11 @@ wanted reads sends asks until awaits machine log link into got.NotReady h acted 
 wanted reads sends asks until awaits machine log link into got.End h acted are is = acted
 wanted reads sends asks until awaits machine log link into got.Failed h acted are is = acted
 
-pub due : {M : Type 0} (reads : M → LinkId → Bool) (sends : M → LinkId → Option Sent) (asks : M → Bool) (machine : M) (log : Log) (link : LinkId) (into : List ℕ) (g : Got) → IsDue reads sends asks machine log (got_entry link into g)
-due reads sends asks machine log link into (got.Got n) = tt
-due reads sends asks machine log link into got.NotReady = tt
-due reads sends asks machine log link into got.End = tt
-due reads sends asks machine log link into got.Failed = tt
+pub due : {M : Type 0} (reads : M → LinkId → Bool) (sends : M → LinkId → Option Sent) (asks : M → Bool) (machine : M) (log : Log) (link : LinkId) (into : List ℕ) (g : Got) → reads machine link ≡ true → IsDue reads sends asks machine log (got_entry link into g)
+due reads sends asks machine log link into (got.Got n) wanted = wanted
+due reads sends asks machine log link into got.NotReady wanted = tt
+due reads sends asks machine log link into got.End wanted = tt
+due reads sends asks machine log link into got.Failed wanted = tt
 
 -- a link of which something was heard is as dry as it was
 pub still_wet : (links : Links) (link : LinkId) (into : List ℕ) (g : Got) (h : Heard) → heard_of link g ≡ Some h → is_read_dry links link ≡ Some false → dry_of links link ≡ dry_step (dry_of links link) (got_entry link into g)

@@ -75,10 +75,12 @@ pub record MayWait (reads : LinkId → Bool) (sends : LinkId → Option Sent) (a
   pub drained : IsDrained reads sends log
   pub acted : asks ≡ false
 
+-- and bytes are read of a link that the machine wants to be read
 abbrev pub IsDue : {M : Type 0} → (M → LinkId → Bool) → (M → LinkId → Option Sent) → (M → Bool) → M → Log → Entry → Type 0
 IsDue reads sends asks machine log (Woke until_ms now_ms) = MayWait (reads machine) (sends machine) (asks machine) log
 IsDue reads sends asks machine log WaitFailed = MayWait (reads machine) (sends machine) (asks machine) log
 IsDue reads sends asks machine log Over = MayWait (reads machine) (sends machine) (asks machine) log
+IsDue reads sends asks machine log (Got link bytes) = reads machine link ≡ true
 IsDue reads sends asks machine log _ = Unit {0}
 
 pub record DrainedFor (reads : LinkId → Bool) (sends : LinkId → Option Sent) (told : Option Log) : Type 0 where

@@ -1,5 +1,5 @@
 // One call of the wire at a time, and what the machine is told of it.
-ghost use Rattle.std.specs.Prelude.{◌≡◌, ◌+◌, ◌<◌, ◌≤◌, length, false, Some, OnOk, IfErr, OnErr, IsSome};
+ghost use Rattle.std.specs.Prelude.{◌≡◌, ◌+◌, ◌<◌, ◌≤◌, length, false, true, Some, OnOk, IfErr, OnErr, IsSome};
 ghost use Rattle.mx_wire.specs.Tells.{Tells};
 ghost use Rattle.mx_wire.specs.declared.entry.Entry.TheVariants as entry;
 ghost use Rattle.ready_loop.specs.Drained.{DrainedFor};
@@ -127,6 +127,7 @@ pub fn read_once<M: Machine, W: Wire>(
 ) -> Result<(), ServeEnd>
     requires whole { length buffer.old ≡ 65536 }
     requires room { table.old.round.calls < 4294967296 }
+    requires wanted { M.reads core.old link ≡ true }
     requires wet { is_read_dry table.old.links link ≡ Some false }
     requires going { IsGoing M.stands M.reads M.sends M.changed M.is_stopped M.asks core.old table.old (W.told wire.old) }
     ensures serves { OnOk result (Serves M.stands M.reads M.sends M.changed core.new table.new (W.told wire.new)) }

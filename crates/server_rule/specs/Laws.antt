@@ -58,14 +58,14 @@ pub record SchemaLaw (reads : Reads) (tests : Tests) (step : Step) : Type 0 wher
       → (step stored s c).session ≡ record s { schema = schema_by (Uses schema) (is_ok (reply_end false (step stored s c).reply)) s.schema; diag = (step stored s c).session.diag }
 
 -- Ordinary texts, which aren't deep: each leaves schema and settings, unless it is one of the two kinds above. None takes
--- locks but LOCK TABLES, and none leaves other state but SET TRANSACTION, answered OK, or a savepoint outside of a
--- transaction; what SET TRANSACTION left goes with the transaction that it was for.
+-- locks but LOCK TABLES, and none leaves other state but SET TRANSACTION, answered OK, or a savepoint whose reply shows neither
+-- a transaction nor autocommit; what SET TRANSACTION left goes with the transaction that it was for.
 pub record TextLaw (reads : Reads) (tests : Tests) (step : Step) : Type 0 where
   pub schema : (stored : List ℕ) (s : Session) → Accepts tests stored s → (c : Cmd) (text : List ℕ) → text_run c ≡ Some text → (reads.class text).deep ≡ false → effect_of (reads.class text) ≡ Neither → (step stored s c).session.schema ≡ s.schema
   pub settings : (stored : List ℕ) (s : Session) → Accepts tests stored s → (c : Cmd) (text : List ℕ) → text_run c ≡ Some text → (reads.class text).deep ≡ false → effect_of (reads.class text) ≡ Neither → (step stored s c).session.settings ≡ s.settings
   pub locks : (stored : List ℕ) (s : Session) → Accepts tests stored s → (c : Cmd) (text : List ℕ) → text_run c ≡ Some text → (reads.class text).deep ≡ false → takes_locks (reads.class text) (reply_end false (step stored s c).reply) ≡ false → s.locks ≡ [] → (step stored s c).session.locks ≡ []
-  pub none : (stored : List ℕ) (s : Session) → Accepts tests stored s → (c : Cmd) (text : List ℕ) → text_run c ≡ Some text → (reads.class text).deep ≡ false → sets_next (reads.class text) (reply_end false (step stored s c).reply) ≡ false → is_lone_savepoint (reads.class text) (is_some_of s.tx) ≡ false → s.deep ≡ [] → (step stored s c).session.deep ≡ []
-  pub brief : (stored : List ℕ) (s : Session) → Accepts tests stored s → (c : Cmd) (text : List ℕ) → text_run c ≡ Some text → (reads.class text).deep ≡ false → is_lone_savepoint (reads.class text) (is_some_of s.tx) ≡ false → is_brief s.deep ≡ true → is_brief (step stored s c).session.deep ≡ true
+  pub none : (stored : List ℕ) (s : Session) → Accepts tests stored s → (c : Cmd) (text : List ℕ) → text_run c ≡ Some text → (reads.class text).deep ≡ false → sets_next (reads.class text) (reply_end false (step stored s c).reply) ≡ false → is_lone_savepoint (reads.class text) (reply_end false (step stored s c).reply) ≡ false → s.deep ≡ [] → (step stored s c).session.deep ≡ []
+  pub brief : (stored : List ℕ) (s : Session) → Accepts tests stored s → (c : Cmd) (text : List ℕ) → text_run c ≡ Some text → (reads.class text).deep ≡ false → is_lone_savepoint (reads.class text) (reply_end false (step stored s c).reply) ≡ false → is_brief s.deep ≡ true → is_brief (step stored s c).session.deep ≡ true
   pub ended : (stored : List ℕ) (s : Session) → Accepts tests stored s → (c : Cmd) (text : List ℕ) → text_run c ≡ Some text → (reads.class text).deep ≡ false → is_some_of s.tx ≡ true → is_some_of (step stored s c).session.tx ≡ false → is_brief s.deep ≡ true → (step stored s c).session.deep ≡ []
   pub unset : (stored : List ℕ) (s : Session) → Accepts tests stored s → (c : Cmd) (text : List ℕ) → text_run c ≡ Some text → (reads.class text).deep ≡ false → (reads.class text).next_tx ≡ true → is_err (reply_end false (step stored s c).reply) ≡ true → (step stored s c).session.deep ≡ s.deep
 

@@ -13,7 +13,7 @@ use Rattle.pin_classifier.specs.declared.class.Locking.{Locking}
 use Rattle.pin_classifier.specs.declared.class.Locking.TheVariants.{Takes, Frees}
 use Rattle.pin_classifier.specs.declared.class.Shape.{Shape}
 use Rattle.pin_classifier.specs.declared.class.Shape.TheVariants as shapes
-use Rattle.session_state.specs.Endings.{is_ok, is_err, warns}
+use Rattle.session_state.specs.Endings.{is_ok, is_err, shows_neither, warns}
 use Rattle.session_state.specs.declared.reply_end.ReplyEnd.{ReplyEnd}
 
 abbrev pub takes_by : Locking → Bool
@@ -47,9 +47,10 @@ leaves_diag class end = not class.keeps_diag || (not class.reads_diag && warns e
 abbrev pub leaves_found : Class → ReplyEnd → Bool
 leaves_found class end = not class.keeps_found && not (is_err end)
 
--- a savepoint outside of a transaction
-abbrev pub is_lone_savepoint : Class → (tx : Bool) → Bool
-is_lone_savepoint class tx = class.savepoint && not tx
+-- A savepoint that no transaction takes along: its reply shows none, and no autocommit, under which there would be no savepoint
+-- either. One that is refused isn't set.
+abbrev pub is_lone_savepoint : Class → ReplyEnd → Bool
+is_lone_savepoint class end = class.savepoint && shows_neither end
 
 -- What it changes of schema and settings, answered OK.
 pub data Effect : Type 0 where

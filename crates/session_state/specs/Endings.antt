@@ -1,5 +1,5 @@
 -- How a reply ended.
-use Rattle.std.specs.Prelude.{ℕ, ◌/◌, ◌%◌, Bool, true, false, ◌&&◌, ◌||◌, nat_eq, nat_lt, Option, Some, None}
+use Rattle.std.specs.Prelude.{ℕ, ◌/◌, ◌%◌, Bool, true, false, not, ◌&&◌, ◌||◌, nat_eq, nat_lt, Option, Some, None}
 use Rattle.session_state.specs.declared.reply_end.EndKind.{EndKind}
 use Rattle.session_state.specs.declared.reply_end.EndKind.TheVariants.{Ok, Err, Prepared}
 use Rattle.session_state.specs.declared.reply_end.ReplyEnd.{ReplyEnd}
@@ -42,6 +42,14 @@ autocommit_in (Some flags) = Some (nat_eq (flags / 2 % 2) 1)
 -- whether autocommit is on, where the reply says it
 abbrev pub shows_autocommit : ReplyEnd → Option Bool
 shows_autocommit end = autocommit_in end.flags
+
+-- it shows flags, and among them neither a transaction nor autocommit
+abbrev pub shows_neither_in : Option ℕ → Bool
+shows_neither_in None = false
+shows_neither_in (Some flags) = not (nat_eq (flags % 2) 1) && not (nat_eq (flags / 2 % 2) 1)
+
+abbrev pub shows_neither : ReplyEnd → Bool
+shows_neither end = shows_neither_in end.flags
 
 -- it leaves diagnostics
 abbrev pub warns : ReplyEnd → Bool

@@ -36,9 +36,9 @@ next_after class end pin =
     else if (pin.tx && (shows_none (shows_transaction end) && not class.next_tx)) then false
     else pin.next_tx
 
--- a savepoint outside of a transaction, or where nobody knows of one, is deep state
-abbrev pub deep_after : Class → Pin → Bool
-deep_after class pin = pin.deep || (class.deep || is_lone_savepoint class (pin.tx && not pin.after_err))
+-- a savepoint that no transaction takes along is deep state
+abbrev pub deep_after : Class → ReplyEnd → Pin → Bool
+deep_after class end pin = pin.deep || (class.deep || is_lone_savepoint class end)
 
 -- Without autocommit a statement may keep metadata locks, also where no transaction shows, until COMMIT or ROLLBACK is answered
 -- OK or autocommit is on. A tracked SET and USE take none; what a statement that was refused took, the next reply tells.
@@ -70,7 +70,7 @@ rule_after None old = old
 
 abbrev pub pin_answered : Class → (multiplex : Option Bool) → ReplyEnd → Pin → Pin
 pin_answered class multiplex end pin = record {
-  deep = deep_after class pin;
+  deep = deep_after class end pin;
   locks = locks_after class end pin.locks;
   next_tx = next_after class end pin;
   tx = tx_after (shows_transaction end) pin.tx;

@@ -70,10 +70,10 @@ fn next_after(pin: Pin, class: &Class, end: &ReplyEnd) -> bool
     !over && pin.next_tx
 }
 
-fn deep_after(pin: Pin, class: &Class) -> bool
-    ensures { result ≡ deep_after class.now pin }
+fn deep_after(pin: Pin, class: &Class, end: &ReplyEnd) -> bool
+    ensures { result ≡ deep_after class.now end.now pin }
 {
-    pin.deep || class.deep || (class.savepoint && (!pin.tx || pin.after_err))
+    pin.deep || class.deep || (class.savepoint && end.shows_neither())
 }
 
 fn changes_place(class: &Class) -> bool
@@ -152,7 +152,7 @@ pub fn pin_after(pin: Pin, class: &Class, multiplex: Option<bool>, end: &ReplyEn
         return pin_prepared(pin, class, end);
     }
     Pin {
-        deep: deep_after(pin, class),
+        deep: deep_after(pin, class, end),
         locks: locks_after(pin.locks, class, end),
         next_tx: next_after(pin, class, end),
         tx: end.shows_transaction().unwrap_or(pin.tx),

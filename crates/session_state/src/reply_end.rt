@@ -1,6 +1,6 @@
 // How a reply ended.
 ghost use Rattle.std.specs.Prelude.{◌≡◌};
-ghost use Rattle.session_state.specs.Endings.{brings_id, is_err, is_ok, shows_autocommit, shows_transaction, warns};
+ghost use Rattle.session_state.specs.Endings.{brings_id, is_err, is_ok, shows_autocommit, shows_neither, shows_transaction, warns};
 
 /// What ends a reply.
 #[derive(Clone, Copy, PartialEq, Eq)]
@@ -63,6 +63,16 @@ impl ReplyEnd {
         match self.flags {
             None => None,
             Some(flags) => Some(flags / 2 % 2 == 1),
+        }
+    }
+
+    /// Whether it has status flags, and they show neither a transaction nor autocommit.
+    pub fn shows_neither(&self) -> bool
+        ensures { result ≡ shows_neither self.now }
+    {
+        match self.flags {
+            None => false,
+            Some(flags) => flags % 2 != 1 && flags / 2 % 2 != 1,
         }
     }
 

@@ -16,7 +16,7 @@ use Rattle.session_vars.specs.Assignments.{slot_of_variable, slot_of_name, slot_
 use Rattle.session_vars.specs.Modes.{added_to}
 use Rattle.session_vars.specs.Names.{is_one_word_by, is_one_word, character_set, collation, lower_case, collated, names_value, names_changes}
 use Rattle.session_vars.specs.Scopes.{deeper, divides, parts_of, sets_server}
-use Rattle.session_vars.specs.Settings.{value_at, value_after, changed, applied, collation_names, collation_settings}
+use Rattle.session_vars.specs.Settings.{value_at, value_after, changed, applied}
 use Rattle.session_vars.specs.Shapes.{own_changes, own_shape, sets_mode_once, tracked_or_other, shape_behind, shape_by, set_shape}
 use Rattle.session_vars.specs.Slots.{name_of, all_slots, assigned_slots, place_of, slot_named, unless_transaction}
 use Rattle.session_vars.specs.Statement.{says_first, is_session_word, spoken_by, statement_of}
@@ -347,7 +347,7 @@ at_place _ = refl
 one_slot : (a b : Slot) → place_of a ≡ place_of b → a ≡ b
 one_slot a b same = let both : Some a ≡ Some b = sym (at_place a) ∙ ap (slice_get all_slots) same ∙ at_place b in cc
 
-within : (slot : Slot) → place_of slot < 21
+within : (slot : Slot) → place_of slot < 33
 within Names = omega arith
 within _ = omega arith
 
@@ -377,25 +377,3 @@ applied_tracked values (change ∷ changes) are all = applied_tracked (changed v
 
 pub stay_tracked : (text : List ℕ) (changes : List Change) (values : List SlotValue) → set_shape text ≡ Tracked changes → AreTracked values → AreTracked (applied values changes)
 stay_tracked text changes values is are = applied_tracked values changes are (shape_tracked text (statement_of text) changes (statement_found text) is)
-
--- and what a collation gives
-collation_tracked : (number : ℕ) → IsTrackedValue Names (Text (collation_names number))
-unfolding collation_names
-collation_tracked number =
-    let Gives : List ℕ → Type 0 = λ name. IsTrackedValue Names (Text name) in
-    let collated : (set name : List ℕ) → IsCharacterSet set → IsWordText name → lower_case name ≡ name → Gives (set ++ codes " COLLATE " ++ name) = λ set name is word lower. inr (record { set = set; name = name; parts = refl; is_set = is; is_word = word_is_one name word; is_lower = lower }) in
-    let utf8mb4 : IsCharacterSet (codes "utf8mb4") = (refl, refl) in
-    cond_both (nat_eq number 8) (codes "latin1") _ Gives (λ _. inl (refl, refl))
-    (λ _. cond_both (nat_eq number 33) (codes "utf8") _ Gives (λ _. inl (refl, refl))
-    (λ _. cond_both (nat_eq number 46) (codes "utf8mb4 COLLATE utf8mb4_bin") _ Gives (λ _. collated (codes "utf8mb4") (codes "utf8mb4_bin") utf8mb4 (refl, refl) refl)
-    (λ _. cond_both (nat_eq number 63) (codes "binary") _ Gives (λ _. inl (refl, refl))
-    (λ _. cond_both (nat_eq number 224) (codes "utf8mb4 COLLATE utf8mb4_unicode_ci") _ Gives (λ _. collated (codes "utf8mb4") (codes "utf8mb4_unicode_ci") utf8mb4 (refl, refl) refl)
-    (λ _. cond_both (nat_eq number 255) (codes "utf8mb4") (codes "utf8mb4 COLLATE utf8mb4_general_ci") Gives (λ _. inl utf8mb4)
-    (λ _. collated (codes "utf8mb4") (codes "utf8mb4_general_ci") utf8mb4 (refl, refl) refl))))))
-
-collation_slot : (number : ℕ) (slot : Slot) → IsTrackedValue slot (value_at (collation_settings number) slot)
-collation_slot number Names = collation_tracked number
-collation_slot number slot = default_tracked slot refl
-
-pub collations_tracked : (number : ℕ) → AreTracked (collation_settings number)
-collations_tracked number = (refl, collation_slot number)

@@ -1,7 +1,7 @@
 -- A difference leads from settings to others.
-use Rattle.std.proofs.Common.{◌≡◌, ◌≤◌, ◌<◌, ℕ, suc, true, false, not, ◌&&◌, List, [], ◌∷◌, ◌++◌, length, take, drop, set, get_or, refl, sym, ◌∙◌, ap, inl, inr, arith, append_assoc, add-one}
+use Rattle.std.proofs.Common.{◌≡◌, ◌≤◌, ◌<◌, ℕ, suc, Bool, true, false, not, ◌&&◌, nat_eq, List, [], ◌∷◌, ◌++◌, length, take, drop, set, get_or, refl, sym, ◌∙◌, ap, inl, inr, arith, append_assoc, add-one}
 use Rattle.std.specs.Cmp.Lexicographic.{bytes_decides}
-use Rattle.std.proofs.lemmas.Bool.{cond-true, cond-false, cases_Bool, or_parts, not-false}
+use Rattle.std.proofs.lemmas.Bool.{cond-true, cond-false, cases_Bool, and_parts, eqb-true, or_parts, not-false}
 use Rattle.std.proofs.lemmas.List.{append-nil, take_all, drop_all, drop_more, take_more, set-append_right, length-take-le}
 use Rattle.session_vars.specs.Settings.{AreSettings, value_at, applied, same_value, is_text, differs, names_differ, results_differ, has_to_change, changes_of, difference_of}
 use Rattle.session_vars.specs.Slots.{place_of, all_slots}
@@ -25,10 +25,10 @@ unchanged_is from to slot h = same_value_is _ _ (not-false _ h)
 
 -- these slots stand at the places from one on to the last
 pub IsRun : (place : ℕ) → List Slot → Type 0
-IsRun place [] = place ≡ 21
+IsRun place [] = place ≡ 33
 IsRun place (slot ∷ slots) = (place_of slot ≡ place) × IsRun (suc place) slots
 
-run_within : (place : ℕ) (slots : List Slot) → IsRun place slots → place ≤ 21
+run_within : (place : ℕ) (slots : List Slot) → IsRun place slots → place ≤ 33
 unfolding IsRun
 run_within place [] run = omega (arith, run)
 run_within place (slot ∷ slots) run = omega (arith, run_within (suc place) slots run.1)
@@ -55,14 +55,14 @@ keep_next from to place in_from in_to same =
     ap (λ (rest : List SlotValue). take place to ++ rest) (drop_more from place Default in_from ∙ ap (λ n. get_or from place Default ∷ drop n from) (add-one place) ∙ ap (λ (value : SlotValue). value ∷ drop (suc place) from) same)
     ∙ wanted_next from to place in_to
 
-pub lead : (from to : List SlotValue) (place : ℕ) (slots : List Slot) → IsRun place slots → length from ≡ 21 → length to ≡ 21 → applied (partly from to place) (changes_of from to slots) ≡ to
+pub lead : (from to : List SlotValue) (place : ℕ) (slots : List Slot) → IsRun place slots → length from ≡ 33 → length to ≡ 33 → applied (partly from to place) (changes_of from to slots) ≡ to
 unfolding IsRun
 lead from to place [] run in_from in_to =
     ap (λ (front : List SlotValue). front ++ drop place from) (take_all place to (omega (arith, run)))
     ∙ ap (λ (rest : List SlotValue). to ++ rest) (drop_all place from (omega (arith, run)))
     ∙ append-nil to
 lead from to place (slot ∷ slots) run in_from in_to =
-    let within : suc place ≤ 21 = run_within (suc place) slots run.1 in
+    let within : suc place ≤ 33 = run_within (suc place) slots run.1 in
     let rest = lead from to (suc place) slots run.1 in_from in_to in
     elim (cases_Bool (has_to_change from to slot)) [
       | inl e ↦
@@ -77,9 +77,21 @@ lead from to place (slot ∷ slots) run in_from in_to =
           ∙ rest
     ]
 
+-- the same as a test that computes
+stands_from : (place : ℕ) → List Slot → Bool
+stands_from place [] = nat_eq place 33
+stands_from place (slot ∷ slots) = nat_eq (place_of slot) place && stands_from (suc place) slots
+
+run_from : (place : ℕ) (slots : List Slot) → stands_from place slots ≡ true → IsRun place slots
+unfolding IsRun stands_from
+run_from place [] is = eqb-true place 33 is
+run_from place (slot ∷ slots) is =
+    let both = and_parts (nat_eq (place_of slot) place) (stands_from (suc place) slots) is in
+    (eqb-true (place_of slot) place both.0, run_from (suc place) slots both.1)
+
 all_run : IsRun 0 all_slots
-unfolding IsRun
-all_run = (refl, (refl, (refl, (refl, (refl, (refl, (refl, (refl, (refl, (refl, (refl, (refl, (refl, (refl, (refl, (refl, (refl, (refl, (refl, (refl, (refl, refl)))))))))))))))))))))
+unfolding stands_from
+all_run = run_from 0 all_slots refl
 
 -- the slots behind `names` and character_set_results
 abbrev pub others : List Slot

@@ -4,6 +4,7 @@ mod Again
 pub mod Alike
 pub mod Assigned
 pub mod BothLead
+pub mod Collations
 pub mod Dispatch
 pub mod First
 pub mod Gives

@@ -1,10 +1,12 @@
 -- SET NAMES that is written for a value, read again.
-use Rattle.std.proofs.Common.{◌≡◌, ◌⊎◌, ℕ, ◌+◌, ◌-◌, true, false, ◌&&◌, ◌||◌, cond, nat_eq, List, [], ◌∷◌, ◌++◌, Some, None, length, drop, codes, option_map, refl, sym, subst, ◌∙◌, ap, inl, inr, arith, append_assoc}
+use Rattle.std.proofs.Common.{◌≡◌, ◌⊎◌, ℕ, ◌+◌, ◌-◌, Bool, true, false, not, ◌&&◌, ◌||◌, cond, nat_eq, List, [], ◌∷◌, ◌++◌, Some, None, length, drop, codes, option_map, refl, sym, subst, ◌∙◌, ap, inl, inr, arith, append_assoc}
+use Rattle.std.specs.Char.{is_ascii_digit}
 use Rattle.std.specs.Cmp.Lexicographic.{bytes_decides}
 use Rattle.std.specs.Option.{option_or}
-use Rattle.std.proofs.lemmas.Bool.{cond-true, cond-false, and_parts, and_from, or_cases, eqb-true}
+use Rattle.std.proofs.lemmas.Bool.{cond-true, cond-false, and_parts, and_from, not-true, or_cases, eqb-true}
 use Rattle.std.proofs.lemmas.List.{append-nil}
-use Rattle.std.specs.List.{list_any}
+use Rattle.std.specs.List.{list_all, list_any}
+use Rattle.sql_tokens.specs.Bytes.{is_word_byte}
 use Rattle.sql_tokens.specs.Spans.{AreTokens}
 use Rattle.sql_tokens.specs.Tokens.{token_at, tokens_of, tokens_behind}
 use Rattle.sql_tokens.specs.Words.{bytes_of, same_text, says}
@@ -33,23 +35,29 @@ use Rattle.session_vars.proofs.Rules.{IsWordText, word_piece}
 named_set : (name known : List ℕ) → lower_case name ≡ name → same_text name known ≡ true → IsWordText (lower_case known) → IsWordText name
 named_set name known lower same word = subst IsWordText (sym (sym lower ∙ (bytes_decides (lower_case name) (lower_case known)).0 same)) word
 
--- and so is any of a list of words
-AreWordTexts : List (List ℕ) → Type 0
-AreWordTexts [] = Unit {0}
-AreWordTexts (known ∷ others) = IsWordText (lower_case known) × AreWordTexts others
+-- a word, as a test that computes
+unfoldable pub is_word_text : List ℕ → Bool
+is_word_text [] = false
+is_word_text (b ∷ bytes) = not (is_ascii_digit b) && list_all is_word_byte (b ∷ bytes)
 
-named_any : (name : List ℕ) (words : List (List ℕ)) → lower_case name ≡ name → AreWordTexts words → list_any (same_text name) words ≡ true → IsWordText name
-unfolding AreWordTexts
+pub a_word : (bytes : List ℕ) → is_word_text bytes ≡ true → IsWordText bytes
+unfolding is_word_text
+a_word [] is = absurd (cc)
+a_word (b ∷ bytes) is = let both = and_parts (not (is_ascii_digit b)) (list_all is_word_byte (b ∷ bytes)) is in (not-true (is_ascii_digit b) both.0, both.1)
+
+-- and so is any of a list of words
+named_any : (name : List ℕ) (words : List (List ℕ)) → lower_case name ≡ name → list_all (λ word. is_word_text (lower_case word)) words ≡ true → list_any (same_text name) words ≡ true → IsWordText name
 named_any name [] lower are is = absurd (cc)
 named_any name (known ∷ others) lower are is =
+    let both = and_parts (is_word_text (lower_case known)) (list_all (λ word. is_word_text (lower_case word)) others) are in
     elim (or_cases (same_text name known) (list_any (same_text name) others) is) [
-      | inl e ↦ named_set name known lower e are.0
-      | inr e ↦ named_any name others lower are.1 e
+      | inl e ↦ named_set name known lower e (a_word (lower_case known) both.0)
+      | inr e ↦ named_any name others lower both.1 e
     ]
 
 set_word : (name : List ℕ) → IsCharacterSet name → IsWordText name
-unfolding AreWordTexts
-set_word name is = named_any name character_sets is.1 ((refl, refl), ((refl, refl), ((refl, refl), ((refl, refl), ((refl, refl), ((refl, refl), tt)))))) is.0
+unfolding is_word_text
+set_word name is = named_any name character_sets is.1 refl is.0
 
 -- one word is one token
 one_word_by : (name : List ℕ) (tokens : List Token) → AreTokens name 0 tokens → is_one_word_by (length name) tokens ≡ true → IsOneToken Word name

@@ -1,7 +1,7 @@
 -- Two statements can make a difference.
 use Rattle.std.proofs.Common.{◌≡◌, true, false, not, ◌&&◌, ◌||◌, Bool, List, [], ◌∷◌, drop, refl, ◌∙◌, ap, inl, inr}
-use Rattle.std.specs.List.{list_any}
-use Rattle.std.proofs.lemmas.Bool.{cond-true, cond-false, cases_Bool, and_from, and_left, or_left, or_right, or_from, or_parts, not_from_false}
+use Rattle.std.specs.List.{list_all, list_any}
+use Rattle.std.proofs.lemmas.Bool.{cond-true, cond-false, cases_Bool, and_from, and_left, and_parts, or_left, or_right, or_from, or_parts, not_from_false}
 use Rattle.session_vars.specs.Settings.{value_at, same_value, is_text, differs, names_differ, results_differ, has_to_change, changes_of, difference_of}
 use Rattle.session_vars.specs.Slots.{all_slots}
 use Rattle.session_vars.specs.Texts.{is_names, is_default_value, is_left_by_names, is_results_default, takes_names_back, any_takes_names_back, CanBeSet}
@@ -51,9 +51,26 @@ kept_results names_differs from (Text b) h n change = refl
 abbrev other_slots : List Slot
 other_slots = drop 2 all_slots
 
-others_without : IsWithoutResults other_slots
+-- the same as a test that computes
+is_results : Slot → Bool
+is_results CharacterSetResults = true
+is_results _ = false
+
+no_results : (slot : Slot) → not (is_results slot) ≡ true → (value : SlotValue) → is_left_by_names slot value ≡ false
+unfolding is_results
+no_results CharacterSetResults other value = absurd (cc)
+no_results _ other value = refl
+
+without_results : (slots : List Slot) → list_all (λ slot. not (is_results slot)) slots ≡ true → IsWithoutResults slots
 unfolding IsWithoutResults
-others_without = ((λ _. refl), ((λ _. refl), ((λ _. refl), ((λ _. refl), ((λ _. refl), ((λ _. refl), ((λ _. refl), ((λ _. refl), ((λ _. refl), ((λ _. refl), ((λ _. refl), ((λ _. refl), ((λ _. refl), ((λ _. refl), ((λ _. refl), ((λ _. refl), ((λ _. refl), ((λ _. refl), ((λ _. refl), tt)))))))))))))))))))
+without_results [] none = tt
+without_results (slot ∷ slots) none =
+    let both = and_parts (not (is_results slot)) (list_all (λ slot. not (is_results slot)) slots) none in
+    (no_results slot both.0, without_results slots both.1)
+
+others_without : IsWithoutResults other_slots
+unfolding is_results
+others_without = without_results other_slots refl
 
 none_as_left : (from to : List SlotValue) → names_differ from to ≡ false → list_any is_results_default (difference_of from to) ≡ false
 unfolding names_differ results_differ

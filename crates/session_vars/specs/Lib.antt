@@ -1,4 +1,5 @@
 pub mod Assignments
+pub mod Collations
 pub mod Modes
 pub mod Names
 pub mod Scopes

@@ -1,5 +1,6 @@
--- The settings of a session: one value for each of the twenty-one, in their order.
+-- The settings of a session: one value for each of the thirty-three, in their order.
 use Rattle.std.specs.Prelude.{◌≡◌, ℕ, Bool, true, false, not, ◌&&◌, ◌||◌, nat_eq, bytes_eq, List, [], ◌∷◌, length, slice_index_or, slice_set, replicate, codes, if◌then◌else◌}
+use Rattle.session_vars.specs.Collations.{is_served_collation, names_of}
 use Rattle.session_vars.specs.Modes.{added_to}
 use Rattle.session_vars.specs.Slots.{place_of, all_slots}
 use Rattle.session_vars.specs.declared.change.Change.{Change}
@@ -8,9 +9,9 @@ use Rattle.session_vars.specs.declared.change.SlotValue.TheVariants.{Default, Te
 use Rattle.session_vars.specs.declared.slot.Slot.{Slot}
 use Rattle.session_vars.specs.declared.slot.Slot.TheVariants.{Names, CharacterSetResults}
 
--- twenty-one values
+-- thirty-three values
 abbrev pub AreSettings : List SlotValue → Type 0
-AreSettings values = length values ≡ 21
+AreSettings values = length values ≡ 33
 
 -- the value of one of them
 abbrev pub value_at : List SlotValue → Slot → SlotValue
@@ -31,18 +32,12 @@ applied values (change ∷ changes) = applied (changed values change) changes
 
 -- the settings of a session that set nothing
 abbrev pub defaults : List SlotValue
-defaults = replicate 21 Default
+defaults = replicate 33 Default
 
--- what the collation that a client names as it logs in gives the setting `names`
+-- what the collation that a client names as it logs in gives the setting `names`; one that isn't served, what the router's own
+-- links begin with
 unfoldable pub collation_names : ℕ → List ℕ
-collation_names number =
-    if nat_eq number 8 then codes "latin1"
-    else if nat_eq number 33 then codes "utf8"
-    else if nat_eq number 46 then codes "utf8mb4 COLLATE utf8mb4_bin"
-    else if nat_eq number 63 then codes "binary"
-    else if nat_eq number 224 then codes "utf8mb4 COLLATE utf8mb4_unicode_ci"
-    else if nat_eq number 255 then codes "utf8mb4"
-    else codes "utf8mb4 COLLATE utf8mb4_general_ci"
+collation_names number = if is_served_collation number then names_of number else codes "utf8mb4 COLLATE utf8mb4_general_ci"
 
 -- the settings of a client that logged in with this collation
 abbrev pub collation_settings : ℕ → List SlotValue

@@ -2,7 +2,7 @@
 use Rattle.std.specs.Prelude.{ℕ, List, [], ◌∷◌, Option, Some, None, find, codes}
 use Rattle.sql_tokens.specs.Words.{same_text}
 use Rattle.session_vars.specs.declared.slot.Slot.{Slot}
-use Rattle.session_vars.specs.declared.slot.Slot.TheVariants.{Names, CharacterSetResults, Autocommit, SqlMode, TimeZone, TransactionIsolation, TransactionReadOnly, SqlSafeUpdates, ForeignKeyChecks, UniqueChecks, SqlSelectLimit, GroupConcatMaxLen, LcTimeNames, LcMessages, WaitTimeout, NetReadTimeout, NetWriteTimeout, InnodbLockWaitTimeout, LockWaitTimeout, MaxExecutionTime, SqlAutoIsNull}
+use Rattle.session_vars.specs.declared.slot.Slot.TheVariants.{Names, CharacterSetResults, Autocommit, SqlMode, TimeZone, TransactionIsolation, TransactionReadOnly, SqlSafeUpdates, ForeignKeyChecks, UniqueChecks, SqlSelectLimit, GroupConcatMaxLen, LcTimeNames, LcMessages, WaitTimeout, NetReadTimeout, NetWriteTimeout, InnodbLockWaitTimeout, LockWaitTimeout, MaxExecutionTime, SqlAutoIsNull, CharacterSetServer, SqlBigSelects, SqlNotes, SqlQuoteShowCreate, DefaultStorageEngine, InteractiveTimeout, MaxStatementTime, SessionTrackSchema, SessionTrackStateChange, SessionTrackSystemVariables, SessionTrackTransactionInfo, SessionTrackGtids}
 
 -- the name of the system variable; `names` stands for the three that SET NAMES sets
 abbrev pub name_of : Slot → List ℕ
@@ -27,6 +27,18 @@ name_of InnodbLockWaitTimeout = codes "innodb_lock_wait_timeout"
 name_of LockWaitTimeout = codes "lock_wait_timeout"
 name_of MaxExecutionTime = codes "max_execution_time"
 name_of SqlAutoIsNull = codes "sql_auto_is_null"
+name_of CharacterSetServer = codes "character_set_server"
+name_of SqlBigSelects = codes "sql_big_selects"
+name_of SqlNotes = codes "sql_notes"
+name_of SqlQuoteShowCreate = codes "sql_quote_show_create"
+name_of DefaultStorageEngine = codes "default_storage_engine"
+name_of InteractiveTimeout = codes "interactive_timeout"
+name_of MaxStatementTime = codes "max_statement_time"
+name_of SessionTrackSchema = codes "session_track_schema"
+name_of SessionTrackStateChange = codes "session_track_state_change"
+name_of SessionTrackSystemVariables = codes "session_track_system_variables"
+name_of SessionTrackTransactionInfo = codes "session_track_transaction_info"
+name_of SessionTrackGtids = codes "session_track_gtids"
 
 -- the place of a setting among them
 abbrev pub place_of : Slot → ℕ
@@ -51,12 +63,24 @@ place_of InnodbLockWaitTimeout = 17
 place_of LockWaitTimeout = 18
 place_of MaxExecutionTime = 19
 place_of SqlAutoIsNull = 20
+place_of CharacterSetServer = 21
+place_of SqlBigSelects = 22
+place_of SqlNotes = 23
+place_of SqlQuoteShowCreate = 24
+place_of DefaultStorageEngine = 25
+place_of InteractiveTimeout = 26
+place_of MaxStatementTime = 27
+place_of SessionTrackSchema = 28
+place_of SessionTrackStateChange = 29
+place_of SessionTrackSystemVariables = 30
+place_of SessionTrackTransactionInfo = 31
+place_of SessionTrackGtids = 32
 
 -- all but `names`, which no assignment sets
 abbrev pub assigned_slots : List Slot
-assigned_slots = CharacterSetResults ∷ Autocommit ∷ SqlMode ∷ TimeZone ∷ TransactionIsolation ∷ TransactionReadOnly ∷ SqlSafeUpdates ∷ ForeignKeyChecks ∷ UniqueChecks ∷ SqlSelectLimit ∷ GroupConcatMaxLen ∷ LcTimeNames ∷ LcMessages ∷ WaitTimeout ∷ NetReadTimeout ∷ NetWriteTimeout ∷ InnodbLockWaitTimeout ∷ LockWaitTimeout ∷ MaxExecutionTime ∷ SqlAutoIsNull ∷ []
+assigned_slots = CharacterSetResults ∷ Autocommit ∷ SqlMode ∷ TimeZone ∷ TransactionIsolation ∷ TransactionReadOnly ∷ SqlSafeUpdates ∷ ForeignKeyChecks ∷ UniqueChecks ∷ SqlSelectLimit ∷ GroupConcatMaxLen ∷ LcTimeNames ∷ LcMessages ∷ WaitTimeout ∷ NetReadTimeout ∷ NetWriteTimeout ∷ InnodbLockWaitTimeout ∷ LockWaitTimeout ∷ MaxExecutionTime ∷ SqlAutoIsNull ∷ CharacterSetServer ∷ SqlBigSelects ∷ SqlNotes ∷ SqlQuoteShowCreate ∷ DefaultStorageEngine ∷ InteractiveTimeout ∷ MaxStatementTime ∷ SessionTrackSchema ∷ SessionTrackStateChange ∷ SessionTrackSystemVariables ∷ SessionTrackTransactionInfo ∷ SessionTrackGtids ∷ []
 
--- all twenty-one
+-- all of them
 abbrev pub all_slots : List Slot
 all_slots = Names ∷ assigned_slots
 

@@ -27,9 +27,14 @@ plain_value Word bytes = if is_default bytes then Some Default else kept bytes
 plain_value Quoted bytes = if list_all is_plain_byte (inside bytes) then kept (39 ∷ [] ++ inside bytes ++ 39 ∷ []) else None
 plain_value _ bytes = None
 
--- the character sets that SET NAMES and character_set_results may name
+-- the character sets that SET NAMES and character_set_results may name: each byte of ASCII is that letter, wherever it stands
 abbrev pub character_sets : List (List ℕ)
-character_sets = codes "utf8mb4" ∷ codes "utf8" ∷ codes "latin1" ∷ codes "utf8mb3" ∷ codes "ascii" ∷ codes "binary" ∷ []
+character_sets =
+    codes "utf8mb4" ∷ codes "utf8" ∷ codes "latin1" ∷ codes "utf8mb3" ∷ codes "ascii" ∷ codes "binary" ∷ codes "latin2" ∷ codes "latin5" ∷
+    codes "latin7" ∷ codes "cp1250" ∷ codes "cp1251" ∷ codes "cp1256" ∷ codes "cp1257" ∷ codes "cp850" ∷ codes "cp852" ∷ codes "cp866" ∷
+    codes "koi8r" ∷ codes "koi8u" ∷ codes "greek" ∷ codes "hebrew" ∷ codes "tis620" ∷ codes "armscii8" ∷ codes "geostd8" ∷ codes "dec8" ∷
+    codes "hp8" ∷ codes "keybcs2" ∷ codes "macce" ∷ codes "macroman" ∷ codes "ujis" ∷ codes "eucjpms" ∷ codes "euckr" ∷ codes "gb2312" ∷
+    []
 
 abbrev pub is_character_set : List ℕ → Bool
 is_character_set word = list_any (same_text word) character_sets

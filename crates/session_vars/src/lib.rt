@@ -4,6 +4,7 @@
 
 mod assignment;
 mod change;
+mod collation;
 mod differences;
 mod laws;
 mod long_part;
@@ -21,6 +22,7 @@ mod transaction;
 mod value;
 
 pub use change::{Change, Changes, SlotValue};
+pub use collation::is_served_collation;
 pub use differences::difference;
 pub use laws::{
     difference_can_be_set, difference_leads, difference_read_again, first_word_decides,

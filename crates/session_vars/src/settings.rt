@@ -1,14 +1,15 @@
 // The settings of a session.
 ghost use Rattle.std.specs.Prelude.{◌≡◌, false, IfOk, OnOk, OnErr};
-ghost use Rattle.session_vars.specs.Settings.{AreSettings, value_at, changed, applied, defaults, collation_names, collation_settings};
+ghost use Rattle.session_vars.specs.Settings.{AreSettings, value_at, changed, applied, defaults, collation_settings};
 
+use crate::collation::collation_names;
 use crate::{Change, Slot, SlotValue};
 use mx_base::{Bytes, OutOfMemory};
 use std::alloc::Global;
 use std::marker::Model;
 
 // How many settings there are.
-const COUNT: usize = 21;
+const COUNT: usize = 33;
 
 /// The settings of a session, one value for each slot. A contract sees the list of the values, in the order of the
 /// slots.
@@ -25,23 +26,7 @@ impl Model for Settings {
 
     ghost view = { λ s. s.values.items };
 
-    ghost invariant = { λ s. length s.values.items ≡ 21 };
-}
-
-// The names that a client's collation stands for.
-#[tactic(auto, unfolding(crate::specs::Settings::collation_names))]
-fn collation_names(number: u8) -> &'static [u8]
-    ensures { result.now ≡ collation_names number }
-{
-    match number {
-        8 => b"latin1",
-        33 => b"utf8",
-        46 => b"utf8mb4 COLLATE utf8mb4_bin",
-        63 => b"binary",
-        224 => b"utf8mb4 COLLATE utf8mb4_unicode_ci",
-        255 => b"utf8mb4",
-        _ => b"utf8mb4 COLLATE utf8mb4_general_ci",
-    }
+    ghost invariant = { λ s. length s.values.items ≡ 33 };
 }
 
 impl Settings {
@@ -58,7 +43,7 @@ impl Settings {
 
     /// The settings of a client that logged in with the collation of this number (client/server protocol, "Character
     /// Set"; MySQL Reference Manual, "Supported Character Sets and Collations"): what SET NAMES would make of it, all
-    /// else as default. An unknown collation, and 45, is utf8mb4_general_ci.
+    /// else as default. A collation that isn't served is as utf8mb4_general_ci, 45 (`is_served_collation`).
     pub fn for_collation(alloc: Global, number: u8) -> Result<Self, OutOfMemory>
         ensures { IfOk result (λ settings. settings ≡ collation_settings number) }
     {

@@ -31,11 +31,23 @@ pub enum Slot {
     LockWaitTimeout,
     MaxExecutionTime,
     SqlAutoIsNull,
+    CharacterSetServer,
+    SqlBigSelects,
+    SqlNotes,
+    SqlQuoteShowCreate,
+    DefaultStorageEngine,
+    InteractiveTimeout,
+    MaxStatementTime,
+    SessionTrackSchema,
+    SessionTrackStateChange,
+    SessionTrackSystemVariables,
+    SessionTrackTransactionInfo,
+    SessionTrackGtids,
 }
 
 impl Slot {
     /// All of them, in order.
-    pub const ALL: [Slot; 21] = [
+    pub const ALL: [Slot; 33] = [
         Slot::Names,
         Slot::CharacterSetResults,
         Slot::Autocommit,
@@ -57,6 +69,18 @@ impl Slot {
         Slot::LockWaitTimeout,
         Slot::MaxExecutionTime,
         Slot::SqlAutoIsNull,
+        Slot::CharacterSetServer,
+        Slot::SqlBigSelects,
+        Slot::SqlNotes,
+        Slot::SqlQuoteShowCreate,
+        Slot::DefaultStorageEngine,
+        Slot::InteractiveTimeout,
+        Slot::MaxStatementTime,
+        Slot::SessionTrackSchema,
+        Slot::SessionTrackStateChange,
+        Slot::SessionTrackSystemVariables,
+        Slot::SessionTrackTransactionInfo,
+        Slot::SessionTrackGtids,
     ];
 
     /// The name of the system variable. Takes no memory.
@@ -85,6 +109,18 @@ impl Slot {
             Slot::LockWaitTimeout => b"lock_wait_timeout",
             Slot::MaxExecutionTime => b"max_execution_time",
             Slot::SqlAutoIsNull => b"sql_auto_is_null",
+            Slot::CharacterSetServer => b"character_set_server",
+            Slot::SqlBigSelects => b"sql_big_selects",
+            Slot::SqlNotes => b"sql_notes",
+            Slot::SqlQuoteShowCreate => b"sql_quote_show_create",
+            Slot::DefaultStorageEngine => b"default_storage_engine",
+            Slot::InteractiveTimeout => b"interactive_timeout",
+            Slot::MaxStatementTime => b"max_statement_time",
+            Slot::SessionTrackSchema => b"session_track_schema",
+            Slot::SessionTrackStateChange => b"session_track_state_change",
+            Slot::SessionTrackSystemVariables => b"session_track_system_variables",
+            Slot::SessionTrackTransactionInfo => b"session_track_transaction_info",
+            Slot::SessionTrackGtids => b"session_track_gtids",
         }
     }
 

@@ -72,9 +72,41 @@ fn plain_value(
     }
 }
 
-// The character sets that SET NAMES and character_set_results may name, the likeliest first.
-static CHARACTER_SETS: [&[u8]; 6] = [
-    b"utf8mb4", b"utf8", b"latin1", b"utf8mb3", b"ascii", b"binary",
+// The character sets that SET NAMES and character_set_results may name, the likeliest first: in each of them a byte of ASCII is
+// that letter, wherever it stands.
+static CHARACTER_SETS: [&[u8]; 32] = [
+    b"utf8mb4",
+    b"utf8",
+    b"latin1",
+    b"utf8mb3",
+    b"ascii",
+    b"binary",
+    b"latin2",
+    b"latin5",
+    b"latin7",
+    b"cp1250",
+    b"cp1251",
+    b"cp1256",
+    b"cp1257",
+    b"cp850",
+    b"cp852",
+    b"cp866",
+    b"koi8r",
+    b"koi8u",
+    b"greek",
+    b"hebrew",
+    b"tis620",
+    b"armscii8",
+    b"geostd8",
+    b"dec8",
+    b"hp8",
+    b"keybcs2",
+    b"macce",
+    b"macroman",
+    b"ujis",
+    b"eucjpms",
+    b"euckr",
+    b"gb2312",
 ];
 
 pub(crate) fn is_character_set(word: &[u8]) -> bool

@@ -36,7 +36,7 @@ pub returns-clause-serves : goal.returns-clause-serves
 returns-clause-serves g c =
     let heard = sym c.hear.ensures ∙ c.in-Some.is in
     on_ok c.take.result _ _ _ c.unless_refused.ensures.ok (both c.take.result _ _ c.take.ensures.carries c.take.ensures.changes) (λ taken. record {
-      standing = goes_on _ _ _ _ c.quiet.ensures _ _ _ _ _ c.requires.going.serves.standing c.read-got.ensures.told (λ log. hearing.due g.M.Machine.reads g.M.Machine.sends g.M.Machine.asks c.args.core.now log _ _ c.read-got.result) (taken.0 _ (hearing.told _ _ _ _ c.read-got.result _ heard));
+      standing = goes_on _ _ _ _ c.quiet.ensures _ _ _ _ _ c.requires.going.serves.standing c.read-got.ensures.told (λ log. hearing.due g.M.Machine.reads g.M.Machine.sends g.M.Machine.asks c.args.core.now log _ _ c.read-got.result c.requires.wanted) (taken.0 _ (hearing.told _ _ _ _ c.read-got.result _ heard));
       tracks = named _ _ _ _ _ c.args.link (hearing.of_link _ _ c.read-got.result) (hearing.counted _ _ c.read-got.result _) (hearing.still_wet c.args.table.now.links _ _ c.read-got.result _ heard c.requires.wet) (λ other apart. refl) c.requires.going.serves.tracks c.read-got.ensures.told;
       watches = watching.changes _ _ _ _ _ _ taken.1 c.requires.going.serves.watches;
     })

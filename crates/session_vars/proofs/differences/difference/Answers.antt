@@ -8,7 +8,7 @@ use Rattle.session_vars.proofs.differences.difference.Goals as goal
 pub loop-slot-preserved : goal.loop-slot-preserved
 loop-slot-preserved c =
     let i = c.loop-slot.slot-index in
-    let within : i < 21 = omega arith in
+    let within : i < 33 = omega arith in
     c.in_ok-push_change.ensures (drop (i + 1) all_slots)
     ∙ sym (at_drop_more (λ (rest : List Slot). c.loop-slot.changes ++ changes_of c.args.from.now c.args.to.now rest) all_slots i _ within)
     ∙ c.loop-slot.invariant

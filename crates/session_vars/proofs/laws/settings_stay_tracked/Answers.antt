@@ -1,4 +1,5 @@
-use Rattle.session_vars.proofs.Kept.{collations_tracked, stay_tracked}
+use Rattle.session_vars.proofs.Collations.{collations_tracked}
+use Rattle.session_vars.proofs.Kept.{stay_tracked}
 use Rattle.session_vars.proofs.laws.settings_stay_tracked.Goals as goal
 
 pub returns : goal.returns

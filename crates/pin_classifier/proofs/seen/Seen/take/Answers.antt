@@ -23,4 +23,5 @@ returns c =
       dual = before.dual || (c.is_word-5.ensures ∙ ap (λ w. is_word w (codes "DUAL")) word) i;
       into = before.into || (c.is_word-6.ensures ∙ ap (λ w. is_word w (codes "INTO")) word) i;
       quoted_call = before.quoted_call || c.is_quoted_call.ensures i;
+      user_variable = before.user_variable || c.is_variable.ensures i;
     }
