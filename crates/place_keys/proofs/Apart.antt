@@ -88,7 +88,7 @@ agree a b place (slot ∷ slots) run e i above below =
 
 all_run : IsRun 0 all_slots
 unfolding IsRun
-all_run = (refl, (refl, (refl, (refl, (refl, (refl, (refl, (refl, (refl, (refl, (refl, (refl, (refl, (refl, (refl, (refl, (refl, (refl, (refl, (refl, (refl, refl)))))))))))))))))))))
+all_run = (refl, (refl, (refl, (refl, (refl, (refl, (refl, (refl, (refl, (refl, (refl, (refl, (refl, (refl, (refl, (refl, (refl, (refl, (refl, (refl, (refl, (refl, (refl, (refl, (refl, (refl, (refl, (refl, (refl, (refl, (refl, (refl, (refl, refl)))))))))))))))))))))))))))))))))
 
 pub places : (schema other : List ℕ) (a b : List SlotValue) → AreSettings a → AreSettings b → place_key schema a ≡ place_key other b
     → (schema ≡ other) × (a ≡ b)
