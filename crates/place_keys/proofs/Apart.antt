@@ -72,11 +72,11 @@ values_apart (Text a) (Text b) r s e = let same = texts_apart a b r s e in (ap T
 
 -- these slots stand at the places from one on to the last
 IsRun : (place : ℕ) → List Slot → Type 0
-IsRun place [] = place ≡ 21
+IsRun place [] = place ≡ 33
 IsRun place (slot ∷ slots) = (place_of slot ≡ place) × IsRun (suc place) slots
 
 agree : (a b : List SlotValue) (place : ℕ) (slots : List Slot) → IsRun place slots → values_key a slots ≡ values_key b slots → (i : ℕ)
-    → place ≤ i → i < 21 → slice_index_or a i Default ≡ slice_index_or b i Default
+    → place ≤ i → i < 33 → slice_index_or a i Default ≡ slice_index_or b i Default
 unfolding IsRun
 agree a b place [] run e i above below = absurd (omega (arith, run))
 agree a b place (slot ∷ slots) run e i above below =
