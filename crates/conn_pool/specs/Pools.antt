@@ -1,5 +1,5 @@
--- The pool. A link is open; it may be logging in; where it carries nobody, it was given back, and may be lent or stands aside while its
--- server takes none. A client waits for a link of its key.
+-- The pool. A link is open; it may be logging in, or have a step under way while it carries nobody; where nothing is under way there, it was
+-- given back, and may be lent or stands aside while its server takes none. A client waits for a link of its key.
 use Rattle.std.specs.Prelude.{◌≡◌, ℕ, ◌+◌, Bool, nat_le, nat_lt, if◌then◌else◌, length, slice_index, Option, Some, None}
 use Rattle.slot_lists.specs.Orders.{last}
 use Rattle.slots_by_age.specs.Aged.{Aged, of_kind, put, taken}
@@ -14,7 +14,7 @@ pub record Idle : Type 0 where
 
 pub record Links : Type 0 where
   pub links : Aged  -- open ones, by server
-  pub entering : Aged  -- by key: those whose login isn't through
+  pub entering : Aged  -- by key: those whose login isn't through, or that carry nobody with a step under way
   pub idle : Idle
   pub waiting : Aged  -- clients, by key
 
@@ -56,7 +56,7 @@ old_enough i now_ms idle_ms (Some link) = if nat_le (slice_index i.resting.since
 abbrev pub expiring : Idle → (now_ms idle_ms : ℕ) → Option ℕ
 expiring i now_ms idle_ms = old_enough i now_ms idle_ms (last i.resting.order)
 
--- more clients of a key wait than links may be lent to them or log in
+-- more clients of a key wait than links may be lent to them, log in or have a step under way
 abbrev pub wants_link : Links → (key : ℕ) → Bool
 wants_link p key = nat_lt (length (of_key p.idle.lendable key) + length (of_kind p.entering key)) (length (of_kind p.waiting key))
 

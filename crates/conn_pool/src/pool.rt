@@ -14,7 +14,7 @@ use slots_by_age::SlotsByAge;
 use std::alloc::Global;
 use std::marker::Model;
 
-// Open links by server, and those whose login isn't through by key.
+// Open links by server, and by key those whose login isn't through or that have a step under way.
 #[derive(Drop)]
 struct Logins {
     links: SlotsByAge,
@@ -64,6 +64,13 @@ impl Pool {
         self.logins.links.counts()
     }
 
+    /// How many links are open, to all servers together.
+    pub fn total(&self) -> u32
+        ensures { result ≡ length self.now.links.order }
+    {
+        self.logins.links.len()
+    }
+
     /// The link to a server that is open longest.
     pub fn oldest_link_to(&self, server: u32) -> Option<u32>
         requires { server < self.now.links.kinds }
@@ -83,12 +90,21 @@ impl Pool {
         self.logins.entering.put(link, key, now_ms);
     }
 
-    /// A link's login is through.
+    /// A link's login is through, or its step or reset is answered.
     pub fn logged_in(&mut self, link: u32)
         requires { link < self.old.links.slots }
         ensures { self.new ≡ record self.old { entering = taken self.old.entering link } }
     {
         self.logins.entering.take(link);
+    }
+
+    /// A step or a reset is under way on a link of a key that carries nobody; once it is answered, the link is `logged_in` again.
+    pub fn steps(&mut self, link: u32, key: u32, now_ms: u64)
+        requires link { link < self.old.links.slots }
+        requires key { key < self.old.entering.kinds }
+        ensures { self.new ≡ record self.old { entering = put self.old.entering link key now_ms } }
+    {
+        self.logins.entering.put(link, key, now_ms);
     }
 
     /// A link carries nobody any more, and may be lent.
@@ -204,7 +220,7 @@ impl Pool {
         self.waiting.since(client)
     }
 
-    /// Whether more clients of a key wait than there are links that may be lent to them or log in.
+    /// Whether more clients of a key wait than there are links that may be lent to them, log in, or have a step under way.
     pub fn wants_link(&self, key: u32) -> bool
         requires { key < self.now.idle.lendable.keys }
         ensures { result ≡ wants_link self.now key }

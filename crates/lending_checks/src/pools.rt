@@ -7,10 +7,10 @@ use conn_pool::{Pool, Shelf, Sizes};
 use mx_base::OutOfMemory;
 use std::alloc::Global;
 
-/// `pool <step>, <step>..`. With a moment last: `open <link> <server> <key>`, `back <link> <key> <place> <group> <server>`,
+/// `pool <step>, <step>..`. With a moment last: `open <link> <server> <key>`, `steps <link> <key>`, `back <link> <key> <place> <group> <server>`,
 /// `aside <server>`, `forth <server>`, `expire <idle ms>`, `wait <client> <key>`. Without a moment: `lend <key> <place>`, `evict <group>`,
 /// `in <link>`, `close <link>`, `leave <client>`, `oldest`, `first <key>`, `next <client>`, `since <client>`, `wants <key>`, `connections <server>`,
-/// `longest <server>`.
+/// `longest <server>`, `total`.
 pub(crate) fn run(fields: &mut Fields<'_>) {
     let steps = fields.rest_text();
     match pool(fields.answer.alloc()) {
@@ -77,6 +77,7 @@ fn take(answer: &mut Answer, pool: &mut Pool, step: &str)
             let link = below(answer, rest, 8);
             pool.logged_in(link);
         }
+        "steps" => steps(answer, pool, rest),
         "back" => back(answer, pool, rest),
         "close" => {
             let link = below(answer, rest, 8);
@@ -84,6 +85,10 @@ fn take(answer: &mut Answer, pool: &mut Pool, step: &str)
         }
         "connections" => connections(answer, pool, rest),
         "longest" => longest(answer, pool, rest),
+        "total" => {
+            answer.separate(0, ", ");
+            answer.display(pool.total());
+        }
         verb => choose(answer, pool, verb, rest),
     }
 }
@@ -141,6 +146,17 @@ fn open(answer: &mut Answer, pool: &mut Pool, step: &str)
     let key = below(answer, word(&mut rest), 4);
     let moment = answer.parsed(rest);
     pool.opened(link, server, key, moment);
+}
+
+fn steps(answer: &mut Answer, pool: &mut Pool, step: &str)
+    requires { IsTable pool.old }
+    ensures { IsTable pool.new }
+{
+    let mut rest = step;
+    let link = below(answer, word(&mut rest), 8);
+    let key = below(answer, word(&mut rest), 4);
+    let moment = answer.parsed(rest);
+    pool.steps(link, key, moment);
 }
 
 fn back(answer: &mut Answer, pool: &mut Pool, step: &str)

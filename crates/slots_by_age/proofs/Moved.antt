@@ -5,10 +5,10 @@ use Rattle.std.specs.Prelude.{nat_eq, replicate, slice_index, slice_index_or}
 use Rattle.std.proofs.lemmas.Bool.{cases_Bool, eqb-true, eq-eqb}
 use Rattle.slot_lists.specs.Orders.{Each, IsApart, IsOrdered, has, members, placed, without}
 use Rattle.slot_lists.specs.Chains.{Chains, Spells, order_in}
-use Rattle.slot_lists.proofs.Each.{each_at, each_weaker}
+use Rattle.slot_lists.proofs.Each.{each_at, each_weaker, length-placed}
 use Rattle.slot_lists.proofs.Walks.{members_all, order_is}
 use Rattle.slots_by_age.specs.Tables.{AreTables}
-use Rattle.slots_by_age.proofs.Has.{apart-without, apart_has, fewer_below, has-placed_other, has-placed_same, has-without_other, has_apart}
+use Rattle.slots_by_age.proofs.Has.{apart-without, apart_has, fewer_below, has-placed_other, has-placed_same, has-without_other, has_apart, length-without}
 use Rattle.slots_by_age.proofs.Counted.{length-placed_in, length-placed_out, length-without_in, length-without_out, ordered_since}
 
 first_list : (c : Chains) (moments order : List ℕ) → Spells c moments order → c.lists ≡ 1 → Each (λ slot. slice_index c.list_of slot ≡ 0) order
@@ -96,11 +96,11 @@ within-put list_of list_of' slot kind kinds slots small here others so other sma
       omega (arith, same, so other small')
 ]
 
-pub tables-put : (all kinds all' kinds' : Chains) (since : List ℕ) (kept : List Bool) (counts : List ℕ) (slot kind moment n : ℕ)
-    → AreTables all kinds since kept counts → slot < all.slots → kind < kinds.lists → has slot (order_in all) ≡ false
+pub tables-put : (all kinds all' kinds' : Chains) (since : List ℕ) (kept : List Bool) (counts : List ℕ) (slot kind moment n total : ℕ)
+    → AreTables all kinds since kept counts total → slot < all.slots → kind < kinds.lists → has slot (order_in all) ≡ false
     → IsIn all all' (set since slot moment) slot 0 → IsIn kinds kinds' (set since slot moment) slot kind → n ≡ slice_index counts kind
-    → AreTables all' kinds' (set since slot moment) (set kept slot true) (set counts kind (n + 1))
-tables-put all kinds all' kinds' since kept counts slot kind moment n t small within none in' of' is =
+    → AreTables all' kinds' (set since slot moment) (set kept slot true) (set counts kind (n + 1)) (total + 1)
+tables-put all kinds all' kinds' since kept counts slot kind moment n total t small within none in' of' is =
     let apart = has_apart slot (order_in all) none in
     let order : order_in all' ≡ placed (set since slot moment) slot (order_in all) = order-put all all' since slot 0 moment t.whole small t.one apart in' in
     let spelled = spells_since kinds since (order_in all) slot moment apart t.parts in
@@ -123,7 +123,13 @@ tables-put all kinds all' kinds' since kept counts slot kind moment n t small wi
           (omega (arith, small', in'.slots)));
       counted = λ other small'. rw (order, of'.others) (counted-put kinds.list_of counts (set since slot moment) (order_in all) slot kind n kinds.lists
           (rw of'.others at of'.here) apart spelled.ordered t.counts_length within is t.counted other (omega (arith, small', of'.lists)));
+      together = rw order (omega (arith, t.together, length-placed (set since slot moment) slot (order_in all)));
     }
+
+pub room_for_one : (all : Chains) (since : List ℕ) (slot total : ℕ) → Spells all since (order_in all) → slot < all.slots
+    → has slot (order_in all) ≡ false → total ≡ length (order_in all) → total < all.slots
+room_for_one all since slot total spells small none is =
+    omega (arith, is, room_for all since (order_in all) slot spells small (has_apart slot (order_in all) none))
 
 -- what was read of a slot says whether it is kept
 pub here_by : (kept : List Bool) (order : List ℕ) (slot : ℕ) (read is : Bool) → slot < length kept → read ≡ get_or kept slot read → read ≡ is
@@ -180,11 +186,11 @@ counted-taken kinds since order counts slot n spells here long is so other small
           ∙ sym (length-without_out kinds.list_of slot other order two)
     ]
 
-pub tables-taken : (all kinds all' kinds' : Chains) (since : List ℕ) (kept : List Bool) (counts : List ℕ) (slot n : ℕ)
-    → AreTables all kinds since kept counts → slot < all.slots → has slot (order_in all) ≡ true
+pub tables-taken : (all kinds all' kinds' : Chains) (since : List ℕ) (kept : List Bool) (counts : List ℕ) (slot n total : ℕ)
+    → AreTables all kinds since kept counts total → slot < all.slots → has slot (order_in all) ≡ true
     → IsOut all all' slot → IsOut kinds kinds' slot → n ≡ slice_index counts (slice_index kinds.list_of slot)
-    → AreTables all' kinds' since (set kept slot false) (set counts (slice_index kinds.list_of slot) (n - 1))
-tables-taken all kinds all' kinds' since kept counts slot n t small here out off is =
+    → AreTables all' kinds' since (set kept slot false) (set counts (slice_index kinds.list_of slot) (n - 1)) (total - 1)
+tables-taken all kinds all' kinds' since kept counts slot n total t small here out off is =
     let order : order_in all' ≡ without slot (order_in all) = order-taken all all' since slot t.whole t.one here out in
     record {
       slots = off.slots ∙ t.slots ∙ sym (out.slots);
@@ -199,6 +205,7 @@ tables-taken all kinds all' kinds' since kept counts slot n t small here out off
       is_kept = λ other small'. rw order (kept-taken kept (order_in all) slot all.slots small t.kept_length t.is_kept other (omega (arith, small', out.slots)));
       counted = λ other small'. rw (order, off.list) (counted-taken kinds since (order_in all) counts slot n t.parts here t.counts_length is t.counted other
           (omega (arith, small', off.lists)));
+      together = rw order (omega (arith, t.together, length-without slot (order_in all) here t.whole.distinct));
     }
 
 zeros_at : (n i : ℕ) → slice_index (replicate n 0) i ≡ 0
@@ -208,7 +215,8 @@ zeros_at (suc n) (suc i) = zeros_at n i
 
 pub tables-none : (all kinds : Chains) (since : List ℕ) (slots many : ℕ) (kept : List Bool) (counts : List ℕ) → all.slots ≡ slots → all.lists ≡ 1
     → kinds.slots ≡ slots → kinds.lists ≡ many → slots < 2 ^ 32 → ((moments : List ℕ) → Spells all moments []) → ((moments : List ℕ) → Spells kinds moments [])
-    → kinds.list_of ≡ replicate slots 0 → 0 < many → length since ≡ slots → kept ≡ replicate slots false → counts ≡ replicate many 0 → AreTables all kinds since kept counts
+    → kinds.list_of ≡ replicate slots 0 → 0 < many → length since ≡ slots → kept ≡ replicate slots false → counts ≡ replicate many 0
+    → AreTables all kinds since kept counts 0
 tables-none all kinds since slots many kept counts slots_is one slots_of many_of few none none_of first some long kept_is counts_is =
     let order : order_in all ≡ [] = order_of all since [] (none since) one in
     record {
@@ -223,4 +231,5 @@ tables-none all kinds since slots many kept counts slots_is one slots_of many_of
       within = λ slot small. rw first (omega (arith, zeros_at slots slot, some, many_of));
       is_kept = λ slot small. rw (order, kept_is) (get_or-replicate slots slot false false (omega (arith, small, slots_is)));
       counted = λ kind small. rw (order, counts_is) (zeros_at many kind);
+      together = rw order refl;
     }

@@ -17,6 +17,7 @@ pub struct SlotsByAge {
     since: Vec<u64>,
     kept: Vec<bool>,
     counts: Vec<u32>,
+    total: u32,
 }
 
 impl Model for SlotsByAge {
@@ -34,7 +35,7 @@ impl Model for SlotsByAge {
       kinds = s.kinds.lists;
     } };
 
-    ghost invariant = { λ s. AreTables s.all s.kinds s.since.items s.kept.items s.counts.items };
+    ghost invariant = { λ s. AreTables s.all s.kinds s.since.items s.kept.items s.counts.items s.total };
 }
 
 impl SlotsByAge {
@@ -51,6 +52,7 @@ impl SlotsByAge {
             since: vec![in alloc; 0; slots as usize]?,
             kept: vec![in alloc; false; slots as usize]?,
             counts: vec![in alloc; 0; kinds as usize]?,
+            total: 0,
         })
     }
 
@@ -77,6 +79,13 @@ impl SlotsByAge {
         ensures { result ≡ slice_index self.now.since slot }
     {
         self.since[slot as usize]
+    }
+
+    /// How many slots are kept.
+    pub fn len(&self) -> u32
+        ensures { result ≡ length self.now.order }
+    {
+        self.total
     }
 
     /// How many slots of a kind are kept.
@@ -151,6 +160,7 @@ impl SlotsByAge {
             self.kept[slot as usize] = false;
             let kind = self.kinds.list(slot);
             self.counts[kind as usize] -= 1;
+            self.total -= 1;
         }
     }
 
@@ -165,5 +175,6 @@ impl SlotsByAge {
         self.kinds.insert(kind, slot, &self.since);
         self.kept[slot as usize] = true;
         self.counts[kind as usize] += 1;
+        self.total += 1;
     }
 }

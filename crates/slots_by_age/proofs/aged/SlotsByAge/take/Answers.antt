@@ -48,7 +48,7 @@ invariant_of-self c =
     get_or_read c.self.inside.counts.items c.list-kind.result c.index_mut-then-index.result.now (omega (arith, is, within, c.self.invariant.counts_length))
     c.index_mut-then-index.ensures.value 0 in
     rw is (tables-taken c.self.inside.all c.self.inside.kinds c.remove.new.self c.remove-then-index.new.self c.self.inside.since.items
-    c.self.inside.kept.items c.self.inside.counts.items c.args.slot c.index_mut-then-index.result.now c.self.invariant slot here
+    c.self.inside.kept.items c.self.inside.counts.items c.args.slot c.index_mut-then-index.result.now c.self.inside.total c.self.invariant slot here
     (record {
       slots = c.remove.ensures.slots;
       lists = c.remove.ensures.lists;
