@@ -85,7 +85,7 @@ id_same reads ReadId commands.ReadId reply old is = refl
 id_same reads Reset commands.Reset reply old is = refl
 id_same reads _ _ reply old is = absurd is
 
-id_question : (reads : Reads) (purpose : Purpose) (form : Form) (question : Question) (reply : Reply) (id : Option ℕ) → IsPurpose purpose question
+pub id_question : (reads : Reads) (purpose : Purpose) (form : Form) (question : Question) (reply : Reply) (id : Option ℕ) → IsPurpose purpose question
     → IsForm reads form (command_of question) → id_heard reads question reply id ≡ id_for purpose form (end_of reply) (one_number reply.payloads) id
 id_question reads (purposes.Statement name ordinal key) form (story.Statement n due) reply id for is = sym (id_same reads form due.command reply id is)
 id_question reads (purposes.Prep name ordinal at) form (story.Prep n key text) reply id for is = refl

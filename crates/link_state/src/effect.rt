@@ -51,7 +51,9 @@ fn take_effect(alloc: Global, told: &mut Told, class: &Class, ok: bool) -> Resul
     }
 }
 
-pub(crate) fn hear_id(
+/// The insert id behind the answer to what was asked, which ended so, with this one number where it asked for one; `known` is the one
+/// before, where it is known. Takes no memory.
+pub fn hear_id(
     known: Option<u64>,
     asking: &Asking,
     end: &ReplyEnd,

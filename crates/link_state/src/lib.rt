@@ -14,6 +14,7 @@ mod writing;
 
 pub use asking::{Asking, Form, Purpose};
 pub use done::is_done_by;
+pub use effect::hear_id;
 pub use spells::{Spelt, spell, spell_execute, spell_id, spell_numbered, spell_text};
 pub use standing::Standing;
 pub use state::{Carried, LinkState, Stage};

@@ -1,0 +1,5 @@
+pub mod Sessions
+pub mod Answers
+pub mod Works
+pub mod Desks
+pub mod Ranks

@@ -1,0 +1,13 @@
+pub mod Giving
+pub mod Sparing
+pub mod Counting
+pub mod Telling
+pub mod Orderly
+pub mod Ordering
+pub mod Others
+pub mod Apart
+pub mod Likewise
+pub mod Taking
+pub mod Seating
+pub mod Leaving
+pub mod Stepping
