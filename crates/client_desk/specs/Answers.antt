@@ -16,14 +16,16 @@ use Rattle.link_state.specs.declared.asking.Purpose.TheVariants as purposes
 use Rattle.client_desk.specs.declared.session.Session.{Session}
 
 -- the class of what has no text; of a reset nothing is known by its class
-abbrev pub plain_class : (deep : Bool) → Class
-plain_class deep = record { deep = deep; locks = locking.None; next_tx = false; savepoint = false; ends_tx = false; outlasts_reset = false; marks_id = deep; sets_id = false; reads_id = false; reads_diag = deep; reads_found = deep; keeps_diag = true; keeps_found = true; calc_rows = false; refusal = None; shape = shape.Other }
+abbrev pub plain_class : (deep marks : Bool) → Class
+plain_class deep marks = record { deep = deep; locks = locking.None; next_tx = false; savepoint = false; ends_tx = false; outlasts_reset = false; marks_id = marks; sets_id = false; reads_id = false; reads_diag = deep; reads_found = deep; keeps_diag = true; keeps_found = true; calc_rows = false; refusal = None; shape = shape.Other }
 
 abbrev pub class_in : Form → Class
 class_in (forms.Text class) = class
 class_in (forms.Prepare class) = class
-class_in forms.Reset = plain_class true
-class_in _ = plain_class false
+class_in forms.Fields = plain_class false false
+class_in (forms.SetId id) = plain_class false true
+class_in forms.ReadId = plain_class false true
+class_in forms.Reset = plain_class true true
 
 -- an ERR, behind which nobody knows whether a transaction is open
 abbrev pub erred : ReplyEnd → Pin → Pin

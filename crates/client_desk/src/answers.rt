@@ -10,8 +10,8 @@ use pin_classifier::{Class, Locking, Shape};
 use session_state::{Pin, ReplyEnd, is_pinned, pin_after};
 
 // The class of what has no text.
-fn plain_class(deep: bool) -> Class
-    ensures { result ≡ plain_class deep }
+fn plain_class(deep: bool, marks: bool) -> Class
+    ensures { result ≡ plain_class deep marks }
 {
     Class {
         deep,
@@ -20,7 +20,7 @@ fn plain_class(deep: bool) -> Class
         savepoint: false,
         ends_tx: false,
         outlasts_reset: false,
-        marks_id: deep,
+        marks_id: marks,
         sets_id: false,
         reads_id: false,
         reads_diag: deep,
@@ -40,8 +40,10 @@ fn pin_stated(pin: Pin, form: &Form, multiplex: Option<bool>, end: &ReplyEnd) ->
     match form {
         Form::Text(class) => pin_after(pin, class, multiplex, end),
         Form::Prepare(class) => pin_after(pin, class, multiplex, end),
-        Form::Reset => pin_after(pin, &plain_class(true), multiplex, end),
-        _ => pin_after(pin, &plain_class(false), multiplex, end),
+        Form::Fields => pin_after(pin, &plain_class(false, false), multiplex, end),
+        Form::SetId(_) => pin_after(pin, &plain_class(false, true), multiplex, end),
+        Form::ReadId => pin_after(pin, &plain_class(false, true), multiplex, end),
+        Form::Reset => pin_after(pin, &plain_class(true, true), multiplex, end),
     }
 }
 

@@ -1,1 +1,1 @@
-mod Keeps
+pub mod Keeps

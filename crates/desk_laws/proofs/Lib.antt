@@ -1,0 +1,11 @@
+mod Names
+mod Rows
+mod Same
+mod Clear
+mod Stays
+mod Answering
+mod Changed
+mod Moves
+mod Hears
+mod Leaves
+mod Ranking

@@ -1,0 +1,3 @@
+pub mod Stands
+pub mod Spares
+pub mod Ranked
