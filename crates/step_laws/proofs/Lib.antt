@@ -7,6 +7,7 @@ pub mod Ordering
 pub mod Others
 pub mod Apart
 pub mod Likewise
+pub mod Onward
 pub mod Taking
 pub mod Seating
 pub mod Leaving

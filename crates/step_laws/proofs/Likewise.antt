@@ -36,7 +36,7 @@ module _ (setup : Setup) where
     wires = next.wires ∙ first.wires;
   }
 
-  like_tell : (e : Happening) (old new : Tale) → IsLike setup old new → IsLike setup (tell e old) (tell e new)
+  pub like_tell : (e : Happening) (old new : Tale) → IsLike setup old new → IsLike setup (tell e old) (tell e new)
   like_tell e old new like = record {
     moment = like.moment;
     view = ap (λ (v : View). view_step setup v e) like.view;
@@ -54,7 +54,7 @@ module _ (setup : Setup) where
     wires = like.wires;
   }
 
-  like_if : (b c : Bool) → c ≡ b → (x y v w : Tale) → IsLike setup x v → IsLike setup y w → IsLike setup (if b then x else y) (if c then v else w)
+  pub like_if : (b c : Bool) → c ≡ b → (x y v w : Tale) → IsLike setup x v → IsLike setup y w → IsLike setup (if b then x else y) (if c then v else w)
   like_if true true same x y v w one other = one
   like_if false false same x y v w one other = other
   like_if true false same x y v w one other = absurd (cc)
@@ -66,7 +66,7 @@ module _ (setup : Setup) where
   like_fold f goes (x ∷ xs) old new like = like_fold f goes xs (f old x) (f new x) (goes x old new like)
 
   -- as they have the same of what is gone through
-  like_all : {A : Type 0} (f : Tale → A → Tale) → ((a : A) (old new : Tale) → IsLike setup old new → IsLike setup (f old a) (f new a))
+  pub like_all : {A : Type 0} (f : Tale → A → Tale) → ((a : A) (old new : Tale) → IsLike setup old new → IsLike setup (f old a) (f new a))
       → (xs ys : List A) → ys ≡ xs → (old new : Tale) → IsLike setup old new → IsLike setup (fold f old xs) (fold f new ys)
   like_all f goes xs ys same old new like =
       subst (λ zs. IsLike setup (fold f old xs) (fold f new zs)) (sym same) (like_fold f goes xs old new like)

@@ -1,12 +1,13 @@
 // What each tale of a log keeps.
-ghost use Rattle.std.specs.Prelude.{◌≡◌, All, fold};
+ghost use Rattle.std.specs.Prelude.{All, fold};
 ghost use Rattle.mx_wire.specs.Log.{Log};
 ghost use Rattle.mx_wire.specs.declared.entry.Entry.{Entry};
 ghost use Rattle.private_model.specs.View.{Setup};
 ghost use Rattle.log_story.specs.Plan.{Plan};
 ghost use Rattle.log_story.specs.Tale.{Tale, first_tale};
-ghost use Rattle.log_story.specs.Telling.{tale_step};
+ghost use Rattle.log_story.specs.Telling.{tale_step, told};
 ghost use Rattle.step_laws.specs.Freed.{NoneDone};
+ghost use Rattle.step_laws.specs.Like.{IsLike};
 ghost use Rattle.step_laws.specs.Seats.{AreCounted, IsSeated, numbers};
 ghost use Rattle.step_laws.specs.Steps.{told_then};
 
@@ -23,4 +24,17 @@ pub fn numbered_always()
     ensures told { (setup : Setup) (plan : Plan) (tale : Tale) (e : Entry) → AreCounted 1 (numbers tale)
         → AreCounted 1 (numbers (told_then setup plan tale e)) }
     ensures seated { (tale : Tale) → AreCounted 1 (numbers tale) → All (IsSeated tale) tale.clients }
+{}
+
+/// Tales that are the same but for the order in which their stories tell it stay so at each entry, and along a log.
+pub fn likes_go_on()
+    ensures told { (setup : Setup) (plan : Plan) (e : Entry) (old new : Tale) → IsLike setup old new
+        → IsLike setup (told setup plan old e) (told setup plan new e) }
+    ensures step { (setup : Setup) (plan : Plan) (e : Entry) (old new : Tale) → IsLike setup old new
+        → IsLike setup (tale_step setup plan old e) (tale_step setup plan new e) }
+    ensures log { (setup : Setup) (plan : Plan) (log : Log) (old new : Tale) → IsLike setup old new
+        → IsLike setup (fold (tale_step setup plan) old log) (fold (tale_step setup plan) new log) }
+    ensures itself { (setup : Setup) (tale : Tale) → IsLike setup tale tale }
+    ensures along { (setup : Setup) (old mid new : Tale) → IsLike setup old mid → IsLike setup mid new
+        → IsLike setup old new }
 {}

@@ -1,5 +1,5 @@
 // Messages are taken up.
-ghost use Rattle.std.specs.Prelude.{◌≡◌, ◌≤◌, ℕ, Bool, List, Option, Some, [], ◌∷◌, false, length, suc, true};
+ghost use Rattle.std.specs.Prelude.{◌≡◌, ◌≤◌, ℕ, Bool, List, Some, [], ◌∷◌, false, length, suc, true};
 ghost use Rattle.mx_base.specs.declared.names.LinkId.{LinkId};
 ghost use Rattle.mx_wire.specs.Log.{link_of};
 ghost use Rattle.mx_wire.specs.declared.entry.Entry.{Entry};
