@@ -10,7 +10,7 @@ use Rattle.client_side.specs.Laws.{logging-next}
 use Rattle.client_side.specs.Login.{Says, Waits, opening}
 use Rattle.client_side.specs.Reading.{HasStepped, IsLoggingIn, said_to}
 use Rattle.client_side.specs.Steps.{next_of}
-use Rattle.client_session.specs.Accounts.{account_of}
+use Rattle.client_session.specs.Accounts.{account_of, denial_of}
 use Rattle.client_session.specs.Answers.{account_in, commands_in, front, front_in, greeted, if_known, login_answer}
 use Rattle.client_session.specs.Errors.{own_ok}
 use Rattle.log_story.specs.Owed.{due_for, messages, talk_of}
@@ -87,7 +87,8 @@ enters x client seat default user response first switched who was faultless is s
         size = was.size;
         all =
             only-front x client was.untaken ∙ ap (front_in (talk_of x.plan client)) is
-            ∙ ap (λ (found : Option Account). greeted (talk_of x.plan client) switched ++ spelling first (login_answer response found)) known
+            ∙ ap (λ (found : Option Account). greeted (talk_of x.plan client) switched
+            ++ spelling first (login_answer (denial_of x.plan.service.users client.salt response) found)) known
             ∙ ap (λ (bytes : List ℕ). bytes ++ spelling first own_ok)
             (sym (said-same x.plan client seat (next_of seat.client.stage seat.client).client switched who same.0 same.1) ∙ sym said)
             ∙ append_assoc was.written (stepped seat).outbox.due (spelling first own_ok);

@@ -88,11 +88,3 @@ cut-went n due old new is sound within =
 
 pub still-cut : (n due : ℕ) (old new : List ℕ) → new ≡ drop n old → due ≤ length old → due - n ≤ length new
 still-cut n due old new is sound = subst (λ (xs : List ℕ). due - n ≤ length xs) (sym is) (length_behind n due old sound)
-
-pub cut-none : (n m : ℕ) (old new : List ℕ) → length old ≡ 0 → new ≡ [] → cut m new ≡ cut n old
-cut-none n m old new none is =
-    let old_none : old ≡ [] = nothing old none in
-    λ i. record {
-      due = (take-none m new is ∙ sym (take-none n old old_none)) i;
-      coming = (drop-none m new is ∙ sym (drop-none n old old_none)) i;
-    }

@@ -10,9 +10,9 @@ use Rattle.client_side.specs.declared.stage.Stage.{Stage}
 use Rattle.client_side.specs.declared.stage.Stage.TheVariants as stage
 use Rattle.client_side.specs.declared.step.ClientStep.{ClientStep}
 use Rattle.client_side.specs.declared.step.ClientStep.TheVariants as says
-use Rattle.client_session.specs.Accounts.{account_of}
+use Rattle.client_session.specs.Accounts.{account_of, denial_of}
 use Rattle.client_session.specs.Answers.{fault_error}
-use Rattle.client_session.specs.Errors.{access_denied, own_ok}
+use Rattle.client_session.specs.Errors.{own_ok}
 use Rattle.client_session.specs.Setups.{Setup}
 use Rattle.client_seat.specs.Outgoing.{said}
 use Rattle.client_seat.specs.Seats.{Seat, drained, first_place, has_room}
@@ -69,7 +69,8 @@ admitted default account response first seat = record seat {
 abbrev pub logs_in_as : Option Account → Setup → (default : List ℕ) → Response → (first : ℕ) → Seat → Turn
 logs_in_as (Some account) setup default response first seat =
     next_message setup.limit (admitted default account response first seat)
-logs_in_as None setup default response first seat = leaves (spelling first (access_denied response.user)) seat
+logs_in_as None setup default response first seat =
+    leaves (spelling first (denial_of setup.users seat.client.salt response)) seat
 
 abbrev pub logs_in : Setup → (default : List ℕ) → Response → (first : ℕ) → Seat → Turn
 logs_in setup default response first seat =

@@ -2,7 +2,7 @@
 use crate::phase::Phase;
 use crate::place::first_place;
 use crate::seat::Seat;
-use client_session::{Refusal, Setup, account_of, write_denied, write_own_ok, write_refusal};
+use client_session::{Refusal, Setup, account_of, write_denial, write_own_ok, write_refusal};
 use client_side::{ClientFault, ClientStep, login_limit};
 use mx_base::OutOfMemory;
 use server_side::Account;
@@ -131,7 +131,14 @@ impl Seat {
             }
             None => {
                 let mut packet = Vec::new(alloc);
-                write_denied(alloc, &mut packet, first, response.user.as_slice())?;
+                write_denial(
+                    alloc,
+                    &mut packet,
+                    first,
+                    setup,
+                    response,
+                    self.client.salt(),
+                )?;
                 self.part(&packet)?;
                 Ok(Next::Ended)
             }
@@ -178,7 +185,7 @@ impl Seat {
 
     /// What the client says next, where that is whole. Its login is judged by the setup and answered on the way, and then it
     /// stands in the schema that it names, or else in this one. A message comes up where the one before it is answered, and less than a
-    /// mebibyte is unwritten. A login that is denied is answered by error 1045, bytes that are no login by 1043, and, behind all else,
+    /// mebibyte is unwritten. A login that is denied is answered by error 1045 or 1115, bytes that are no login by 1043, and, behind all else,
     /// bytes that are no packets by 1153 or 1156; then the client ended. After OutOfMemory nothing is promised of the seat.
     pub fn next(
         &mut self,

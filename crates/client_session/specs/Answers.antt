@@ -1,6 +1,6 @@
 -- What a client says, the answer to its login, and the answer to a message that can't be. What it is due in all stands in promises.
 use Rattle.std.specs.Prelude.{Bool, List, None, Ok, Option, Result, Some, [], false, true, ℕ, ◌++◌}
-use Rattle.client_session.specs.{Accounts.account_of, Errors.access_denied, Errors.bad_handshake, Errors.own_ok, Errors.packet_out_of_order}
+use Rattle.client_session.specs.{Accounts.account_of, Accounts.denial_of, Errors.bad_handshake, Errors.own_ok, Errors.packet_out_of_order}
 use Rattle.client_session.specs.{Errors.packet_too_large, Setups.Setup}
 use Rattle.client_side.specs.{Login.Fails, Login.Opening, Login.Says, Login.Waits, Login.fault_id, Login.login_limit, Login.opening, Reading.said}
 use Rattle.client_side.specs.{declared.step.ClientFault.ClientFault, declared.step.ClientFault.TheVariants.Frame, declared.step.ClientFault.TheVariants.Hand}
@@ -66,9 +66,13 @@ messages_of talk = client_messages talk.setup.limit (commands talk)
 abbrev pub greeted : Talk → (switched : Bool) → List ℕ
 greeted talk switched = said talk.number talk.salt talk.setup.version switched
 
-abbrev pub login_answer : Response → Option Account → List ℕ
-login_answer response None = access_denied response.user
-login_answer response (Some account) = own_ok
+abbrev pub login_answer : (denial : List ℕ) → Option Account → List ℕ
+login_answer denial None = denial
+login_answer denial (Some account) = own_ok
+
+abbrev pub answer_to_login : Talk → Response → List ℕ
+answer_to_login talk response =
+    login_answer (denial_of talk.setup.users talk.salt response) (account_of talk.setup.users talk.salt response)
 
 abbrev pub frame_error : (limit : ℕ) → FrameFault → List ℕ
 frame_error limit (OutOfOrder expected found) = packet_out_of_order expected found
@@ -81,7 +85,7 @@ fault_error limit (Frame fault) = frame_error limit fault
 -- what comes before the answers to its commands
 abbrev pub front_in : Talk → Opening → List ℕ
 front_in talk (Waits switched) = greeted talk switched
-front_in talk (Says switched response id rest) = greeted talk switched ++ spelling id (login_answer response (account_of talk.setup.users talk.salt response))
+front_in talk (Says switched response id rest) = greeted talk switched ++ spelling id (answer_to_login talk response)
 front_in talk (Fails switched fault id) = greeted talk switched ++ spelling id (fault_error (login_limit talk.setup.limit) fault)
 
 abbrev pub front : Talk → List ℕ

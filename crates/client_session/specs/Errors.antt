@@ -24,6 +24,13 @@ denied_text name = codes "Access denied for user '" ++ shown name ++ codes "'"
 unfoldable pub access_denied : (name : List ℕ) → List ℕ
 access_denied name = err_payload 1045 (codes "28000") (denied_text name)
 
+unfoldable pub unserved_text : (collation : ℕ) → List ℕ
+unserved_text collation = codes "Unknown character set: '" ++ (decimal collation ++ codes "'")
+
+-- the collation that a client names is none that is served
+unfoldable pub unknown_character_set : (collation : ℕ) → List ℕ
+unknown_character_set collation = err_payload 1115 (codes "42000") (unserved_text collation)
+
 unfoldable pub unknown_command : List ℕ
 unknown_command = err_payload 1047 (codes "08S01") (codes "Unknown command")
 

@@ -1,13 +1,16 @@
-// Who a client is.
-ghost use Rattle.std.specs.Prelude.{◌≡◌, IfOk};
+// Who a client is, and what it is told where it isn't let in.
+ghost use Rattle.std.specs.Prelude.{◌≡◌, ◌++◌, OnOk, IfOk};
 ghost use Rattle.std.specs.Option.{option_copied};
-ghost use Rattle.client_session.specs.Accounts.{find_user, answers_for, account_by, account_of};
+ghost use Rattle.packet_frame.specs.Packets.{spelling};
+ghost use Rattle.client_session.specs.Accounts.{find_user, answers_for, account_by, known_of, account_of, denial_of};
 
+use crate::refusal::{write_denied, write_unserved};
 use crate::setup::{Setup, User};
 use handshake::Response;
 use mx_base::{Bytes, OutOfMemory};
 use native_auth::check;
 use server_side::Account;
+use session_vars::is_served_collation;
 use std::alloc::Global;
 
 /// FOUND_ROWS: an UPDATE tells of the rows that it found (client/server protocol, "Capabilities Flags").
@@ -55,7 +58,21 @@ fn account_by(
     }
 }
 
-/// Who the client is: the user that it names, where its answer to the salt is that of the user's password; else nobody.
+// The user that the client names, where its answer to the salt is that of the user's password.
+fn known_of(
+    alloc: Global,
+    setup: &Setup,
+    response: &Response,
+    salt: &[u8; 20],
+) -> Result<Option<Account>, OutOfMemory>
+    ensures { IfOk result (λ account. account ≡ known_of setup.now.users salt.now response.now) }
+{
+    let user = find_user(setup.users(), response.user.as_slice());
+    account_by(alloc, salt, response, user)
+}
+
+/// Who the client is: the user that it names, where its answer to the salt is that of the user's password, and its collation
+/// is one that is served; else nobody.
 #[tactic(auto, unfolding(crate::specs::Accounts::account_of))]
 pub fn account_of(
     alloc: Global,
@@ -65,6 +82,30 @@ pub fn account_of(
 ) -> Result<Option<Account>, OutOfMemory>
     ensures { IfOk result (λ account. account ≡ account_of setup.now.users salt.now response.now) }
 {
-    let user = find_user(setup.users(), response.user.as_slice());
-    account_by(alloc, salt, response, user)
+    if is_served_collation(response.collation) {
+        known_of(alloc, setup, response, salt)
+    } else {
+        Ok(None)
+    }
+}
+
+/// What a client is told that is nobody, appended to `out` as one message with the sequence id `first`: error 1045, where the
+/// user isn't known, or its answer is wrong; else 1115, since its collation is none that is served. So who doesn't know the
+/// password isn't told of the collation.
+#[tactic(auto, unfolding(crate::specs::Accounts::denial_of))]
+pub fn write_denial(
+    alloc: Global,
+    out: &mut Vec<u8>,
+    first: u8,
+    setup: &Setup,
+    response: &Response,
+    salt: &[u8; 20],
+) -> Result<(), OutOfMemory>
+    ensures { OnOk result (out.new.items ≡ out.old.items
+        ++ spelling first (denial_of setup.now.users salt.now response.now)) }
+{
+    match known_of(alloc, setup, response, salt)? {
+        Some(_) => write_unserved(alloc, out, first, response.collation),
+        None => write_denied(alloc, out, first, response.user.as_slice()),
+    }
 }

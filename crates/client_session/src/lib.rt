@@ -7,7 +7,7 @@ mod arrival;
 mod refusal;
 mod setup;
 
-pub use account::account_of;
+pub use account::{account_of, write_denial};
 pub use arrival::login_end;
-pub use refusal::{Refusal, write_denied, write_own_ok, write_refusal};
+pub use refusal::{Refusal, write_own_ok, write_refusal};
 pub use setup::{ServerAt, Setup, User};

@@ -2,7 +2,8 @@
 ghost use Rattle.std.specs.Prelude.{◌≡◌, ◌++◌, OnOk, IfOk, string_bytes};
 ghost use Rattle.packet_frame.specs.Packets.{spelling};
 ghost use Rattle.reply_text.specs.Replies.{err_payload};
-ghost use Rattle.client_session.specs.Errors.{own_ok, access_denied, shown, denied_text, bad_bytes_text, too_large_text, out_of_order_text};
+ghost use Rattle.client_session.specs.Errors.{own_ok, access_denied, shown, denied_text, unserved_text, unknown_character_set};
+ghost use Rattle.client_session.specs.Errors.{bad_bytes_text, too_large_text, out_of_order_text};
 ghost use Rattle.client_session.specs.Refusals.{payload_of};
 
 use mx_base::OutOfMemory;
@@ -153,9 +154,9 @@ fn denied_text(alloc: Global, name: &[u8]) -> Result<Vec<u8>, OutOfMemory>
     Ok(text)
 }
 
-/// Error 1045 appended to `out` as one message with the sequence id `first`: the user isn't known, or its answer is wrong.
+// Error 1045 appended to `out`: the user isn't known, or its answer is wrong.
 #[tactic(auto, unfolding(crate::specs::Errors::access_denied))]
-pub fn write_denied(
+pub(crate) fn write_denied(
     alloc: Global,
     out: &mut Vec<u8>,
     first: u8,
@@ -166,4 +167,26 @@ pub fn write_denied(
     let text = denied_text(alloc, name)?;
     let _ = write_err(out, first, 1045, b"28000", &text)?;
     Ok(())
+}
+
+// The text of 1115.
+#[tactic(auto, unfolding(crate::specs::Errors::unserved_text))]
+fn unserved_text(alloc: Global, collation: u8) -> Result<String, OutOfMemory>
+    ensures { IfOk result (λ text. string_bytes text ≡ unserved_text collation) }
+{
+    Ok(format!(in alloc; "Unknown character set: '{collation}'")?)
+}
+
+// Error 1115 appended to `out`: the collation is none that is served.
+#[tactic(auto, unfolding(crate::specs::Errors::unknown_character_set))]
+pub(crate) fn write_unserved(
+    alloc: Global,
+    out: &mut Vec<u8>,
+    first: u8,
+    collation: u8,
+) -> Result<(), OutOfMemory>
+    ensures { OnOk result (out.new.items ≡ out.old.items ++ spelling first (unknown_character_set collation)) }
+{
+    let text = unserved_text(alloc, collation)?;
+    put(out, first, 1115, b"42000", text.as_bytes())
 }

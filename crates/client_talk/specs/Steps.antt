@@ -1,6 +1,7 @@
 -- What the next thing that a client says makes of its session.
 use Rattle.client_session.specs.declared.refusal.Refusal.TheVariants.{MalformedCommand, NoServer, UnknownCommand}
-use Rattle.client_session.specs.{Answers.fault_error, Errors.access_denied, Errors.own_ok, Refusals.payload_of, Setups.Setup, Setups.has_server}
+use Rattle.client_session.specs.{Accounts.account_of, Accounts.denial_of, Answers.fault_error, Errors.own_ok, Refusals.payload_of}
+use Rattle.client_session.specs.Setups.{Setup, has_server}
 use Rattle.client_side.specs.Client.{counted, login_of, past_message}
 use Rattle.client_side.specs.{Login.login_limit, Steps.Next, Steps.next_of, declared.step.ClientStep.ClientStep}
 use Rattle.client_talk.specs.declared.asked.Asked.TheVariants.{Ping, Query, Quit, Refused, Silence}
@@ -10,7 +11,7 @@ use Rattle.command_parse.specs.Meaning.Meaning.{FieldList as Lists, InitDb as Ch
 use Rattle.command_parse.specs.{Meaning.Meaning, Meaning.has_no_reply, Meaning.parsed, declared.fault.CommandFault.CommandFault}
 use Rattle.packet_frame.specs.Packets.{Framed, spelling}
 use Rattle.std.specs.Prelude.{Bool, Err, List, None, Ok, Option, Result, Some, if◌then◌else◌, ℕ, ◌++◌}
-use Rattle.{client_session.specs.Accounts.account_of, handshake.specs.declared.response.Response.Response, server_side.specs.Account.Account}
+use Rattle.{handshake.specs.declared.response.Response.Response, server_side.specs.Account.Account}
 use Rattle.client_side.specs.declared.stage.Stage.TheVariants as stage
 use Rattle.client_side.specs.declared.step.ClientStep.TheVariants as says
 use Rattle.client_talk.specs.declared.session.Phase.TheVariants as phase
@@ -61,13 +62,14 @@ abbrev pub admitted : Account → (first : ℕ) → Session → Session
 admitted account first session =
     record { client = record (told (spelling first own_ok) session).client { stage = stage.Commands }; phase = phase.Idle account }
 
-abbrev pub logs_in_as : Option Account → Response → (first : ℕ) → Session → Step
-logs_in_as (Some account) response first session = goes (admitted account first session)
-logs_in_as None response first session = stops (ended (told (spelling first (access_denied response.user)) session))
+abbrev pub logs_in_as : Option Account → (denial : List ℕ) → (first : ℕ) → Session → Step
+logs_in_as (Some account) denial first session = goes (admitted account first session)
+logs_in_as None denial first session = stops (ended (told (spelling first denial) session))
 
 abbrev pub logs_in : Setup → Option Response → (first : ℕ) → Session → Step
 logs_in setup None first session = stops session
-logs_in setup (Some response) first session = logs_in_as (account_of setup.users session.client.salt response) response first session
+logs_in setup (Some response) first session =
+    logs_in_as (account_of setup.users session.client.salt response) (denial_of setup.users session.client.salt response) first session
 
 -- A message.
 

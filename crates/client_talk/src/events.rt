@@ -13,7 +13,7 @@ use std::alloc::Global;
 use std::mem;
 
 /// Bytes of the client come, and are kept. Where no query is in work, what is whole of them is taken in order, until a query comes up for
-/// work, which is the result, or nothing whole is left, or the session ends: by a QUIT, by a login that is denied (error 1045), or by
+/// work, which is the result, or nothing whole is left, or the session ends: by a QUIT, by a login that is denied (1045 and 1115), or by
 /// bytes that are no login (1043) or no packets (1153 and 1156). The router itself answers a PING, a command that it doesn't take (1047),
 /// a message that is no command (9109), and a query where no server is configured (9100). See client/server protocol, "Connection Phase"
 /// and "Command Phase". Of a session that ends nothing is kept. After OutOfMemory nothing is promised of the session.

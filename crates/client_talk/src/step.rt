@@ -9,7 +9,7 @@ ghost use Rattle.client_talk.specs.Steps.{told, ended, admitted, limit_in, past,
 use crate::asked::{Asked, asked_of};
 use crate::query::Query;
 use crate::session::{Phase, Session};
-use client_session::{Refusal, Setup, account_of, write_denied, write_own_ok, write_refusal};
+use client_session::{Refusal, Setup, account_of, write_denial, write_own_ok, write_refusal};
 use client_side::{ClientFault, ClientStep, login_limit};
 use mx_base::OutOfMemory;
 use packet_frame::write_message;
@@ -82,7 +82,14 @@ fn log_in(
         }
         None => {
             let mut packet = Vec::new(alloc);
-            write_denied(alloc, &mut packet, first, response.user.as_slice())?;
+            write_denial(
+                alloc,
+                &mut packet,
+                first,
+                setup,
+                response,
+                session.client.salt(),
+            )?;
             end_with(session, &packet)?;
             Ok(Turn::Rests)
         }

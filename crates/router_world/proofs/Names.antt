@@ -13,7 +13,7 @@ pub use Rattle.router_world.specs.World.{admitted, closed_by, offers, offers_by,
 pub use Rattle.std.proofs.Common.{ap, append-nil, append_assoc, arith, inl, inr, length-append, subst, sym, take-append-drop, ◌∙◌}
 pub use Rattle.std.specs.Prelude.{Bool, List, None, Option, Result, Some, [], drop, false, is_some, length, nat_eq, nat_lt, not, refl, suc, take, true, zero, ℕ}
 pub use Rattle.std.specs.Prelude.{◌&&◌, ◌++◌, ◌+◌, ◌<◌, ◌∷◌, ◌≡◌, ◌≢◌, ◌≤◌, ◌⊎◌}
-pub use Rattle.client_session.specs.{Accounts.account_of, Errors.connection_refused, Errors.own_ok, Refusals.payload_of, Setups.Setup, Setups.has_server}
+pub use Rattle.client_session.specs.{Accounts.account_of, Accounts.denial_of, Errors.connection_refused, Errors.own_ok, Refusals.payload_of, Setups.Setup, Setups.has_server}
 pub use Rattle.client_session.specs.{declared.setup.ServerAt.ServerAt}
 pub use Rattle.client_side.specs.{Client.ClientState, Client.counted, Client.fed, HeldUp.next_same, Reading.IsLoggingIn, Steps.command_found}
 pub use Rattle.client_side.specs.{Steps.next_of, declared.step.ClientStep.ClientStep}

@@ -10,7 +10,7 @@ use Rattle.promises.proofs.Dues.{due-unlost, work-is}
 use Rattle.router_world.proofs.Names.{Account, Answer, Asked, ClientNo, ClientState, ClientStep, Faulty, Found, Framed, IsLoggingIn, List, Log, None, Nothing}
 use Rattle.router_world.proofs.Names.{Option, Phase, Response, Seat, SeatAt, SeatTurned, Service, Session, Setup, Some, Talk, Turned, Whole, Work, []}
 use Rattle.router_world.proofs.Names.{account_of, answer_of, ap, append-nil, append_assoc, arith, arrives_as, asked_of, command_found, common_steps, counted}
-use Rattle.router_world.proofs.Names.{drop, due, has_ended, has_server, inl, inr, is_ending, is_query, is_some, length, logs_in, logs_in_as, most_command}
+use Rattle.router_world.proofs.Names.{denial_of, drop, due, has_ended, has_server, inl, inr, is_ending, is_query, is_some, length, logs_in, logs_in_as, most_command}
 use Rattle.router_world.proofs.Names.{new_session, next_id, next_of, next_same, own_ok, parsed, payload_of, refl, rested, spelt, step, step_by, still, subst}
 use Rattle.router_world.proofs.Names.{suc, sym, take, take-append-drop, taken, true, turned, written_of, ℕ, ◌++◌, ◌<◌, ◌∙◌, ◌∷◌, ◌≡◌, ◌≤◌}
 use Rattle.router_world.specs.Seats.{MayGo, PhaseAt}
@@ -49,7 +49,8 @@ module _ (talk : Talk) (reply : ℕ → Option Answer) (written : List ℕ) (bef
     bytes = written ++ client.outgoing
 
     logs-in : (response : Response) (first : ℕ) → IsLoggingIn (stage.Login response first) client talk.setup.version talk.read bytes
-        → (o : Option Account) → account_of talk.setup.users client.salt response ≡ o → Steps (logs_in_as o response first (entering client))
+        → (o : Option Account) → account_of talk.setup.users client.salt response ≡ o
+        → Steps (logs_in_as o (denial_of talk.setup.users client.salt response) first (entering client))
     logs-in response first login o is = (let said = response-said talk reply bytes client mine response first login in
         grind (arith, common_steps, ends, Alone, (coming-admitted talk reply bytes client mine response first login)))
 

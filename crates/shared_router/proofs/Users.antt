@@ -4,7 +4,7 @@ use Rattle.std.specs.Option.{option_map_or}
 use Rattle.std.proofs.Common.{refl, sym, ap, ◌∙◌, subst, append_assoc, arith}
 use Rattle.std.proofs.lemmas.List.{take-append-le, take_all}
 use Rattle.std.proofs.lemmas.Slice.Eq.{bytes_eq-Decides}
-use Rattle.client_session.specs.Accounts.{account_by, account_of, answers_for, find_user, finds_rows}
+use Rattle.client_session.specs.Accounts.{account_by, account_of, answers_for, find_user, finds_rows, known_of}
 use Rattle.client_session.specs.Answers.{Talk, account, account_in, commands_in, if_known, messages_of, opening_of}
 use Rattle.client_session.specs.Setups.{Setup as Service, User}
 use Rattle.client_side.specs.Login.{Fails, Opening, Says, Waits}
@@ -18,6 +18,7 @@ use Rattle.packet_frame.specs.Packets.{Framed, split}
 use Rattle.private_model.specs.Commands.{Account}
 use Rattle.private_model.specs.Names.{ClientNo, MessageName}
 use Rattle.server_side.specs.Account.{Account as Login}
+use Rattle.session_vars.specs.Collations.{is_served_collation}
 use Rattle.log_story.specs.Owed.{talk_of}
 use Rattle.log_story.specs.Plan.{Plan}
 use Rattle.log_story.specs.Tale.{Client, Tale}
@@ -101,7 +102,7 @@ row_of (r ∷ rows) name user is = by_test (bytes_eq r.name name) refl is (row_o
 
 found_by : (rows : List UserRow) (salt : List ℕ) (response : Response) (login : Login) → account_of (map user_of rows) salt response ≡ Some login → IsFound rows login
 unfolding account_of
-found_by rows salt response login is = by_user (find_user response.user (map user_of rows)) refl is where
+found_by rows salt response login is = by_served (is_served_collation response.collation) is where
   by_answer : (user : User) (right : Bool) → (if right then Some (record { user = user.name; password = user.password; found_rows = finds_rows response.capabilities }) else None) ≡ Some login
       → IsRow rows response.user user → IsFound rows login
   by_answer user true given at =
@@ -117,6 +118,10 @@ found_by rows salt response login is = by_user (find_user response.user (map use
   by_user : (found : Option User) → find_user response.user (map user_of rows) ≡ found → account_by salt response found ≡ Some login → IsFound rows login
   by_user None at given = absurd (cc)
   by_user (Some user) at given = by_answer user (answers_for salt response user) given (row_of rows response.user user at)
+
+  by_served : (served : Bool) → (if served then known_of (map user_of rows) salt response else None) ≡ Some login → IsFound rows login
+  by_served true given = by_user (find_user response.user (map user_of rows)) refl given
+  by_served false given = absurd (cc)
 
 equal_bytes : (a b : List ℕ) → a ≡ b → bytes_eq a b ≡ true
 equal_bytes a b is = (bytes_eq-Decides a b).1 is
