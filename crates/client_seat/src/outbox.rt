@@ -3,9 +3,6 @@ use mx_base::{ByteQueue, OutOfMemory};
 use std::alloc::Global;
 use std::marker::Model;
 
-/// Once so many bytes were written, memory is given back where none is left.
-const KEPT: usize = 4096;
-
 /// What is to be written to a client: bytes that are due, and behind them what came so far of a reply that isn't whole.
 /// Each byte is moved a bounded number of times.
 #[derive(Drop)]
@@ -13,7 +10,6 @@ pub struct Outbox {
     alloc: Global,
     queue: ByteQueue,
     due: usize,
-    written: usize,
 }
 
 impl Model for Outbox {
@@ -39,7 +35,6 @@ impl Outbox {
             alloc,
             queue: ByteQueue::new(alloc),
             due: 0,
-            written: 0,
         }
     }
 
@@ -90,33 +85,13 @@ impl Outbox {
         self.due = self.queue.as_slice().len();
     }
 
-    // So many of the bytes that are due go.
-    fn pass(&mut self, n: usize)
-        requires { n ≤ length self.old.due }
-        ensures { self.new ≡ went n self.old }
-    {
-        self.queue.advance(n);
-        self.due -= n;
-        self.written = self.written.saturating_add(n);
-    }
-
-    // Memory is given back where nothing is left, and much was written.
-    fn rest(&mut self)
-        ensures { self.new ≡ self.old }
-    {
-        if self.queue.as_slice().is_empty() && self.written > KEPT {
-            self.queue = ByteQueue::new(self.alloc);
-            self.due = 0;
-            self.written = 0;
-        }
-    }
-
-    /// So many of the bytes that are due were written. Takes no memory.
+    /// So many of the bytes that are due were written. Takes no memory, and gives it back that a long answer took.
     pub fn advance(&mut self, n: usize)
         requires { n ≤ length self.old.due }
         ensures { self.new ≡ went n self.old }
     {
-        self.pass(n);
-        self.rest();
+        self.queue.advance(n);
+        self.queue.rest();
+        self.due -= n;
     }
 }

@@ -148,7 +148,8 @@ impl Client {
         self.framer.payload()
     }
 
-    /// Drops what was found: behind a login commands come, and a command has arrived. Takes no memory.
+    /// Drops what was found: behind a login commands come, and a command has arrived. Takes no memory, and gives it back that a long
+    /// message took.
     pub fn done(&mut self)
         requires { HasFound self.old.stage self.old.framer.found }
         ensures { IsDone self.old.stage self.old self.new }
@@ -156,10 +157,12 @@ impl Client {
         match &self.stage {
             Stage::Login { .. } => {
                 self.framer.allow(self.limit);
+                self.framer.rest();
                 self.stage = Stage::Commands;
             }
             _ => {
                 self.framer.done();
+                self.framer.rest();
                 self.arrived = counted(self.arrived);
             }
         }
@@ -202,11 +205,12 @@ impl Client {
         self.outgoing.as_slice()
     }
 
-    /// So many of these bytes were written. Takes no memory.
+    /// So many of these bytes were written. Takes no memory, and gives it back that a long answer took.
     pub fn taken(&mut self, n: usize)
         requires { n ≤ length self.old.outgoing }
         ensures { self.new ≡ record self.old { outgoing = drop n self.old.outgoing } }
     {
         self.outgoing.advance(n);
+        self.outgoing.rest();
     }
 }

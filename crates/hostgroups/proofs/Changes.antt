@@ -9,27 +9,47 @@ use Rattle.hostgroups.specs.declared.row.ServerRow.{ServerRow}
 use Rattle.hostgroups.specs.declared.row.ServerStatus.{ServerStatus}
 use Rattle.hostgroups.specs.declared.server.Server.{Server}
 use Rattle.hostgroups.specs.Rows.{name_of}
-use Rattle.hostgroups.specs.Servers.{changed, changed_at, names_of, nth, restated, rows_of}
+use Rattle.hostgroups.specs.Servers.{changed, changed_at, names_of, nth, restated, rows_of, turning, turning_rows}
 
-rows_of-changed_at : (servers : List Server) (n : ℕ) (change : ServerStatus → ServerStatus)
-    → rows_of (changed_at servers n change) ≡ rows_of servers
-rows_of-changed_at [] n change = refl
-rows_of-changed_at (first ∷ servers) zero change = refl
-rows_of-changed_at (first ∷ servers) (suc n) change = ap (λ (rows : List ServerRow). first.row ∷ rows) (rows_of-changed_at servers n change)
+-- what a status doesn't change
 
-pub rows_of-changed : (servers : List Server) (number : ℕ) (change : ServerStatus → ServerStatus)
-    → rows_of (changed servers number change) ≡ rows_of servers
-rows_of-changed servers zero change = refl
-rows_of-changed servers (suc n) change = rows_of-changed_at servers n change
+map-changed_at : {X : Type 0} (of : Server → X) (change : ServerStatus → ServerStatus) → ((s : Server) → of (restated change s) ≡ of s)
+    → (servers : List Server) (n : ℕ) → map of (changed_at servers n change) ≡ map of servers
+map-changed_at of change same [] n = refl
+map-changed_at of change same (first ∷ servers) zero = ap (λ x. x ∷ map of servers) (same first)
+map-changed_at of change same (first ∷ servers) (suc n) = ap (λ rest. of first ∷ rest) (map-changed_at of change same servers n)
+
+map-changed : {X : Type 0} (of : Server → X) (change : ServerStatus → ServerStatus) → ((s : Server) → of (restated change s) ≡ of s)
+    → (servers : List Server) (number : ℕ) → map of (changed servers number change) ≡ map of servers
+map-changed of change same servers zero = refl
+map-changed of change same servers (suc n) = map-changed_at of change same servers n
+
+map-restated : {X : Type 0} (of : Server → X) (change : ServerStatus → ServerStatus) → ((s : Server) → of (restated change s) ≡ of s)
+    → (servers : List Server) → map of (map (restated change) servers) ≡ map of servers
+map-restated of change same [] = refl
+map-restated of change same (first ∷ servers) =
+    ap (λ x. x ∷ map of (map (restated change) servers)) (same first) ∙ ap (λ rest. of first ∷ rest) (map-restated of change same servers)
+
+-- servers of the same rows and turns
+pub record Same (servers other : List Server) : Type 0 where
+  pub rows : rows_of other ≡ rows_of servers
+  pub turns : turning_rows other ≡ turning_rows servers
+
+pub same-changed : (servers : List Server) (number : ℕ) (change : ServerStatus → ServerStatus) → Same servers (changed servers number change)
+same-changed servers number change = record {
+  rows = map-changed (λ (s : Server). s.row) change (λ s. refl) servers number;
+  turns = map-changed turning change (λ s. refl) servers number;
+}
+
+pub same-restated : (change : ServerStatus → ServerStatus) (servers : List Server) → Same servers (map (restated change) servers)
+same-restated change servers = record {
+  rows = map-restated (λ (s : Server). s.row) change (λ s. refl) servers;
+  turns = map-restated turning change (λ s. refl) servers;
+}
 
 pub names_of-changed : (servers : List Server) (number : ℕ) (change : ServerStatus → ServerStatus)
     → names_of (changed servers number change) ≡ names_of servers
-names_of-changed servers number change = ap (map name_of) (rows_of-changed servers number change)
-
-pub rows_of-restated : (change : ServerStatus → ServerStatus) (servers : List Server)
-    → rows_of (map (restated change) servers) ≡ rows_of servers
-rows_of-restated change [] = refl
-rows_of-restated change (first ∷ servers) = ap (λ (rows : List ServerRow). first.row ∷ rows) (rows_of-restated change servers)
+names_of-changed servers number change = ap (map name_of) (same-changed servers number change).rows
 
 past-changed : (servers : List Server) (n : ℕ) (change : ServerStatus → ServerStatus) → length servers ≤ n
     → changed_at servers n change ≡ servers
@@ -38,9 +58,9 @@ past-changed (first ∷ servers) zero change h = absurd (omega arith)
 past-changed (first ∷ servers) (suc n) change h = ap (λ (rest : List Server). first ∷ rest) (past-changed servers n change (omega arith))
 
 put : (servers : List Server) (n : ℕ) (server : Server) (status : ServerStatus) → n < length servers → server ≡ get_or servers n server
-    → set servers n (record { row = server.row; status = status }) ≡ changed_at servers n (λ _. status)
+    → set servers n (record server { status = status }) ≡ changed_at servers n (λ _. status)
 put [] n server status h is = absurd (omega arith)
-put (first ∷ servers) zero server status h is = let row : server.row ≡ first.row = ap (λ (s : Server). s.row) is in rw row refl
+put (first ∷ servers) zero server status h is = ap (λ (s : Server). record s { status = status } ∷ servers) is
 put (first ∷ servers) (suc n) server status h is = ap (λ (rest : List Server). first ∷ rest) (put servers n server status (omega arith) is)
 
 -- no server has the number
@@ -52,8 +72,7 @@ unknown servers (suc n) change h = (rw (slice_get_past servers n (omega arith)) 
 -- the server of the number is given a status
 pub known : (servers : List Server) (number : ℕ) (server : Server) (status : ServerStatus) → 0 < number → number ≤ length servers
     → server ≡ get_or servers (number - 1) server
-    → (is_some (nth servers number) ≡ true) × (set servers (number - 1) (record { row = server.row; status = status }) ≡ changed servers
-    number (λ _. status))
+    → (is_some (nth servers number) ≡ true) × (set servers (number - 1) (record server { status = status }) ≡ changed servers number (λ _. status))
 known servers zero server status above h is = absurd (omega arith)
 known servers (suc n) server status above h is =
     let at : suc n - 1 ≡ n = omega arith in
@@ -100,7 +119,7 @@ any_default (first ∷ servers) (suc i) d e h = any_default servers i d e (omega
 pub restated_more : (change : ServerStatus → ServerStatus) (xs ys : List Server) (i : ℕ) (d : Server) (status : ServerStatus)
     → i < length xs → i < length ys
     → ys ≡ map (restated change) (take i xs) ++ drop i xs → status ≡ change (get_or ys i d).status
-    → set ys i (record { row = (get_or ys i d).row; status = status }) ≡ map (restated change) (take (i + 1) xs) ++ drop (i + 1) xs
+    → set ys i (record (get_or ys i d) { status = status }) ≡ map (restated change) (take (i + 1) xs) ++ drop (i + 1) xs
 restated_more change xs ys i d status h within so_far is =
     rw is (map_over_more (restated change) xs ys i (get_or ys i d) h so_far (any_default ys i d (get_or ys i d) within))
 
@@ -118,4 +137,4 @@ names_of-restated change old items len all size =
     let as_long : length items ≡ length old = rw all (simp length-map) in
     let none : drop (length items) old ≡ [] = drop_all (length items) old (omega (arith, as_long)) in
     let whole : take len items ≡ items = take_all len items (omega (arith, as_long, size)) in
-    rw (none, append-nil items, whole, all) (ap (map name_of) (rows_of-restated change old))
+    rw (none, append-nil items, whole, all) (ap (map name_of) (same-restated change old).rows)

@@ -1,12 +1,12 @@
 -- Which servers are picked, and how often.
-use Rattle.std.proofs.Common.{◌≡◌, ℕ, zero, suc, ◌+◌, ◌*◌, ◌<◌, ◌≤◌, Bool, true, false, cond, eqb, leb, List, [], ◌∷◌, ◌++◌, length, map, take, drop, get_or, Option, Some, None, append_assoc, append-nil, refl, sym, ap, subst, ◌∙◌, inl, inr, arith}
+use Rattle.std.proofs.Common.{◌≡◌, ℕ, zero, suc, ◌+◌, ◌*◌, ◌<◌, ◌≤◌, Bool, true, false, not, cond, eqb, leb, List, [], ◌∷◌, ◌++◌, length, map, take, drop, get_or, Option, Some, None, append_assoc, append-nil, refl, sym, ap, subst, ◌∙◌, inl, inr, arith}
 use Rattle.std.specs.Prelude.{slice_get}
 use Rattle.std.specs.List.{All, find, list_any, position_or_len}
 use Rattle.std.specs.Option.{IfNone, IfSome, option_map}
-use Rattle.std.proofs.lemmas.Bool.{cases_Bool, eqb-true, eq-eqb, false_from_ne_true, or_left, or_right}
+use Rattle.std.proofs.lemmas.Bool.{and_parts, cases_Bool, eqb-true, eq-eqb, false_from_ne_true, not-true, or_left, or_right}
 use Rattle.std.proofs.lemmas.Bool.Decides.{nat_tests}
 use Rattle.std.proofs.lemmas.Nat.{mul-le}
-use Rattle.std.proofs.lemmas.List.{length-take-le, take-append-drop}
+use Rattle.std.proofs.lemmas.List.{length-map, length-take-le, take-append-drop}
 use Rattle.std.proofs.lemmas.List.Elements.{All-cons, All-head, All-nil, All-tail, All-take, All-weaker, All-get_or}
 use Rattle.std.proofs.lemmas.List.Sums.{sum_by-cons}
 use Rattle.std.proofs.lemmas.Option.{slice_get-map, slice_get_within, get_or_from_slice_get}
@@ -16,10 +16,11 @@ use Rattle.hostgroups.specs.declared.row.ServerRow.{ServerRow}
 use Rattle.hostgroups.specs.declared.server.Server.{Server}
 use Rattle.hostgroups.specs.Picks.{AllReady, IsRoundOfPicks, after_pick, is_ready, is_server, picked, picks, times_picked}
 use Rattle.hostgroups.specs.Rounds.{AreFull, Coming, turns_of}
-use Rattle.hostgroups.specs.Servers.{belongs, belongs_there, in_force, nth, rows_of}
+use Rattle.hostgroups.specs.Servers.{belongs, belongs_there, in_force, nth, rows_of, turning, turning_rows}
 use Rattle.hostgroups.specs.Tables.{Holds, Table}
 use Rattle.hostgroups.specs.Turns.{IsApart, IsFullRound, behind, from_turn, is_in, row_at, times, weight_of_all, weight_there, weights_in}
 use Rattle.hostgroups.proofs.Building.{rows_of-in_force}
+use Rattle.hostgroups.proofs.Changes.{Same}
 use Rattle.hostgroups.proofs.Lookups.{either-with_turns, turns_of-with_turns}
 use Rattle.hostgroups.proofs.Spread.{even-from_turn, spread-from_turn}
 use Rattle.hostgroups.proofs.Turning.{length-from_turn, times-from_turn}
@@ -102,23 +103,29 @@ any_from test (turn ∷ turns) server is h =
 
 -- The servers of a hostgroup are those that stand in its round.
 
-there-belongs : (hostgroup : Hostgroup) (o : Option Server) → 1 ≤ weight_there hostgroup (option_map (λ s. s.row) o)
+there-belongs : (hostgroup : Hostgroup) (o : Option Server) → 1 ≤ weight_there hostgroup (option_map turning o)
     → belongs_there hostgroup o ≡ true
 there-belongs hostgroup None h = absurd (omega arith)
 there-belongs hostgroup (Some server) h =
     elim (cases_Bool (is_in hostgroup server.row)) [
-      | inl in' ↦ in'
+      | inl in' ↦ elim (cases_Bool server.gone) [
+        | inl gone ↦ let nothing : 1 ≤ 0 = rw (in', gone) at h in absurd (omega (arith, nothing))
+        | inr there ↦ rw (in', there) refl
+      ]
       | inr out ↦ let nothing : 1 ≤ 0 = rw out at h in absurd (omega (arith, nothing))
     ]
 
 belongs-there : (hostgroup : Hostgroup) (o : Option Server) → ((server : Server) → o ≡ Some server → 1 ≤ server.row.weight)
-    → belongs_there hostgroup o ≡ true → 1 ≤ weight_there hostgroup (option_map (λ s. s.row) o)
+    → belongs_there hostgroup o ≡ true → 1 ≤ weight_there hostgroup (option_map turning o)
 belongs-there hostgroup None weights h = absurd cc
-belongs-there hostgroup (Some server) weights h = rw h (weights server refl)
+belongs-there hostgroup (Some server) weights h =
+    let both = and_parts (is_in hostgroup server.row) (not server.gone) h in
+    let there : server.gone ≡ false = not-true server.gone both.1 in
+    rw (both.0, there) (weights server refl)
 
-row_of : (servers : List Server) (n : ℕ) → row_at (rows_of servers) n ≡ option_map (λ s. s.row) (nth servers n)
+row_of : (servers : List Server) (n : ℕ) → row_at (turning_rows servers) n ≡ option_map turning (nth servers n)
 row_of servers zero = refl
-row_of servers (suc n) = slice_get-map (λ (s : Server). s.row) servers n
+row_of servers (suc n) = slice_get-map turning servers n
 
 weighs : (servers : List Server) (n : ℕ) → All (λ (row : ServerRow). 1 ≤ row.weight) (rows_of servers) → (server : Server)
     → nth servers n ≡ Some server → 1 ≤ server.row.weight
@@ -198,19 +205,29 @@ holds_after_pick table hostgroup counts holds = record {
       elim (either-with_turns table.rounds hostgroup (from_turn over turns) other) [
         | inl kept ↦ rw kept (holds.full other)
         | inr written ↦
-            rw written.0 (full_rotated (rows_of table.servers) other over turns (rw written.1 at (holds.full other)))
+            rw written.0 (full_rotated (turning_rows table.servers) other over turns (rw written.1 at (holds.full other)))
       ];
   weights = holds.weights;
+  few = holds.few;
 }
 
 -- so does a change of statuses
-pub holds_same_rows : (servers other : List Server) (rounds : List Coming) → rows_of other ≡ rows_of servers
+pub holds_same_rows : (servers other : List Server) (rounds : List Coming) → Same servers other
     → Holds (record { servers = servers; rounds = rounds }) → Holds (record { servers = other; rounds = rounds })
-holds_same_rows servers other rounds same holds = record { full = rw same holds.full; weights = rw same holds.weights }
+holds_same_rows servers other rounds same holds =
+    let long : length other ≡ length servers =
+    sym (length-map other (λ (s : Server). s.row)) ∙ ap length same.rows ∙ length-map servers (λ (s : Server). s.row) in
+    record { full = rw same.turns holds.full; weights = rw same.rows holds.weights; few = omega (arith, long, holds.few) }
+
+turning-in_force : (rows : List ServerRow) → turning_rows (map in_force rows) ≡ rows
+turning-in_force [] = refl
+turning-in_force (row ∷ rows) = ap (λ (rest : List ServerRow). row ∷ rest) (turning-in_force rows)
 
 pub holds_built : (rows : List ServerRow) (rounds : List Coming) → All (λ (row : ServerRow). 1 ≤ row.weight) rows → AreFull rows rounds
-    → Holds (record { servers = map in_force rows; rounds = rounds })
-holds_built rows rounds weights full = record { full = rw (rows_of-in_force rows) full; weights = rw (rows_of-in_force rows) weights }
+    → length rows ≤ 1024 → Holds (record { servers = map in_force rows; rounds = rounds })
+holds_built rows rounds weights full short =
+    let long : length (map in_force rows) ≡ length rows = length-map rows in_force in
+    record { full = rw (turning-in_force rows) full; weights = rw (rows_of-in_force rows) weights; few = omega (arith, long, short) }
 
 -- Many picks.
 
@@ -268,7 +285,7 @@ turns_ready table hostgroup counts holds ready = λ k d h.
     (stands_at (turns_of table.rounds hostgroup) k d h))
 
 pub fair : (table : Table) (hostgroup : Hostgroup) (counts : List (List ℕ)) → IsRoundOfPicks table hostgroup counts → (server : ServerId)
-    → times_picked server (picks table hostgroup counts) ≡ weights_in (rows_of table.servers) hostgroup server
+    → times_picked server (picks table hostgroup counts) ≡ weights_in (turning_rows table.servers) hostgroup server
 fair table hostgroup counts round server =
     let turns = turns_of table.rounds hostgroup in
     let all : All (λ (cs : List ℕ). All (λ (turn : ServerId). is_ready table.servers cs turn ≡ true) (turns_of table.rounds hostgroup))
@@ -338,7 +355,7 @@ second_alone server a b other =
 
 pub not_twice : (table : Table) (hostgroup : Hostgroup) (now next : List ℕ) → Holds table → AllReady table.servers hostgroup now
     → AllReady table.servers hostgroup next → (server : ServerId)
-    → 2 * weights_in (rows_of table.servers) hostgroup server ≤ weight_of_all (rows_of table.servers) hostgroup
+    → 2 * weights_in (turning_rows table.servers) hostgroup server ≤ weight_of_all (turning_rows table.servers) hostgroup
     → times_picked server (picks table hostgroup (now ∷ next ∷ [])) ≤ 1
 not_twice table hostgroup now next holds ready later server light =
     let full = holds.full hostgroup in
@@ -365,8 +382,8 @@ factor_le n t m some le =
 
 pub heaviest_apart : (table : Table) (hostgroup : Hostgroup) (counts : List (List ℕ)) → Holds table
     → All (AllReady table.servers hostgroup) counts → (server : ServerId) → belongs table.servers hostgroup server ≡ true
-    → ((other : ServerId) → weights_in (rows_of table.servers) hostgroup other ≤ weights_in (rows_of table.servers) hostgroup server)
-    → length counts * weights_in (rows_of table.servers) hostgroup server ≤ weight_of_all (rows_of table.servers) hostgroup
+    → ((other : ServerId) → weights_in (turning_rows table.servers) hostgroup other ≤ weights_in (turning_rows table.servers) hostgroup server)
+    → length counts * weights_in (turning_rows table.servers) hostgroup server ≤ weight_of_all (turning_rows table.servers) hostgroup
     → times_picked server (picks table hostgroup counts) ≤ 1
 heaviest_apart table hostgroup counts holds ready server there most room =
     let full = holds.full hostgroup in

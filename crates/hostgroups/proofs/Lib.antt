@@ -8,3 +8,4 @@ pub mod Lookups
 pub mod Spread
 pub mod Turning
 pub mod Numbering
+pub mod Reloading

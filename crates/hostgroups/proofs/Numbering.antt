@@ -1,5 +1,5 @@
 -- One server more, and the numbers then.
-use Rattle.std.proofs.Common.{◌≡◌, ℕ, suc, ◌+◌, true, false, cond, List, [], ◌∷◌, ◌++◌, length, Option, Some, None, refl, eq-eqb, sym, ap, ◌∙◌, inl, inr, arith}
+use Rattle.std.proofs.Common.{◌≡◌, ℕ, suc, ◌+◌, true, false, cond, List, [], ◌∷◌, ◌++◌, length, Option, Some, None, is_some, refl, eq-eqb, sym, ap, ◌∙◌, inl, inr, arith}
 use Rattle.std.specs.Option.{option_or}
 use Rattle.std.proofs.lemmas.Bool.{cases_Bool, and_parts, eqb-true}
 use Rattle.std.proofs.lemmas.Slice.Eq.{bytes_eq-Decides}
@@ -71,3 +71,33 @@ number_of-last names name q before after new had has =
           let still : after ≡ number_of names q = has ∙ rw apart had in
           still ∙ sym (number_from-last 1 names name q ∙ rw (apart_back name q apart) (option_or-None (number_of names q)))
     ]
+
+-- a name that has a number keeps it, and so do the others
+pub number_of-known : (names : List ServerName) (name q : ServerName) → is_some (number_of names name) ≡ true
+    → number_of names q ≡ number_of (names ++ name ∷ []) q
+number_of-known names name q known =
+    elim (cases_Bool (same_server q name)) [
+      | inl same ↦
+          let one : q ≡ name = same_server-true q name same in
+          let some : is_some (number_of names q) ≡ true = rw one known in
+          sym (number_from-last 1 names name q ∙ or_known (number_of names q) (cond (same_server q name) (Some (record { 0 = 1 + length names })) None) some)
+      | inr apart ↦ sym (number_from-last 1 names name q ∙ rw apart (option_or-None (number_of names q)))
+    ]
+  where
+    or_known : {X : Type 0} (o other : Option X) → is_some o ≡ true → option_or o other ≡ o
+    or_known None other some = absurd cc
+    or_known (Some x) other some = refl
+
+number_from-more : (n : ℕ) (names more : List ServerName) (q : ServerName) (number : ServerId) → number_from n names q ≡ Some number
+    → number_from n (names ++ more) q ≡ Some number
+number_from-more n [] more q number some = absurd cc
+number_from-more n (first ∷ names) more q number some =
+    elim (cases_Bool (same_server q first)) [
+      | inl same ↦ rw same (rw same at some)
+      | inr other ↦ rw other (number_from-more (suc n) names more q number (rw other at some))
+    ]
+
+-- a name that has a number keeps it as others get theirs
+pub number_of-more : (names more : List ServerName) (q : ServerName) (number : ServerId) → number_of names q ≡ Some number
+    → number_of (names ++ more) q ≡ Some number
+number_of-more names more q number some = number_from-more 1 names more q number some

@@ -1,6 +1,7 @@
 pub mod Dealing
 pub mod Keys
 pub mod Picks
+pub mod Reloads
 pub mod Rounds
 pub mod Rows
 pub mod Servers

@@ -1,5 +1,5 @@
 -- Servers by number, and the rows that they have.
-use Rattle.std.specs.Prelude.{ℕ, zero, suc, Bool, false, List, [], ◌∷◌, map, slice_get, Option, None, Some, is_some}
+use Rattle.std.specs.Prelude.{ℕ, zero, suc, Bool, false, not, ◌&&◌, if◌then◌else◌, List, [], ◌∷◌, map, slice_get, Option, None, Some, is_some}
 use Rattle.mx_base.specs.declared.names.Hostgroup.{Hostgroup}
 use Rattle.mx_base.specs.declared.names.ServerId.{ServerId}
 use Rattle.hostgroups.specs.declared.row.ServerName.{ServerName}
@@ -18,7 +18,14 @@ names_of servers = map name_of (rows_of servers)
 
 -- a server as its row says
 abbrev pub in_force : ServerRow → Server
-in_force row = record { row = row; status = row.status }
+in_force row = record { row = row; status = row.status; gone = false }
+
+-- the row by which it has turns: one that has gone has none
+abbrev pub turning : Server → ServerRow
+turning server = record server.row { weight = if server.gone then 0 else server.row.weight }
+
+abbrev pub turning_rows : List Server → List ServerRow
+turning_rows servers = map turning servers
 
 abbrev pub nth : List Server → ℕ → Option Server
 nth servers zero = None
@@ -33,9 +40,9 @@ is_known servers server = is_some (server_at servers server)
 
 abbrev pub belongs_there : Hostgroup → Option Server → Bool
 belongs_there hostgroup None = false
-belongs_there hostgroup (Some server) = is_in hostgroup server.row
+belongs_there hostgroup (Some server) = is_in hostgroup server.row && not server.gone
 
--- whether the server of a number is one of a hostgroup
+-- whether the server of a number is one of a hostgroup, and hasn't gone
 abbrev pub belongs : List Server → Hostgroup → ServerId → Bool
 belongs servers hostgroup server = belongs_there hostgroup (server_at servers server)
 

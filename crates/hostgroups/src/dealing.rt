@@ -43,7 +43,7 @@ pub fn deal(
     rows: &[ServerRow],
     hostgroup: Hostgroup,
 ) -> Result<Vec<ServerId>, OutOfMemory>
-    requires few { length rows.now ≤ 1024 }
+    requires few { length rows.now ≤ 65535 }
     ensures { IfOk result (λ turns. IsFullRound rows.now hostgroup turns.items) }
 {
     let heaviest = heaviest(rows, hostgroup);
@@ -85,7 +85,7 @@ fn shares(
     hostgroup: Hostgroup,
     heaviest: u16,
 ) -> Result<Vec<Share>, OutOfMemory>
-    requires few { length rows.now ≤ 1024 }
+    requires few { length rows.now ≤ 65535 }
     requires heaviest { IsHeaviest hostgroup heaviest rows.now }
     ensures { IfOk result (λ shares. AreShares rows.now hostgroup heaviest shares.items) }
 {

@@ -6,6 +6,7 @@ mod fault;
 mod laws;
 mod numbered;
 mod numbers;
+mod reload;
 mod round;
 mod rounds;
 mod row;
@@ -13,7 +14,7 @@ mod server;
 mod servers;
 
 pub use fault::ServersFault;
-pub use laws::{full_round, heaviest_apart, not_twice};
+pub use laws::{full_round, heaviest_apart, not_twice, numbers_stay};
 pub use numbers::ServerNumbers;
 pub use row::{ServerName, ServerRow, ServerStatus};
 pub use servers::Servers;

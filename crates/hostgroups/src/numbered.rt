@@ -1,5 +1,6 @@
 // The servers by number.
 ghost use Rattle.std.specs.Prelude.{◌≡◌, ◌≤◌, ◌<◌, ◌++◌, ◌∷◌, [], length, map, OnOk, None, option_copied};
+ghost use Rattle.hostgroups.specs.Reloads.{row_named};
 ghost use Rattle.hostgroups.specs.Rows.{number_of, name_of, connections_of, fault_of};
 ghost use Rattle.hostgroups.specs.Servers.{server_at, in_force, is_known, rows_of, names_of, restated, with_status};
 ghost use Rattle.hostgroups.specs.Statuses.{once_ticked};
@@ -97,8 +98,33 @@ impl NumberedServers {
         self.servers.push(Server {
             row: *row,
             status: row.status,
+            gone: false,
         })?;
         Ok(())
+    }
+
+    /// Puts a server behind the others.
+    pub fn push(&mut self, server: Server) -> Result<(), OutOfMemory>
+        requires { length self.old < 65535 }
+        ensures { OnOk result (self.new ≡ self.old ++ server ∷ []) }
+    {
+        self.servers.reserve(1)?;
+        self.numbers.append(server.row.name())?;
+        self.servers.push(server)?;
+        Ok(())
+    }
+
+    /// The row of a name.
+    pub fn row_named(&self, name: ServerName) -> Option<ServerRow>
+        ensures { result ≡ row_named (rows_of self.now) name }
+    {
+        match self.number(name) {
+            Some(number) => match self.find(number) {
+                Some(server) => Some(server.row),
+                None => None,
+            },
+            None => None,
+        }
     }
 
     /// Gives a server a status. False exactly where no server has that number.

@@ -69,6 +69,21 @@ impl ServerNumbers {
         self.names.push(name)?;
         Ok(())
     }
+
+    /// Puts a name behind the others: it has the next number, unless it had one before.
+    pub fn append(&mut self, name: ServerName) -> Result<(), OutOfMemory>
+        requires { length self.old < 65535 }
+        ensures ok { OnOk result (self.new ≡ self.old ++ name ∷ []) }
+        ensures err { OnErr result (self.new ≡ self.old) }
+    {
+        match self.number(name) {
+            Some(_) => {
+                self.names.push(name)?;
+                Ok(())
+            }
+            None => self.add(name),
+        }
+    }
 }
 
 fn key(name: ServerName) -> NameKey

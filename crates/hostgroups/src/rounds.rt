@@ -46,7 +46,7 @@ impl Rounds {
 
     /// The rounds of a table, each before its first turn.
     pub fn of(alloc: Global, rows: &[ServerRow]) -> Result<Self, OutOfMemory>
-        requires few { length rows.now ≤ 1024 }
+        requires few { length rows.now ≤ 65535 }
         ensures { IfOk result (λ rounds. AreFull rows.now rounds) }
     {
         let mut rounds = Rounds::new(alloc);

@@ -1,5 +1,6 @@
 // The rows of the table of servers.
 ghost use Rattle.std.specs.Prelude.{◌≡◌};
+ghost use Rattle.hostgroups.specs.Reloads.{status_behind};
 ghost use Rattle.hostgroups.specs.Statuses.{is_online, once_failed, once_ticked};
 
 use mx_base::{Address, Hostgroup};
@@ -50,6 +51,18 @@ impl ServerStatus {
         match self {
             ServerStatus::Shunned { until_ms } if until_ms <= now_ms => ServerStatus::Online,
             other => other,
+        }
+    }
+
+    // The status once a row with this one is put in force: a server that is SHUNNED stays so where that says ONLINE.
+    pub(crate) fn behind(self, status: ServerStatus) -> Self
+        ensures { result ≡ status_behind self status }
+    {
+        match (self, status) {
+            (ServerStatus::Shunned { until_ms }, ServerStatus::Online) => {
+                ServerStatus::Shunned { until_ms }
+            }
+            (_, status) => status,
         }
     }
 }

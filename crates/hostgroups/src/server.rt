@@ -1,16 +1,32 @@
 // A server, found by its number.
 ghost use Rattle.std.specs.Prelude.{◌≡◌, option_copied};
-ghost use Rattle.hostgroups.specs.Servers.{server_at};
+ghost use Rattle.hostgroups.specs.Servers.{server_at, turning};
 ghost use Rattle.hostgroups.specs.Picks.{connections_at, is_ready, is_online_at};
 
 use crate::{ServerRow, ServerStatus};
 use mx_base::ServerId;
 
-/// A server: the row that was last put in force for it, and its status now.
+/// A server: the row that was last put in force for it, its status now, and whether it has gone: no row in force is its own.
 #[derive(Clone, Copy)]
 pub struct Server {
     pub row: ServerRow,
     pub status: ServerStatus,
+    pub gone: bool,
+}
+
+impl Server {
+    /// The row by which it has turns: one that has gone has none.
+    pub(crate) fn turning(&self) -> ServerRow
+        ensures { result ≡ turning self.now }
+    {
+        ServerRow {
+            hostgroup: self.row.hostgroup,
+            address: self.row.address,
+            weight: if self.gone { 0 } else { self.row.weight },
+            max_connections: self.row.max_connections,
+            status: self.row.status,
+        }
+    }
 }
 
 // The server of a number.

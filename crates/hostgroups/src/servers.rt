@@ -1,13 +1,15 @@
 // The servers of a table, and which of them is picked.
-ghost use Rattle.std.specs.Prelude.{◌≡◌, ◌≢◌, ◌≤◌, ◌↔◌, true, false, length, map, All, IfOk, OnOk, IfErr, IfSome, IfNone, IsTrue, Some, None, option_map, option_copied};
+ghost use Rattle.std.specs.Prelude.{◌≡◌, ◌≢◌, ◌≤◌, ◌↔◌, true, false, length, map, All, IfOk, OnOk, OnErr, IfErr, IfSome, IfNone, IsTrue, Some, None, option_map, option_copied};
 ghost use Rattle.mx_base.specs.declared.names.ServerId.{ServerId};
+ghost use Rattle.hostgroups.specs.Reloads.{reload_fault, reloaded};
 ghost use Rattle.hostgroups.specs.Rows.{number_of, first_fault};
 ghost use Rattle.hostgroups.specs.Rounds.{AreFull};
-ghost use Rattle.hostgroups.specs.Servers.{belongs, server_at, in_force, is_known, names_of, once_open_failed, restated, with_status};
+ghost use Rattle.hostgroups.specs.Servers.{belongs, server_at, in_force, is_known, names_of, once_open_failed, restated, turning_rows, with_status};
 ghost use Rattle.hostgroups.specs.Statuses.{once_ticked};
 ghost use Rattle.hostgroups.specs.Picks.{is_online_at, is_ready, picked, after_pick};
 
 use crate::numbered::NumberedServers;
+use crate::reload::turning_rows;
 use crate::rounds::Rounds;
 use crate::{ServerName, ServerRow, ServerStatus, ServersFault};
 use mx_base::{Address, Hostgroup, ServerId};
@@ -47,6 +49,27 @@ impl Servers {
         let servers = numbered(alloc, rows)?;
         let rounds = Rounds::of(alloc, rows)?;
         Ok(Servers { servers, rounds })
+    }
+
+    /// Puts these rows in force in place of those that are (ProxySQL, `LOAD MYSQL SERVERS TO RUNTIME`). A server keeps its number by its
+    /// hostgroup and address; one without a row has gone, has no turns and is OFFLINE_HARD; one that is SHUNNED stays so where its row says
+    /// ONLINE. New ones get the next numbers, in the order of their rows. Each round is dealt anew. Of several faults the one at the earliest
+    /// row comes, and there in the order in which `ServersFault` has them. A fault leaves everything as it was.
+    pub fn reload(&mut self, alloc: Global, rows: &[ServerRow]) -> Result<(), ServersFault>
+        requires weights { All (λ row. 1 ≤ row.weight) rows.now }
+        ensures servers { OnOk result (self.new.servers ≡ reloaded self.old.servers rows.now) }
+        ensures rounds { OnOk result (AreFull (turning_rows self.new.servers) self.new.rounds) }
+        ensures sound { OnOk result (reload_fault self.old.servers rows.now ≡ None) }
+        ensures fault { IfErr result (λ fault. fault ≢ ServersFault.OutOfMemory → reload_fault self.old.servers rows.now ≡ Some fault) }
+        ensures same { OnErr result (self.new ≡ self.old) }
+    {
+        let wanted = self.servers.wanted(alloc, rows)?;
+        let servers = self.servers.reloaded(alloc, &wanted, rows)?;
+        let turning = turning_rows(alloc, servers.as_slice())?;
+        let rounds = Rounds::of(alloc, &turning)?;
+        self.servers = servers;
+        self.rounds = rounds;
+        Ok(())
     }
 
     /// The number of a server, None exactly where no row of that hostgroup and address was put in force.

@@ -1,10 +1,11 @@
 -- What is read on a link to a server.
-use Rattle.std.specs.Prelude.{◌≡◌, ℕ, Bool, true, ◌||◌, nat_lt, List, length, Option, Some, None, Result, Ok, Err}
+use Rattle.std.specs.Prelude.{◌≡◌, ℕ, true, not, ◌||◌, nat_eq, nat_lt, List, length, Option, Some, None, Result, Ok, Err}
 use Rattle.reply_track.specs.Runs.{renumbered, run}
 use Rattle.reply_track.specs.declared.reply.ReplyKind.TheVariants as kinds
 use Rattle.server_side.specs.Backend.{BackendState}
 use Rattle.server_side.specs.declared.fault.BackendFault.{BackendFault}
 use Rattle.server_side.specs.declared.hear.Heard.{Heard}
+use Rattle.server_side.specs.declared.hear.Heard.TheVariants.{LoggedIn}
 use Rattle.link_state.specs.Asks as asks
 use Rattle.link_state.specs.States.{ran}
 use Rattle.link_state.specs.Writes.{answer_id}
@@ -19,9 +20,14 @@ use Rattle.lent_link.specs.declared.reading.Reading.{Reading}
 use Rattle.lent_link.specs.declared.reading.Took.{Took}
 use Rattle.lent_link.specs.declared.reading.Took.TheVariants.{Part, Whole, Bad}
 
--- In a login. Behind a fault the link is spoilt.
+-- In a login. Behind a fault the link is spoilt, and so it is by bytes behind the end, which nobody asked for.
+
+abbrev pub entered_as : Heard → BackendState → LentLink → LentLink
+entered_as LoggedIn login link = record link { login = login; spoilt = link.spoilt || not (nat_eq (length login.framer.kept) 0) }
+entered_as heard login link = record link { login = login }
+
 abbrev pub entered : Result Heard BackendFault → BackendState → LentLink → LentLink
-entered (Ok heard) login link = record link { login = login }
+entered (Ok heard) login link = entered_as heard login link
 entered (Err fault) login link = record link { login = login; spoilt = true }
 
 -- Behind it. With the first byte of an answer what stands there runs.

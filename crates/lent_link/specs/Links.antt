@@ -44,6 +44,15 @@ abbrev pub stands_next : Tag → Spelt → Begins → (first number : ℕ) → L
 stands_next tag spelt next first number link =
     record link { next = Some next; writing = Some (writes.writing tag spelt); first = first; number = number }
 
+-- no byte of it was written, and it is taken back
+
+abbrev pub unbegun_by : Option Begins → LentLink → LentLink
+unbegun_by None link = link
+unbegun_by (Some next) link = record link { next = None; writing = None }
+
+abbrev pub unbegun : LentLink → LentLink
+unbegun link = unbegun_by link.next link
+
 abbrev pub left_of : Option Writing → Option Sent
 left_of None = None
 left_of (Some writing) = writes.left_of writing

@@ -1,6 +1,6 @@
 // What is read on a link to a server.
 ghost use Rattle.std.specs.Prelude.{◌≡◌};
-ghost use Rattle.server_side.specs.Hearing.{Gives, got_of};
+ghost use Rattle.server_side.specs.Hearing.{Gives, entered_of};
 ghost use Rattle.lent_link.specs.Hears.{entered, expecting, followed, id_written, read_by};
 
 use crate::link::{LentLink, Step};
@@ -10,14 +10,20 @@ use reply_track::ReplyKind;
 use server_side::{BackendFault, Heard};
 
 impl LentLink {
-    /// Bytes were read in the login. Behind a fault the link is of no use any more.
+    /// Bytes were read in the login. Behind a fault the link is of no use any more; nor is it where bytes that nobody asked for stand
+    /// behind the OK that logs the router in.
     pub fn enter(&mut self, piece: &mut [u8]) -> Result<Heard, BackendFault>
-        ensures heard { Gives result self.new.login (got_of piece.old self.old.login) }
+        ensures heard { Gives result self.new.login (entered_of piece.old self.old.login) }
         ensures rest { self.new ≡ entered result self.new.login self.old }
     {
-        let heard = self.login.got(piece);
-        if heard.is_err() {
-            self.spoilt = true;
+        let heard = self.login.enter(piece);
+        match &heard {
+            Ok(Heard::LoggedIn) => {
+                let unasked = self.login.unasked();
+                self.spoilt = self.spoilt || unasked != 0;
+            }
+            Ok(_) => {}
+            Err(_) => self.spoilt = true,
         }
         heard
     }

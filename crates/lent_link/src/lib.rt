@@ -8,6 +8,6 @@ mod link;
 mod reading;
 mod resting;
 
-pub use laws::pieces_are_one;
+pub use laws::{pieces_are_one, wishes_are_taken_back};
 pub use link::{Begins, LentLink, Step};
 pub use reading::{Reading, Took};

@@ -2,7 +2,7 @@
 ghost use Rattle.std.specs.Prelude.{◌≡◌, ◌<◌, IfOk};
 ghost use Rattle.mx_base.specs.Sent.{IsLent, MayTake};
 ghost use Rattle.handshake.specs.Spelling.{IsText};
-ghost use Rattle.lent_link.specs.Links.{begun, is_in, left_in, new_link, stands_next, wrote_on};
+ghost use Rattle.lent_link.specs.Links.{begun, is_in, left_in, new_link, stands_next, unbegun, wrote_on};
 
 use crate::reading::Reading;
 use link_state::{Asking, LinkState, Spelt, Writing};
@@ -95,6 +95,16 @@ impl LentLink {
         self.writing = Some(Writing::new(tag, spelt));
         self.first = first;
         self.number = number;
+    }
+
+    /// What is to be written next, and of which no byte was, is taken back; nothing changes where a byte of it was. Takes no memory.
+    pub fn unbegin(&mut self)
+        ensures { self.new ≡ unbegun self.old }
+    {
+        if self.next.is_some() {
+            self.next = None;
+            self.writing = None;
+        }
     }
 
     /// What is to be written, with its tag.

@@ -5,6 +5,9 @@ use crate::OutOfMemory;
 use std::alloc::Global;
 use std::marker::Model;
 
+/// The room that a queue of few bytes keeps, in bytes.
+const IDLE: usize = 4_096;
+
 /// Bytes that come at the back and go at the front, which contracts see as the list of those that are left.
 /// Each byte is moved a bounded number of times, however the bytes come and go: those that are left move to
 /// the front only when at least as many have gone.
@@ -58,6 +61,16 @@ impl ByteQueue {
         ensures { self.new ≡ drop n self.old }
     {
         self.gone += n;
+    }
+
+    /// Gives memory back where few bytes are left, but for 4,096 bytes. Takes none.
+    pub fn rest(&mut self)
+        ensures { self.new ≡ self.old }
+    {
+        self.settle();
+        if self.items.len() <= IDLE {
+            self.items.shrink_to(IDLE);
+        }
     }
 
     // Moves what is left to the front, where at least as much has gone.

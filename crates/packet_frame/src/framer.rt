@@ -98,6 +98,13 @@ impl Framer {
         self.kept.clear();
     }
 
+    /// Gives memory back where few bytes are kept, but for 4,096 bytes. Takes none.
+    pub fn rest(&mut self)
+        ensures { self.new ≡ self.old }
+    {
+        self.kept.shrink();
+    }
+
     /// How many bytes are kept.
     pub fn kept(&self) -> u64
         ensures { result ≡ length self.now.kept }

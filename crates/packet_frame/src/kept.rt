@@ -8,6 +8,9 @@ use mx_base::OutOfMemory;
 use std::alloc::Global;
 use std::marker::Model;
 
+/// The room that is kept for few bytes, in bytes.
+const IDLE: usize = 4_096;
+
 /// The bytes that a framer keeps, and the packets of the first message that are joined. The bodies of these stand one
 /// behind the other, behind the header of the first: so a message of one packet stays where it came, and of a longer one
 /// each body is moved once, over the headers before it, which are told by their number and the first one's id. What
@@ -68,6 +71,16 @@ impl Kept {
         if self.gone >= left {
             self.items.drain(..self.gone);
             self.gone = 0;
+        }
+    }
+
+    /// Gives memory back where few bytes are kept, but for 4,096 bytes. Takes none.
+    pub fn shrink(&mut self)
+        ensures { self.new ≡ self.old }
+    {
+        self.settle();
+        if self.items.len() <= IDLE {
+            self.items.shrink_to(IDLE);
         }
     }
 

@@ -1,2 +1,3 @@
 pub mod Blind
 pub mod Ends
+pub mod Spelled

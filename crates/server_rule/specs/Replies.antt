@@ -1,6 +1,6 @@
 -- How a reply ended, by its payloads.
-use Rattle.std.specs.Prelude.{ℕ, ◌+◌, Bool, true, false, ◌&&◌, nat_eq, nat_lt, bytes_eq, if◌then◌else◌, List, [], ◌∷◌, take, drop, length, slice_index_or, decimal, Option, Some, None}
-use Rattle.std.specs.Str.Parse.{digits_value}
+use Rattle.std.specs.Prelude.{ℕ, ◌+◌, Bool, true, false, ◌&&◌, nat_eq, nat_lt, if◌then◌else◌, List, [], ◌∷◌, take, drop, length, slice_index_or, Option, Some, None}
+use Rattle.mx_base.specs.Decimal.{decimal_value, in_64_bits, is_decimal}
 use Rattle.mx_base.specs.Fields.{number_at, lenenc_at}
 use Rattle.mx_base.specs.declared.fields.Field.{Field}
 use Rattle.mx_base.specs.declared.fields.Field.TheVariants.{Value}
@@ -71,9 +71,9 @@ reply_end false payloads = end_by (last_payload payloads)
 
 -- The one number of one row: the answer to `SELECT LAST_INSERT_ID()`.
 
--- the number that a text spells as `{}` prints it
+-- the number that a text spells as `{}` prints it, where 64 bits hold it
 abbrev pub number_spelled : List ℕ → Option ℕ
-number_spelled text = if bytes_eq (decimal (digits_value 10 text)) text then Some (digits_value 10 text) else None
+number_spelled text = if is_decimal text then in_64_bits (decimal_value text) else None
 
 abbrev pub text_behind : Field → List ℕ → Option ℕ
 text_behind (Value size next) row = number_spelled (take size (drop next row))

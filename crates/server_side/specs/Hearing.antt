@@ -1,5 +1,5 @@
 -- What is heard on a link to a server, and what is left of it.
-use Rattle.std.specs.Prelude.{◌≡◌, ℕ, zero, suc, ◌+◌, ◌-◌, nat_eq, not, ◌&&◌, bytes_eq, List, ◌++◌, length, take, Option, Some, None, Result, Ok, Err, if◌then◌else◌}
+use Rattle.std.specs.Prelude.{◌≡◌, ℕ, zero, suc, ◌+◌, ◌-◌, Bool, nat_eq, bytes_eq, List, ◌++◌, length, take, Option, Some, None, Result, Ok, Err, if◌then◌else◌}
 use Rattle.packet_frame.specs.FramerState.{FramerState, look, seen, past}
 use Rattle.packet_frame.specs.Packets.{Framed, Found}
 use Rattle.packet_frame.specs.Packets.Found.{Nothing, Whole, Faulty}
@@ -65,8 +65,9 @@ found_by read backend Nothing = nothing Quiet backend
 found_by read backend (Whole message rest) = read message (behind message backend)
 found_by read backend (Faulty fault) = bad
 
-abbrev pub accepted_by : (accepted : Rattle.std.specs.Prelude.Bool) → BackendState → Got
-accepted_by accepted backend = if accepted && nat_eq (length backend.framer.kept) 0 then Hears LoggedIn (record backend { stage = stage.In }) else bad
+-- an OK logs the router in, whatever stands behind it
+abbrev pub accepted_by : (accepted : Bool) → BackendState → Got
+accepted_by accepted backend = if accepted then Hears LoggedIn (record backend { stage = stage.In }) else bad
 
 abbrev pub end_told : Option ℕ → Framed → BackendState → Got
 end_told (Some code) message backend = Fails (Denied code)
@@ -153,10 +154,30 @@ reply_due (Some command) piece backend = reply_begun command.sent piece command 
 abbrev pub fed : BackendState → List ℕ → BackendState
 fed backend piece = record backend { framer = record backend.framer { kept = backend.framer.kept ++ piece } }
 
+-- what a piece tells of the login
+abbrev pub enters : Stage → (piece : List ℕ) → BackendState → Got
+enters stage.Greeting piece backend = greeting_found (fed backend piece) (look 0 (fed backend piece).framer)
+enters stage.Welcome piece backend = welcome_found (fed backend piece) (look 2 (fed backend piece).framer)
+enters stage.Switched piece backend = end_found (fed backend piece) (look 4 (fed backend piece).framer)
+enters stage.In piece backend = bad
+enters stage.Lost piece backend = bad
+
+abbrev pub entered_of : List ℕ → BackendState → Got
+entered_of piece backend = enters backend.stage piece backend
+
+-- bytes behind the login's end are bad
+abbrev pub alone_by : Heard → BackendState → Got
+alone_by LoggedIn backend = if nat_eq (length backend.framer.kept) 0 then Hears LoggedIn backend else bad
+alone_by heard backend = Hears heard backend
+
+abbrev pub alone : Got → Got
+alone (Hears heard backend) = alone_by heard backend
+alone (Fails fault) = Fails fault
+
 abbrev pub hears : Stage → (piece : List ℕ) → BackendState → Got
-hears stage.Greeting piece backend = greeting_found (fed backend piece) (look 0 (fed backend piece).framer)
-hears stage.Welcome piece backend = welcome_found (fed backend piece) (look 2 (fed backend piece).framer)
-hears stage.Switched piece backend = end_found (fed backend piece) (look 4 (fed backend piece).framer)
+hears stage.Greeting piece backend = alone (enters stage.Greeting piece backend)
+hears stage.Welcome piece backend = alone (enters stage.Welcome piece backend)
+hears stage.Switched piece backend = alone (enters stage.Switched piece backend)
 hears stage.In piece backend = reply_due backend.command piece backend
 hears stage.Lost piece backend = bad
 

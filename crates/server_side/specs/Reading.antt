@@ -31,6 +31,14 @@ pub record IsLoggingIn (backend : BackendState) (read said : List ℕ) : Type 0 
   pub unreplied : backend.reply ≡ []
   pub idle : backend.command ≡ None
 
+-- it is there, and what is kept stands behind it
+pub record HasEntered (backend : BackendState) (read said : List ℕ) : Type 0 where
+  pub stage : backend.stage ≡ stage.In
+  pub framer : IsReading backend.framer
+  pub is : (more : List ℕ) → opening backend.account (read ++ more) ≡ LogsIn said (backend.framer.kept ++ more)
+  pub unreplied : backend.reply ≡ []
+  pub idle : backend.command ≡ None
+
 -- it is there, and nothing stands behind it
 pub record HasLoggedIn (backend : BackendState) (read said : List ℕ) : Type 0 where
   pub stage : backend.stage ≡ stage.In
@@ -46,7 +54,23 @@ HasFailed (Goes said) fault = ⊥
 HasFailed (LogsIn said rest) fault = (0 < length rest) × (fault ≡ BadBytes 0)
 HasFailed (Fails said why) fault = fault ≡ why
 
--- what a piece tells of a login, where `written` was written of what the router says, and `read` was read with the piece
+-- what a piece tells of a login, where `written` was written of what the router says, and `read` was read with the piece, whatever stands
+-- behind the login
+
+abbrev pub FailsBy : Opening → BackendFault → Type 0
+FailsBy (Goes said) fault = ⊥
+FailsBy (LogsIn said rest) fault = ⊥
+FailsBy (Fails said why) fault = fault ≡ why
+
+abbrev pub EntersBy : Got → BackendState → (written read : List ℕ) → Type 0
+EntersBy (Hears Quiet left) old written read =
+    IsLoggingIn left read (written ++ left.own) × (left.account ≡ old.account) × (opening old.account read ≡ Goes (written ++ left.own))
+EntersBy (Hears LoggedIn left) old written read = HasEntered left read (written ++ left.own) × (left.account ≡ old.account)
+EntersBy (Hears (Part used) left) old written read = ⊥
+EntersBy (Hears (Whole used) left) old written read = ⊥
+EntersBy (GotFault fault) old written read = FailsBy (opening old.account read) fault
+
+-- and where nothing may stand behind it
 abbrev pub TellsOf : Got → BackendState → (written read : List ℕ) → Type 0
 TellsOf (Hears Quiet left) old written read = IsLoggingIn left read (written ++ left.own) × (left.account ≡ old.account) × (opening old.account read ≡ Goes (written ++ left.own))
 TellsOf (Hears LoggedIn left) old written read = HasLoggedIn left read (written ++ left.own) × (left.account ≡ old.account)

@@ -24,8 +24,8 @@ pub enum Heard {
 }
 
 impl Backend {
-    ghost use Rattle.std.specs.Prelude.{◌≡◌, IsSome, IfSome};
-    ghost use Rattle.server_side.specs.Hearing.{Gives, Tells, behind, got_of, hears, greeting_found, greeting_read, greeted, welcome_found, welcome_read, switched, end_found, end_read, accepted_by};
+    ghost use Rattle.std.specs.Prelude.{◌≡◌, length, IsSome, IfSome};
+    ghost use Rattle.server_side.specs.Hearing.{Gives, Tells, alone_by, behind, entered_of, enters, got_of, hears, greeting_found, greeting_read, greeted, welcome_found, welcome_read, switched, end_found, end_read, accepted_by};
     ghost use Rattle.packet_frame.specs.FramerState.{look};
 
     /// Takes bytes that were read (client/server protocol, "Connection Phase", and "Command Phase" for what a reply is): of the
@@ -47,9 +47,60 @@ impl Backend {
         heard
     }
 
-    // What the piece says. What a login reads is kept until a message is whole.
+    /// Takes bytes of the login alone, as `got` does, but for bytes behind the OK that ends it: the router is logged in then, and `unasked`
+    /// says how many there are.
+    pub fn enter(&mut self, piece: &[u8]) -> Result<Heard, BackendFault>
+        ensures { Gives result self.new (entered_of piece.now self.old) }
+    {
+        let heard = self.hear_login(piece);
+        match &heard {
+            Ok(_) => {}
+            Err(BackendFault::OutOfMemory) => {}
+            Err(_) => self.stage = Stage::Lost,
+        }
+        heard
+    }
+
+    /// How many bytes of the login are kept: behind its end those that nobody asked for.
+    pub fn unasked(&self) -> u64
+        ensures { result ≡ length self.now.framer.kept }
+    {
+        self.framer.kept()
+    }
+
+    // What the piece says.
     fn hear(&mut self, piece: &mut [u8]) -> Result<Heard, BackendFault>
         ensures { Tells result self.new (hears self.old.stage piece.old self.old) }
+    {
+        match self.stage {
+            Stage::In => self.hear_reply(piece),
+            Stage::Greeting | Stage::Welcome | Stage::Switched | Stage::Lost => {
+                match self.hear_login(piece) {
+                    Ok(heard) => self.alone(heard),
+                    Err(fault) => Err(fault),
+                }
+            }
+        }
+    }
+
+    // Bytes behind the login's end are bad.
+    fn alone(&mut self, heard: Heard) -> Result<Heard, BackendFault>
+        ensures { Tells result self.new (alone_by heard self.old) }
+    {
+        match heard {
+            Heard::LoggedIn => {
+                if self.framer.kept() != 0 {
+                    return Err(BackendFault::BadBytes { at: 0 });
+                }
+                Ok(Heard::LoggedIn)
+            }
+            heard => Ok(heard),
+        }
+    }
+
+    // What the piece says of the login, which keeps what it reads until a message is whole.
+    fn hear_login(&mut self, piece: &[u8]) -> Result<Heard, BackendFault>
+        ensures { Tells result self.new (enters self.old.stage piece.now self.old) }
     {
         match self.stage {
             Stage::Greeting => {
@@ -64,8 +115,7 @@ impl Backend {
                 self.framer.feed(piece)?;
                 self.hear_end()
             }
-            Stage::In => self.hear_reply(piece),
-            Stage::Lost => Err(BackendFault::BadBytes { at: 0 }),
+            Stage::In | Stage::Lost => Err(BackendFault::BadBytes { at: 0 }),
         }
     }
 
@@ -177,11 +227,11 @@ impl Backend {
         self.accept(accepted)
     }
 
-    // An OK logs the router in, unless bytes stand behind it.
+    // An OK logs the router in.
     fn accept(&mut self, accepted: bool) -> Result<Heard, BackendFault>
         ensures { Tells result self.new (accepted_by accepted self.old) }
     {
-        if !accepted || self.framer.kept() != 0 {
+        if !accepted {
             return Err(BackendFault::BadBytes { at: 0 });
         }
         self.stage = Stage::In;

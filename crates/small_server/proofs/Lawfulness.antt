@@ -1,15 +1,14 @@
 -- The small server is tame.
 use Rattle.std.specs.Prelude.{◌≡◌, ◌≢◌, ◌⊎◌, ℕ, ◌<◌, ◌^◌, Bool, true, false, not, ◌&&◌, nat_eq, bytes_eq, if◌then◌else◌, List, [], ◌∷◌, ◌||◌, is_some, length, take, drop, decimal, codes, Option, Some, None}
 use Rattle.std.specs.Fmt.{digits}
-use Rattle.std.specs.Str.Parse.{digits_value}
 use Rattle.std.proofs.Common.{refl, sym, ap, ◌∙◌, subst, inl, inr, arith}
-use Rattle.std.proofs.lemmas.Fmt.{decimal_is_IsNumeral}
 use Rattle.std.proofs.lemmas.List.{take_at, drop_at}
 use Rattle.session_vars.specs.declared.change.Change.{Change}
 use Rattle.session_state.specs.Classes.{Effect, Tracked, Uses, Neither, effect_of, schema_by, settings_by}
 use Rattle.session_state.specs.Endings.{brings_id, is_err, is_ok, shows_transaction}
 use Rattle.pin_classifier.specs.declared.class.Class.{Class}
 use Rattle.server_rule.proofs.Blind.{blind_same, blind_whole}
+use Rattle.server_rule.proofs.Spelled.{spelled_again}
 use Rattle.server_rule.specs.Classes.{Reads, effect_run, is_close, is_prepare, sees_diag, sees_id, text_run}
 use Rattle.server_rule.specs.Laws.{IdLaw, IsOkOrErr, IsTame, TextLaw}
 use Rattle.server_rule.specs.Replies.{number_spelled, one_number, reply_end}
@@ -308,19 +307,6 @@ reply_kind (Uses schema) class rows text stored s some = (uses_by (is_special te
 reply_kind Neither class rows text stored s some = absurd (some refl)
 
 -- The two texts of the insert id.
-
-same_number : (n : ℕ) → nat_eq n n ≡ true
-same_number n = search arith
-
-same_bytes : (xs : List ℕ) → bytes_eq xs xs ≡ true
-same_bytes [] = refl
-same_bytes (x ∷ xs) = ap (λ b. b && bytes_eq xs xs) (same_number x) ∙ same_bytes xs
-
-spelled_again : (n : ℕ) → n < 2 ^ 64 → number_spelled (decimal n) ≡ Some n
-spelled_again n small =
-    let is : digits_value 10 (decimal n) ≡ n = (decimal_is_IsNumeral n small).1 in
-    let same : bytes_eq (decimal (digits_value 10 (decimal n))) (decimal n) ≡ true = ap (λ k. bytes_eq (decimal k) (decimal n)) is ∙ same_bytes (decimal n) in
-    ap (λ b. if b then Some (digits_value 10 (decimal n)) else None) same ∙ ap Some is
 
 set_again : (n : ℕ) → n < 2 ^ 64 → id_set (set_id_text n) ≡ Some n
 set_again n small =

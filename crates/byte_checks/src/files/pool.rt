@@ -1,9 +1,9 @@
 // What is asked of a table of servers.
 use crate::files::answers::{Answering, answer_all};
-use crate::files::rows::rows_of;
-use crate::files::servers::build;
+use crate::files::rows::{rows_by, rows_of};
+use crate::files::servers::{build, reload};
 use check_lines::{Answer, Fields};
-use hostgroups::{ServerStatus, Servers};
+use hostgroups::{ServerRow, ServerStatus, Servers};
 use mx_base::{Hostgroup, ServerId};
 use std::fmt::Debug;
 
@@ -25,6 +25,7 @@ struct Pool {
 /// | `tick:<ms>` | this moment |
 /// | `up:<server>`, `soft:<server>`, `hard:<server>` | an operator's status: ONLINE, OFFLINE_SOFT, OFFLINE_HARD |
 /// | `online:<hostgroup>`, `status:<server>` | what `Servers` says |
+/// | `load:<row>/<row>..` | these rows are put in force |
 pub(crate) fn follow(fields: &mut Fields<'_>) {
     let (rows, steps) = fields.rest_text().split_once(" | ").unwrap_or(("", ""));
     let rows = rows_of(fields, rows);
@@ -54,8 +55,13 @@ fn told_pick(answer: &mut Answer, picked: Option<ServerId>) {
 // `<name>:<first>` or `<name>:<first>,<second>`.
 impl Answering for Pool {
     fn answer(&mut self, fields: &mut Fields<'_>) {
-        let answer = &mut fields.answer;
         let (name, numbers) = fields.case.reader.split_once(':').unwrap_or(("", ""));
+        if name == "load" {
+            let rows = rows_by(fields, numbers, "/");
+            self.load(&mut fields.answer, &rows);
+            return;
+        }
+        let answer = &mut fields.answer;
         let (first, second) = numbers.split_once(',').unwrap_or((numbers, "0"));
         let first = answer.parsed(first);
         let second = answer.parsed(second);
@@ -88,6 +94,11 @@ impl Pool {
             _ => return answer.bad(),
         };
         told(answer, self.servers.set_status(server, status));
+    }
+
+    fn load(&mut self, answer: &mut Answer, rows: &[ServerRow]) {
+        let loaded = reload(answer.alloc(), &mut self.servers, rows);
+        told(answer, loaded);
     }
 
     fn picks(&mut self, answer: &mut Answer, hostgroup: Hostgroup, times: u64) {

@@ -67,13 +67,18 @@ impl Answering for Vec<ServerRow> {
     }
 }
 
-/// The rows of fields with a blank between each two.
-pub(crate) fn rows_of<'a>(fields: &mut Fields<'a>, text: &'a str) -> Vec<ServerRow> {
+/// The rows of fields with such a mark between each two.
+pub(crate) fn rows_by<'a>(fields: &mut Fields<'a>, text: &'a str, mark: &str) -> Vec<ServerRow> {
     let mut rows = Vec::new(fields.answer.alloc());
     if !text.is_empty() {
-        answer_all(fields, &mut rows, text, " ", "");
+        answer_all(fields, &mut rows, text, mark, "");
     }
     rows
+}
+
+/// The rows of fields with a blank between each two.
+pub(crate) fn rows_of<'a>(fields: &mut Fields<'a>, text: &'a str) -> Vec<ServerRow> {
+    rows_by(fields, text, " ")
 }
 
 /// So many rows of the host 1, each with a port of its own and so many connections.

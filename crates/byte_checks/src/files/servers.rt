@@ -21,6 +21,18 @@ pub(crate) fn build(alloc: Global, rows: &[ServerRow]) -> Result<Servers, Server
     Servers::build(alloc, rows)
 }
 
+/// Puts these rows in force.
+pub(crate) fn reload(
+    alloc: Global,
+    servers: &mut Servers,
+    rows: &[ServerRow],
+) -> Result<(), ServersFault> {
+    if !rows.iter().all(|row| row.weight >= 1) {
+        return Err(ServersFault::NumbersSpent);
+    }
+    servers.reload(alloc, rows)
+}
+
 // The answer of a table of these rows, or of none where it has a fault.
 fn ask(answer: &mut Answer, rows: &[ServerRow], asked: Asked) {
     match build(answer.alloc(), rows) {

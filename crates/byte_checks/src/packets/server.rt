@@ -13,7 +13,7 @@ const COMMAND: Tag = Tag::For {
 };
 
 /// `backend <found rows> <user> <password> <step> ..`: a Backend that is led through the steps `got=<piece>`, `each=<piece>`,
-/// whose bytes come each alone, `command=<first>:<payload>`, `write`, which is outgoing and then taken whole,
+/// whose bytes come each alone, `enter=<piece>`, `command=<first>:<payload>`, `write`, which is outgoing and then taken whole,
 /// `taken=<count>`, `withdraw` and the words of `look`.
 pub fn log_in(fields: &mut Fields<'_>) {
     let found_rows = fields.text() == "true";
@@ -32,6 +32,7 @@ impl Steps for Backend {
         match call {
             "got" => debug(answer, self.got(bytes)),
             "each" => debug(answer, each(self, bytes)),
+            "enter" => debug(answer, self.enter(bytes)),
             "command" => command(answer, self, argument),
             "taken" => take(answer, self, argument),
             "write" => write(answer, self),
@@ -63,6 +64,7 @@ fn look(answer: &mut Answer, backend: &Backend, call: &str) {
         "has_command" => debug(answer, backend.has_command()),
         "is_begun" => debug(answer, backend.is_begun()),
         "is_sent" => debug(answer, backend.is_sent()),
+        "unasked" => debug(answer, backend.unasked()),
         _ => answer.bad(),
     }
 }

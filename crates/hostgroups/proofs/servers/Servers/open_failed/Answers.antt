@@ -1,14 +1,14 @@
 use Rattle.std.proofs.Common.{◌≡◌, refl}
 use Rattle.hostgroups.specs.Servers.{changed}
 use Rattle.hostgroups.specs.Statuses.{once_failed}
-use Rattle.hostgroups.proofs.Changes.{changed_so, rows_of-changed, unchanged}
+use Rattle.hostgroups.proofs.Changes.{changed_so, same-changed, unchanged}
 use Rattle.hostgroups.proofs.Fairness.{holds_same_rows}
 use Rattle.hostgroups.proofs.servers.Servers.open_failed.Goals as goal
 
 pub invariant_of-self : goal.invariant_of-self
 invariant_of-self c =
     rw c.set_status.ensures.servers (holds_same_rows c.self.inside.servers _ c.self.inside.rounds
-    (rows_of-changed c.self.inside.servers c.args.server.0 (λ _. c.once_failed.result)) c.self.invariant)
+    (same-changed c.self.inside.servers c.args.server.0 (λ _. c.once_failed.result)) c.self.invariant)
 
 pub returns-in-Some : goal.returns-in-Some
 returns-in-Some c =
