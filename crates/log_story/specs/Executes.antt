@@ -92,21 +92,23 @@ pub record Request : Type 0 where
   pub command : Command
   pub key : ℕ
 
--- A text that was prepared in no schema is executed as if it were prepared in the one in which its client stands: no step leads a link out of
--- its schema. Then it goes by the key of its route.
+-- A text is executed in the schema of its preparation; but where it was prepared in none, or its client stands in none, as if it were prepared
+-- in that of its client: no step leads a link out of its schema. Then it goes by the key of its route.
 
 abbrev pub run_schema : (prepared stands : List ℕ) → List ℕ
 run_schema [] stands = stands
-run_schema (byte ∷ schema) stands = byte ∷ schema
+run_schema (byte ∷ schema) [] = []
+run_schema (byte ∷ schema) (other ∷ stands) = byte ∷ schema
 
-abbrev pub run_key : (prepared : List ℕ) → (key routed : ℕ) → ℕ
-run_key [] key routed = routed
-run_key (byte ∷ schema) key routed = key
+abbrev pub run_key : (prepared stands : List ℕ) → (key routed : ℕ) → ℕ
+run_key [] stands key routed = routed
+run_key (byte ∷ schema) [] key routed = routed
+run_key (byte ∷ schema) (other ∷ stands) key routed = key
 
 abbrev pub run_of : Setup → Args → (stands : List ℕ) → (routed key : ℕ) → Request
 run_of setup args stands routed key = record {
   command = Run (setup.keys key).text (run_schema (setup.keys key).place.schema stands) (setup.keys key).place.settings args;
-  key = run_key (setup.keys key).place.schema key routed;
+  key = run_key (setup.keys key).place.schema stands key routed;
 }
 
 abbrev pub executed_by : Setup → View → Plan → Client → (ordinal : ℕ) → Route → (payload : List ℕ) → (number : ℕ) → Option Request

@@ -105,9 +105,9 @@ begun_on setup plan moment view link wire for =
 
 -- Bytes go on with a question, or begin one; in a login they are what the router says there.
 
--- the messages that were written, of at most a gibibyte each
+-- the messages that were written, of at most 2^65 bytes each: a log, of fewer than 2^48 entries, has no more for one
 abbrev pub written_in : List ℕ → Split
-written_in written = split 1073741824 0 written
+written_in written = split 36893488147419103232 0 written
 
 abbrev pub is_quiet : Stage → Bool
 is_quiet Quiet = true

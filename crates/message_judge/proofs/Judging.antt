@@ -40,6 +40,7 @@ use Rattle.message_judge.specs.Judging.{Draft, Judged, judged}
 use Rattle.message_judge.specs.declared.caller.Caller.{Caller}
 use Rattle.message_judge.specs.declared.caller.Prepared.{Prepared}
 use Rattle.message_judge.specs.declared.caller.Standing.{Standing}
+use Rattle.message_judge.proofs.Typed.{lacks-same}
 use Rattle.message_judge.proofs.Commands.{Faulty, IsRead, IsSilent, Whole, is_unknown, is_whole, long-silent, numbered-none, numbered-some, reads, split}
 
 module _ (terms : Terms) (servers : List Server) (flag : ℕ) (taking : Taking) where
@@ -198,13 +199,7 @@ module _ (terms : Terms) (servers : List Server) (flag : ℕ) (taking : Taking) 
       → is_whole_execute (plan_in terms) taking.client (ordinal_of taking) number known payload
       ≡ is_whole (record { params = prepared.params; bound = prepared.bound }) payload
   whole-same known prepared number payload is =
-      rw (is.params, is.bound) (ap (λ b. nat_le (execute_size known.params payload) (length payload) && not (not (nat_eq known.params 0) && b))
-      (none-of (given_in known.params payload).types (bound_in terms taking number known).types))
-    where
-      none-of : (sent bound : Option (List ℕ)) → is_none (option_or sent bound) ≡ (is_none sent && not (is_some bound))
-      none-of (Some a) bound = refl
-      none-of None (Some b) = refl
-      none-of None None = refl
+      rw (is.params, is.bound) (lacks-same known.params payload (bound_in terms taking number known).types)
 
   executed_as : (number : ℕ) (payload : List ℕ) (known : Option executes.Prepared) (prepared : Option Prepared) → IsPreparedOr terms taking number known prepared
       → IsSame (verdicts.executed (plan_in terms) taking.client (ordinal_of taking) number payload known)

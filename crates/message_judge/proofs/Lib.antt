@@ -1,3 +1,4 @@
 pub mod Commands
 pub mod Judging
 pub mod Routing
+pub mod Typed

@@ -10,7 +10,7 @@ use Rattle.log_story.specs.Plan.{Plan, Route}
 use Rattle.log_story.specs.Tale.{view_of}
 use Rattle.router_promises.specs.Router.{home_of}
 use Rattle.router_promises.specs.Running.{has_online}
-use Rattle.router_promises.specs.Statements.{is_full, known_statement, next_number}
+use Rattle.router_promises.specs.Statements.{are_types, is_full, known_statement, next_number}
 use Rattle.router_promises.specs.Takings.{Taking, ordinal_of}
 use Rattle.router_promises.specs.Terms.{Terms, plan_in, setup_in}
 use Rattle.router_promises.specs.Verdicts.{held_in, last_due, transaction_in, user_in}
@@ -45,7 +45,7 @@ bound_in terms taking number prepared =
 
 pub record IsPrepared (terms : Terms) (taking : Taking) (number : ℕ) (known : executes.Prepared) (prepared : Prepared) : Type 0 where
   pub params : prepared.params ≡ known.params
-  pub bound : prepared.bound ≡ is_some (bound_in terms taking number known).types
+  pub bound : prepared.bound ≡ are_types known.params (bound_in terms taking number known).types
   pub key : terms.decided.keys known.key ≡ record { text = prepared.text; place = prepared.place }
   pub class : prepared.class ≡ terms.router.reads.class prepared.text
   pub route : Route

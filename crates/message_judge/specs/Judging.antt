@@ -124,7 +124,7 @@ abbrev pub prepares : Reads → List Rule → Caller → Standing → (text : Li
 prepares reads rules caller standing text None = still caller (answers_one error.too_many_statements)
 prepares reads rules caller standing text (Some number) = by_pass reads caller standing (pass_of rules caller text) (Some number)
 
--- what was prepared in no schema is executed under the key of its text where its client stands
+-- what was prepared in no schema, or is executed in none, goes by the key of its text where its client stands
 abbrev pub run_key : Caller → Prepared → Option Key
 run_key caller prepared =
     unplaced prepared.place.schema (record { text = prepared.text; place = prepared.place }) caller.place.schema

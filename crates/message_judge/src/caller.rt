@@ -25,7 +25,7 @@ pub struct Standing {
     pub next_number: Option<u32>,
 }
 
-/// A statement that it prepared: its text, the schema and settings of its preparation, how many parameters it has, whether their types were
+/// A statement that it prepared: its text, the schema and settings of its preparation, how many parameters it has, whether types of each were
 /// bound, where its preparation went, what a rule said of sharing the link, and the class of its text.
 #[derive(Drop)]
 pub struct Prepared {

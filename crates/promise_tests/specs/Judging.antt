@@ -28,7 +28,7 @@ use Rattle.router_promises.specs.Errors.{no_connection, out_of_memory, replay_re
 use Rattle.router_promises.specs.GivenUp.{is_in_work, key_tried, session_of}
 use Rattle.router_promises.specs.Heard.{Bad, Part, Reading, Whole, is_amiss, is_step, reading_of}
 use Rattle.router_promises.specs.Keys.{LinkKey, has_room, how_many, is_free, is_nobodys, is_opening, key_of, oldest, waiting}
-use Rattle.router_promises.specs.Now.{Now, entry_now, flag_taken, held_now, is_loss, link_now, next, takings_now, while_ending, wire_now}
+use Rattle.router_promises.specs.Now.{Now, entry_now, flag_taken, held_now, is_gone, is_loss, link_now, next, takings_now, while_ending, wire_now}
 use Rattle.router_promises.specs.Router.{may_log_in}
 use Rattle.router_promises.specs.Running.{hostgroup_of, is_off, is_soft, servers_after, status_in}
 use Rattle.router_promises.specs.Dues.{is_unsent}
@@ -226,7 +226,7 @@ is_read_so terms now m route payload link (Bad place) =
 abbrev pub is_lost_so : Terms → (now later : Now) → Entry → MessageName → Route → (payload : List ℕ)
     → LinkId → Bool
 is_lost_so terms now later e m route payload link =
-    (is_loss e && (is_on_link terms now m route link && bytes_eq payload connection_lost))
+    (is_gone e && (is_on_link terms now m route link && bytes_eq payload connection_lost))
     || is_read_so terms now m route payload link (reading_of (setup_in terms) now e)
 
 abbrev pub is_offline : Terms → (now later : Now) → MessageName → Route → (payload : List ℕ) → LinkId

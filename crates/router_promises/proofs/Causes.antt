@@ -11,7 +11,7 @@ use Rattle.router_promises.specs.Errors.{no_connection, out_of_memory, replay_re
 use Rattle.router_promises.specs.GivenUp.{BadBytes, Cause, LinkLost, NoLink, NoMemory, NoResult, StepRefused, TakenOffline, WaitedTooLong, GivesUpSo}
 use Rattle.router_promises.specs.Heard as heard
 use Rattle.router_promises.specs.Heard.{Answer, Bad, is_amiss, reading_of}
-use Rattle.router_promises.specs.Now.{Now, entry_now, is_loss, next, now_at}
+use Rattle.router_promises.specs.Now.{Now, entry_now, is_gone, next, now_at}
 use Rattle.router_promises.specs.Terms.{Terms, plan_in, setup_in}
 
 abbrev code : List ℕ → ℕ
@@ -38,7 +38,7 @@ pub record IsNoResult (terms : Terms) (now : Now) (e : Entry) : Type 0 where
   pub amiss : is_amiss answer.question answer.reply ≡ true
 
 cause-lost : (terms : Terms) (now later : Now) (e : Entry) (m : MessageName) (route : Route) (payload : List ℕ)
-    → Cause terms now later e m route payload → code payload ≡ 141 → is_loss e ≡ true
+    → Cause terms now later e m route payload → code payload ≡ 141 → is_gone e ≡ true
 unfolding connection_lost connection_refused bad_server_bytes replay_refused server_offline out_of_memory no_connection
 cause-lost terms now later e m route _ (LinkLost link is_lost of on) at = is_lost
 cause-lost terms now later e m route _ (WaitedTooLong until_ms now_ms woke waits long) at = absurd (omega (arith, at))
@@ -77,7 +77,7 @@ cause-bad terms now later e m route _ (NoMemory ends) at = absurd (omega (arith,
 
 pub told-lost : (terms : Terms) (before : Log) (e : Entry) (m : MessageName) → GivesUpSo terms before e
     → (plan_in terms).own m ≡ Some (record { from = entry_now (now_at terms before); payloads = connection_lost ∷ [] })
-    → is_loss e ≡ true
+    → is_gone e ≡ true
 unfolding connection_lost
 told-lost terms before e m gives own =
     let up = gives.each m (record { from = entry_now (now_at terms before); payloads = connection_lost ∷ [] }) own refl in

@@ -16,7 +16,7 @@ use Rattle.log_story.specs.Tale.{Client}
 use Rattle.router_promises.specs.Errors.{no_connection, out_of_memory, replay_refused, server_offline}
 use Rattle.router_promises.specs.Heard.{Answer, Bad, Whole, is_amiss, is_step, reading_of}
 use Rattle.router_promises.specs.Keys.{LinkKey, how_many, is_idle, is_stepping, key_of, oldest, waiters}
-use Rattle.router_promises.specs.Now.{Now, entry_now, held_now, is_loss, link_now, next, now_at, present_now, view_now, wire_now}
+use Rattle.router_promises.specs.Now.{Now, entry_now, held_now, is_gone, link_now, next, now_at, present_now, view_now, wire_now}
 use Rattle.router_promises.specs.Running.{breaks_off, hostgroup_of, is_off, status_in}
 use Rattle.router_promises.specs.Dues.{is_unsent}
 use Rattle.router_promises.specs.Steps.{wants_there}
@@ -53,11 +53,11 @@ IsStepFor terms now m route link (Prep n key text) carried = n ≡ session_of te
 IsStepFor terms now m route link (Sync n command) carried = n ≡ session_of terms now m route
 IsStepFor terms now m route link question carried = ⊥
 
--- Why a statement is given up at an entry, and what is answered: its link was lost; it waited too long; while it was the oldest to
+-- Why a statement is given up at an entry, and what is answered: its link was lost, or closed; it waited too long; while it was the oldest to
 -- wait, a link for it couldn't be had; a step to it was refused; its server was taken offline; bad bytes were read in place of its
 -- reply, or of the answer to a step to it; there is no memory, and its client ends.
 pub data Cause (terms : Terms) (now later : Now) (e : Entry) (m : MessageName) (route : Route) : (payload : List ℕ) → Type 0 where
-  LinkLost : (link : LinkId) → is_loss e ≡ true → link_of e ≡ Some link → IsOnLink terms now m route link
+  LinkLost : (link : LinkId) → is_gone e ≡ true → link_of e ≡ Some link → IsOnLink terms now m route link
       → Cause terms now later e m route connection_lost
   WaitedTooLong : (until_ms now_ms : ℕ) → e ≡ Woke until_ms now_ms → is_unsent terms now.tale (session_of terms now m route) ≡ true
       → now.since m + terms.router.proxy.wait_ms ≤ now_ms → Cause terms now later e m route (no_connection (now.since m) now_ms)

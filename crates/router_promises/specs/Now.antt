@@ -5,7 +5,7 @@ use Rattle.hostgroups.specs.Picks.{is_online_at}
 use Rattle.hostgroups.specs.declared.server.Server.{Server}
 use Rattle.mx_wire.specs.Log.{Log, is_open, moment_step, of_link}
 use Rattle.mx_wire.specs.declared.entry.Entry.{Entry}
-use Rattle.mx_wire.specs.declared.entry.Entry.TheVariants.{Ended, ReadFailed, WriteFailed}
+use Rattle.mx_wire.specs.declared.entry.Entry.TheVariants.{Closed, Ended, ReadFailed, WriteFailed}
 use Rattle.private_model.specs.Names.{ClientNo, Hostgroup, LinkId, MessageName, ServerId, SessionName}
 use Rattle.private_model.specs.Story.{is_client, is_message, put}
 use Rattle.private_model.specs.View as view
@@ -99,6 +99,11 @@ is_loss (Ended link) = true
 is_loss (ReadFailed link) = true
 is_loss (WriteFailed link) = true
 is_loss _ = false
+
+-- and it is gone, also where the router closes it
+abbrev pub is_gone : Entry → Bool
+is_gone (Closed link) = true
+is_gone e = is_loss e
 
 abbrev pub was_lost : Log → LinkId → Bool
 was_lost log link = list_any is_loss (of_link link log)

@@ -1,5 +1,5 @@
 -- The prepared statements that a client knows, by their numbers.
-use Rattle.std.specs.Prelude.{ℕ, suc, ◌+◌, ◌-◌, ◌*◌, ◌/◌, Bool, false, not, ◌&&◌, ◌||◌, is_some, is_none, nat_eq, nat_le, List, [], ◌∷◌, ◌++◌, length, slice_index_or, take, drop}
+use Rattle.std.specs.Prelude.{ℕ, suc, ◌+◌, ◌-◌, ◌*◌, ◌/◌, Bool, false, not, ◌&&◌, ◌||◌, is_some, nat_eq, nat_le, List, [], ◌∷◌, ◌++◌, length, slice_index_or, take, drop}
 use Rattle.std.specs.Prelude.{if◌then◌else◌, Option, Some, None}
 use Rattle.std.specs.List.{list_any}
 use Rattle.std.specs.Option.{option_and_then, option_map_or}
@@ -59,7 +59,7 @@ is_full view plan client ordinal =
     let given = numbers_given view plan client 1 (take (ordinal - 1) (messages plan client)) in
     nat_le 4294967295 (length given) || nat_le 65535 (standing view plan client ordinal given)
 
--- An execute is whole where the NULLs of its parameters and, where it says so, their types are there; the types of an earlier
+-- An execute is whole where the NULLs of its parameters and, where it says so, their types are there, two bytes each; the types of an earlier
 -- one stand for those that aren't.
 
 abbrev pub execute_size : (params : ℕ) → (payload : List ℕ) → ℕ
@@ -67,11 +67,15 @@ execute_size params payload =
     if nat_eq params 0 then 10
     else 11 + (params + 7) / 8 + (if nat_eq (slice_index_or payload (10 + (params + 7) / 8) 0) 1 then 2 * params else 0)
 
+abbrev pub are_types : (params : ℕ) → Option (List ℕ) → Bool
+are_types params None = false
+are_types params (Some types) = nat_eq (length types) (2 * params)
+
 abbrev pub lacks_types : Plan → Client → (ordinal number : ℕ) → Prepared → (payload : List ℕ) → Bool
 lacks_types plan client ordinal number prepared payload =
     let refused : ℕ → Bool = λ i. not (is_some (plan.routes (name_of client i))) in
     not (nat_eq prepared.params 0)
-    && is_none (args_in prepared.params number refused prepared.ordinal (take (ordinal - 1) (messages plan client)) payload).types
+    && not (are_types prepared.params (args_in prepared.params number refused prepared.ordinal (take (ordinal - 1) (messages plan client)) payload).types)
 
 abbrev pub is_whole_execute : Plan → Client → (ordinal number : ℕ) → Prepared → (payload : List ℕ) → Bool
 is_whole_execute plan client ordinal number prepared payload =

@@ -243,10 +243,11 @@ ruled terms servers taking routed number key None = passed_on terms servers taki
 ruled terms servers taking routed number key (Some (stop.Error text)) = tells_one (error.refused_by_rule text)
 ruled terms servers taking routed number key (Some (stop.Ok text)) = own_ok terms taking text
 
--- what was prepared in no schema is executed under the key of its text where its client stands
+-- what was prepared in no schema, or is executed in none, goes by the key of its text where its client stands
 abbrev pub unplaced : (schema : List ℕ) → Key → (stands : List ℕ) → Option Key
 unplaced [] key stands = Some (record key { place = record key.place { schema = stands } })
-unplaced (byte ∷ schema) key stands = None
+unplaced (byte ∷ schema) key [] = Some (record key { place = record key.place { schema = [] } })
+unplaced (byte ∷ schema) key (other ∷ stands) = None
 
 -- an execute goes where its statement was prepared, unless a transaction is open, with that text and that word on sharing
 abbrev pub run_by : Terms → List Server → Taking → Prepared → Verdict

@@ -25,7 +25,7 @@ ghost use Rattle.router_promises.specs.Errors.{replay_refused};
 ghost use Rattle.router_promises.specs.GivenUp.{left_waiting};
 ghost use Rattle.router_promises.specs.Heard.{Answer, Bad, Whole, is_amiss, reading_of};
 ghost use Rattle.router_promises.specs.Keys.{LinkKey, has_place, how_many, is_idle, is_opening, is_stepping, key_of, waiting};
-ghost use Rattle.router_promises.specs.Now.{entry_now, is_loss, link_now, next, now_at, while_ending, wire_now};
+ghost use Rattle.router_promises.specs.Now.{entry_now, is_gone, is_loss, link_now, next, now_at, while_ending, wire_now};
 ghost use Rattle.router_promises.specs.Rest.{is_answered_on, owes_capture};
 ghost use Rattle.router_promises.specs.Running.{hostgroup_of};
 ghost use Rattle.router_promises.specs.Steps.{is_prep_wanted, is_prepared_anew, live_keys};
@@ -190,12 +190,12 @@ pub fn invents_a_refusal()
         → ⊥ }
 {}
 
-/// A statement is told that its link was lost, which it wasn't.
+/// A statement is told that its link was lost, which was neither lost nor closed.
 pub fn invents_a_loss()
     ensures { (terms : Terms) (before : Log) (e : Entry) (m : MessageName) → Has terms before e
         → (plan_in terms).own m ≡ Some
         (record { from = entry_now (now_at terms before); payloads = connection_lost ∷ [] })
-        → is_loss e ≡ false → ⊥ }
+        → is_gone e ≡ false → ⊥ }
 {}
 
 /// A statement is told of bytes that can't be at a place, though none were read there, and no step was answered by what is no result.

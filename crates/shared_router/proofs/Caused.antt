@@ -29,7 +29,7 @@ use Rattle.router_promises.specs.GivenUp.{Cause, IsOnLink, IsStepFor, key_tried}
 use Rattle.router_promises.specs.Heard as heard
 use Rattle.router_promises.specs.Heard.{Answer, Reading, is_amiss, is_step, reading_of}
 use Rattle.router_promises.specs.Keys.{is_waiting, key_of, oldest}
-use Rattle.router_promises.specs.Now.{Now, entry_now, is_loss, link_now, wire_now}
+use Rattle.router_promises.specs.Now.{Now, entry_now, is_gone, link_now, wire_now}
 use Rattle.router_promises.specs.Running.{breaks_off, hostgroup_of, if_entering, is_failed, is_off, opening_on, opening_with, status_in}
 use Rattle.router_promises.specs.Steps.{wants_there}
 use Rattle.router_promises.specs.Terms.{Terms, Tried, login_as}
@@ -165,8 +165,8 @@ module _ (fixed : Fixed) (log : Log) (now : Now) (v last : World More) (alike : 
 
   lost_so : (payload : List ℕ) → lost c ≡ Some payload → Caused payload
   lost_so payload is =
-      let p = payload_so (is_loss e && is_named c (is_on c)) connection_lost payload is in
-      let parts = and_parts (is_loss e) (is_named c (is_on c)) p.0 in
+      let p = payload_so (is_gone e && is_named c (is_on c)) connection_lost payload is in
+      let parts = and_parts (is_gone e) (is_named c (is_on c)) p.0 in
       let named = mapped_true (is_on c) (wire.link_of e) parts.1 in
       subst Caused p.1 (gone.LinkLost named.0 parts.0 named.1.0 (on_so named.0 named.1.1))
 

@@ -33,7 +33,7 @@ module _ (l : LinkId) where
   folded [] ys b = refl
   folded (x ∷ xs) ys b = folded xs ys (open_step b x)
 
-  open_more : (log : Log) (e : Entry) → is_open l (log ++ e ∷ []) ≡ fold open_step (is_open l log) (of_it (e ∷ []))
+  pub open_more : (log : Log) (e : Entry) → is_open l (log ++ e ∷ []) ≡ fold open_step (is_open l log) (of_it (e ∷ []))
   open_more log e = ap (fold open_step false) (its_more log (e ∷ [])) ∙ folded (of_it log) (of_it (e ∷ [])) false
 
   -- it came, and is closed

@@ -30,9 +30,15 @@ pub record GoesTo (d : Decided) (m : MessageName) (hostgroup : Hostgroup) : Type
   pub own : Option OwnAnswer
   pub looked : d.own m ≡ Some own
 
--- where it goes was decided
+-- it was decided where it goes, and that it goes somewhere
+
+abbrev pub goes_out : Option (Option Route) → Bool
+goes_out None = false
+goes_out (Some None) = false
+goes_out (Some (Some route)) = true
+
 abbrev pub IsDecided : Decided → MessageName → Type 0
-IsDecided d m = is_some (d.routes m) ≡ true
+IsDecided d m = goes_out (d.routes m) ≡ true
 
 pub record AreDecided (d : Decided) (view : View) : Type 0 where
   pub due : (n : SessionName) (due : Due) → view.dues n ≡ Some due → GoesTo d (message_of n due) n.hostgroup
@@ -68,9 +74,10 @@ goes_more old new m hostgroup more is = record {
   looked = more.own m is.own is.looked;
 }
 
-decided_by : (old new : Decided) (m : MessageName) (o : Option (Option Route)) → ((route : Option Route) → o ≡ Some route → new.routes m ≡ Some route) → is_some o ≡ true → IsDecided new m
+decided_by : (old new : Decided) (m : MessageName) (o : Option (Option Route)) → ((route : Option Route) → o ≡ Some route → new.routes m ≡ Some route) → goes_out o ≡ true → IsDecided new m
 decided_by old new m None kept is = isnt is
-decided_by old new m (Some route) kept is = ap (λ (x : Option (Option Route)). is_some x) (kept route refl)
+decided_by old new m (Some None) kept is = isnt is
+decided_by old new m (Some (Some route)) kept is = ap goes_out (kept (Some route) refl)
 
 pub decided_more : (old new : Decided) (m : MessageName) → IsMore old new → IsDecided old m → IsDecided new m
 decided_more old new m more is = decided_by old new m (old.routes m) (λ route at. more.routes m route at) is
@@ -85,7 +92,19 @@ are_more old new view more are = record {
 
 -- what goes somewhere was decided
 goes_decided : (d : Decided) (m : MessageName) (hostgroup : Hostgroup) → GoesTo d m hostgroup → IsDecided d m
-goes_decided d m hostgroup is = ap (λ (x : Option (Option Route)). is_some x) is.routed
+goes_decided d m hostgroup is = ap goes_out is.routed
+
+-- where it goes
+route_by : (o : Option (Option Route)) → goes_out o ≡ true → (route : Route) × (o ≡ Some (Some route))
+route_by None is = isnt is
+route_by (Some None) is = isnt is
+route_by (Some (Some route)) is = (route, refl)
+
+pub route_decided : (d : Decided) (m : MessageName) → IsDecided d m → (route : Route) × (d.routes m ≡ Some (Some route))
+route_decided d m is = route_by (d.routes m) is
+
+pub was_decided : (d : Decided) (m : MessageName) → IsDecided d m → is_some (d.routes m) ≡ true
+was_decided d m is = ap (λ (x : Option (Option Route)). is_some x) (route_decided d m is).1
 
 module _ (d : Decided) (setup : Setup) where
   put_stage : (links : LinkId → Link) (link : LinkId) (value : Link) → ((m : MessageName) → stated_at value.stage ≡ Some m → IsDecided d m)

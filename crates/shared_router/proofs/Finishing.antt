@@ -124,7 +124,7 @@ module _ (k : Known) (link : LinkId) (login : Login) where
 
     module _ (step : StepText) (at : wire.step ≡ Some step) (mute : is_mute (Some step) ≡ true)
         (text : (quits : Bool) → text_of_step quits (Some step) ≡ spelling 0 (step_payload step))
-        (begun : (l : Link) → begun_there (Some step) Quiet l ≡ spelling 0 (step_payload step)) (small : length (step_payload step) ≤ 1073741824) where
+        (begun : (l : Link) → begun_there (Some step) Quiet l ≡ spelling 0 (step_payload step)) (small : length (step_payload step) ≤ 36893488147419103232) where
       its_login : wire.entered ≡ false → wire.entered ≡ true
       its_login out = (let standing : IsStanding k.terms.router false login wire there = subst (λ b. IsStanding k.terms.router b login wire there) out so.stood in no_step step (sym standing.begun ∙ at))
 

@@ -46,12 +46,12 @@ module _ (setup : Setup) (plan : Plan) (P : Tale → Type 0) (k : Keeps P) where
   losing_keeps link tale holds =
       ifs P (is_to_server tale link) (tell (Gone link) tale) (fold (client_leaves link) tale tale.clients) (k.tells tale (Gone link) tt holds) (left_keeps link tale.clients tale holds)
 
-  ended_keeps : (xs : List Client) (tale : Tale) → P tale → P (fold (ended_if_now plan) tale xs)
+  pub ended_keeps : (xs : List Client) (tale : Tale) → P tale → P (fold (ended_if_now plan) tale xs)
   ended_keeps [] tale holds = holds
   ended_keeps (x ∷ xs) tale holds =
       ended_keeps xs (ended_if_now plan tale x) (ifs P (is_now tale.moment (plan.ends x.number)) (tell (Left x.number) tale) tale (k.tells tale (Left x.number) tt holds) holds)
 
-  freed_keeps : (xs : List LinkId) (tale : Tale) → P tale → P (fold (freed_if_done setup plan) tale xs)
+  pub freed_keeps : (xs : List LinkId) (tale : Tale) → P tale → P (fold (freed_if_done setup plan) tale xs)
   freed_keeps [] tale holds = holds
   freed_keeps (x ∷ xs) tale holds =
       freed_keeps xs (freed_if_done setup plan tale x)
@@ -70,7 +70,7 @@ module _ (setup : Setup) (plan : Plan) (P : Tale → Type 0) (k : Keeps P) where
       let due : Happening = BecameDue client.number route.hostgroup ordinal request.key request.command route.multiplex in
       copied_keeps (name_of client ordinal) request.command route.mirror (tell due tale) (k.tells tale due tt holds)
 
-  taken_keeps : (client : Client) (ordinal : ℕ) (message : Framed) (route : Option Route) (tale : Tale) → P tale → P (taken_by setup plan client ordinal message route tale)
+  pub taken_keeps : (client : Client) (ordinal : ℕ) (message : Framed) (route : Option Route) (tale : Tale) → P tale → P (taken_by setup plan client ordinal message route tale)
   taken_keeps client ordinal message None tale holds =
       ifs P (nat_eq (slice_index_or message.payload 0 0) com_reset) (tell (Left client.number) tale) tale (k.tells tale (Left client.number) tt holds) holds
   taken_keeps client ordinal message (Some route) tale holds =
@@ -101,7 +101,7 @@ module _ (setup : Setup) (plan : Plan) (P : Tale → Type 0) (k : Keeps P) where
       by_next None now later = holds
       by_next (Some other) now later = later (with_client next other) (k.moves other next now)
 
-  going_keeps : (view : View) (e : Entry) (xs : List Client) (tale : Tale) → P tale → P (fold (client_goes_on setup plan view e) tale xs)
+  pub going_keeps : (view : View) (e : Entry) (xs : List Client) (tale : Tale) → P tale → P (fold (client_goes_on setup plan view e) tale xs)
   going_keeps view e [] tale holds = holds
   going_keeps view e (x ∷ xs) tale holds =
       going_keeps view e xs (client_goes_on setup plan view e tale x)

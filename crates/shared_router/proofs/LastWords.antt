@@ -3,7 +3,9 @@ use Rattle.std.specs.Prelude.{◌≡◌, ◌+◌, ℕ, Bool, true, false, is_non
 use Rattle.std.specs.Option.{option_map}
 use Rattle.std.proofs.Common.{refl, sym, ap, ◌∙◌, subst, append_assoc, arith}
 use Rattle.std.proofs.lemmas.Bool.{and_from, and_right}
+use Rattle.client_session.specs.Answers.{opening_of}
 use Rattle.client_session.specs.Arrivals.{Arrival, arrival_of}
+use Rattle.client_side.specs.Login.{Waits}
 use Rattle.mx_wire.specs.Log.{Log}
 use Rattle.mx_wire.specs.Moments.{LawfulAfter}
 use Rattle.mx_wire.specs.Tells.{Fits}
@@ -11,8 +13,8 @@ use Rattle.mx_wire.specs.declared.entry.Entry.{Entry}
 use Rattle.mx_wire.specs.declared.entry.Entry.TheVariants as entry
 use Rattle.private_model.specs.View.{Setup}
 use Rattle.log_story.specs.Clients.{is_answered}
-use Rattle.log_story.specs.Owed.{name_of}
-use Rattle.log_story.specs.Plan.{Alone, LastWord, Plan, own_at}
+use Rattle.log_story.specs.Owed.{name_of, talk_of}
+use Rattle.log_story.specs.Plan.{Alone, ForLogin, LastWord, Plan, own_at}
 use Rattle.log_story.specs.Tale.{Client, view_of}
 use Rattle.tale_world.specs.Deciding.{World}
 use Rattle.router_promises.specs.Due.{served, turned_away}
@@ -33,7 +35,7 @@ use Rattle.shared_router.proofs.Looked.{Each, IsLooked, each-all, each-so, going
 use Rattle.shared_router.proofs.Musts.{IsEnding, ending_world, last_plan, served-same}
 use Rattle.shared_router.proofs.Single.{IsAlone, both-each, counts_at, each-alone, going-counts}
 use Rattle.shared_router.proofs.Parting.{even_at}
-use Rattle.shared_router.proofs.Said.{much-ends, word-right}
+use Rattle.shared_router.proofs.Said.{login-waits, much-ends, word-right}
 use Rattle.shared_router.proofs.Worded.{going-same-ends}
 
 isnt : {A : Type 0} → false ≡ true → A
@@ -72,6 +74,15 @@ newcomers fixed numbered before (entry.WriteNothing link) fits = each-any _ _ (�
 newcomers fixed numbered before (entry.WriteFailed link) fits = each-any _ _ (λ client is. isnt is)
 newcomers fixed numbered before (entry.Closed link) fits = each-any _ _ (λ client is. isnt is)
 newcomers fixed numbered before (entry.Drop link) fits = each-any _ _ (λ client is. isnt is)
+
+-- a word in place of the answer to a login comes while that can't be answered yet
+
+abbrev pub WaitsThere : Terms → Log → Client → Type 0
+WaitsThere terms log client = (word : LastWord) → (plan_in terms).words client.number ≡ Some word → word.from ≡ entry_now (now_at terms log) → word.place ≡ ForLogin
+    → (switched : Bool) × (opening_of (talk_of (plan_in terms) client) ≡ Waits switched)
+
+abbrev pub LoginsFor : Terms → Log → Entry → Type 0
+LoginsFor terms log e = Each (WaitsThere terms log) (now.next terms (now_at terms log) e).tale.clients
 
 module _ (fixed : Fixed) (numbered : IsNumbered fixed) (before later : Log) (e : Entry) where
   abbrev setup : Setup
@@ -164,6 +175,14 @@ module _ (fixed : Fixed) (numbered : IsNumbered fixed) (before later : Log) (e :
       (both-each (IsLooked d.decided) (IsAlone d.tale.clients) d.tale.clients (going-looks fixed w e (even_at fixed before) (looks_at fixed before))
       (each-alone 1 d.tale.clients (going-counts fixed w e (counts_at fixed before))))
       (newcomers fixed numbered before e fits))))
+
+  pub logins-there : LoginsFor t before e
+  logins-there =
+      subst (Each (WaitsThere t before)) (sym (ended.behind-clients fixed numbered before later e))
+      (each-so (λ (client : Client). IsLooked d.decided client × IsAlone d.tale.clients client) (WaitsThere t before) d.tale.clients
+      (λ client both word planned at place. login-waits fixed numbered before later e client both.0 both.1 word planned at place)
+      (both-each (IsLooked d.decided) (IsAlone d.tale.clients) d.tale.clients (going-looks fixed w e (even_at fixed before) (looks_at fixed before))
+      (each-alone 1 d.tale.clients (going-counts fixed w e (counts_at fixed before)))))
 
 -- along a log
 

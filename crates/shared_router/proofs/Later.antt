@@ -18,7 +18,7 @@ use Rattle.tale_world.specs.Decided.{plan_of}
 use Rattle.tale_world.specs.Deciding.{World}
 use Rattle.router_promises.specs.Closes.{waits_elsewhere}
 use Rattle.router_promises.specs.Dues.{is_due, is_unsent}
-use Rattle.router_promises.specs.Keys.{LinkKey, how_many, is_free, is_key, is_of_key, is_opening, is_waiting, key_for, key_of, waiters_in}
+use Rattle.router_promises.specs.Keys.{LinkKey, how_many, is_free, is_idle, is_key, is_of_key, is_opening, is_stepping, is_waiting, key_for, key_of, waiters_in}
 use Rattle.router_promises.specs.Now.{Now, is_here, present_now}
 use Rattle.router_promises.specs.Running.{is_failed, opening_on}
 use Rattle.router_promises.specs.Terms.{Terms}
@@ -84,6 +84,14 @@ module _ (fixed : Fixed) (log : Log) (now : Now) (v last : World More) (alike : 
   pub free_count : (key : LinkKey) → how_many is_free one log now key ≡ how_many is_free other log now key
   free_count key = count_same (λ link. is_of_key one now key link && is_free one log now link) (λ link. is_of_key other now key link && is_free other log now link) now.tale.links
       (λ link there. ap (λ b. b && is_free other log now link) (of_key_same key link there))
+
+  pub idle_count : (key : LinkKey) → how_many is_idle one log now key ≡ how_many is_idle other log now key
+  idle_count key = count_same (λ link. is_of_key one now key link && is_idle one log now link) (λ link. is_of_key other now key link && is_idle other log now link) now.tale.links
+      (λ link there. ap (λ b. b && is_idle other log now link) (of_key_same key link there))
+
+  pub stepping_count : (key : LinkKey) → how_many is_stepping one log now key ≡ how_many is_stepping other log now key
+  stepping_count key = count_same (λ link. is_of_key one now key link && is_stepping one log now link) (λ link. is_of_key other now key link && is_stepping other log now link) now.tale.links
+      (λ link there. ap (λ b. b && is_stepping other log now link) (of_key_same key link there))
 
   pub opening_count : (key : LinkKey) → how_many is_opening one log now key ≡ how_many is_opening other log now key
   opening_count key = count_same (λ link. is_of_key one now key link && is_opening one log now link) (λ link. is_of_key other now key link && is_opening other log now link) now.tale.links

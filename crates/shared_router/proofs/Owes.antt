@@ -55,7 +55,7 @@ module _ (fixed : Fixed) where
   abbrev said_by : ℕ → Option LastWord → Option LastWord
   said_by moment word = option_and_then (λ (word : LastWord). if nat_le word.from moment then Some word else None) word
 
-  words-so : (before later : Log) (c : ClientNo)
+  pub words-so : (before later : Log) (c : ClientNo)
       → word_at (plan_of (world_at fixed (before ++ later)).decided) (world_at fixed before).tale.moment c ≡ word_at (plan_of (world_at fixed before).decided) (world_at fixed before).tale.moment c
   words-so before later c =
       ap (λ (v : World More). said_by w.tale.moment (v.decided.words c)) (world_more fixed before later)

@@ -80,7 +80,7 @@ own_by o moment = option_and_then (λ (answer : OwnAnswer). if nat_le answer.fro
 never : true ≡ false → ⊥
 never is = absurd (cc)
 
-came_then : (o : Option OwnAnswer) (moment : ℕ) → own_by o moment ≡ None → ((answer : OwnAnswer) → o ≡ Some answer → answer.from ≡ suc moment → ⊥) → own_by o (suc moment) ≡ None
+pub came_then : (o : Option OwnAnswer) (moment : ℕ) → own_by o moment ≡ None → ((answer : OwnAnswer) → o ≡ Some answer → answer.from ≡ suc moment → ⊥) → own_by o (suc moment) ≡ None
 came_then None moment is apart = refl
 came_then (Some answer) moment is apart = by_tests (nat_le answer.from moment) (nat_le answer.from (suc moment)) refl refl is where
   by_tests : (was now : Bool) → nat_le answer.from moment ≡ was → nat_le answer.from (suc moment) ≡ now → (if was then Some answer.payloads else None) ≡ None
@@ -108,13 +108,13 @@ module _ (fixed : Fixed) (numbered : IsNumbered fixed) (log : Log) (our : IsOurL
     abbrev new : Tale
     new = tale_at t (before ++ e ∷ [])
 
-    old_same : old ≡ w.tale
+    pub old_same : old ≡ w.tale
     old_same = subst (λ l. tale_at (final_terms fixed l) before ≡ w.tale) at.is (tale_then fixed before (e ∷ later))
 
-    new_same : new ≡ tale_step (setup_in t) (plan_in t) old e
+    pub new_same : new ≡ tale_step (setup_in t) (plan_in t) old e
     new_same = tale_more t before e
 
-    next_moment : new.moment ≡ suc old.moment
+    pub next_moment : new.moment ≡ suc old.moment
     next_moment =
         subst (λ l. (tale_at (final_terms fixed l) (before ++ e ∷ [])).moment ≡ suc w.tale.moment) (append_assoc before (e ∷ []) later ∙ at.is)
         (ap (λ (x : Tale). x.moment) (tale_then fixed (before ++ e ∷ []) later) ∙ ap (λ (v : World More). v.tale.moment) (world_more fixed before (e ∷ []))

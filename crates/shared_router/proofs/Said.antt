@@ -4,6 +4,7 @@ use Rattle.std.specs.Option.{option_and_then, option_map}
 use Rattle.std.proofs.Common.{refl, sym, ap, ◌∙◌, subst, arith, inl, inr}
 use Rattle.std.proofs.lemmas.Bool.{and_from, and_parts, le-leb, lt-ltb, not-true, or_left, or_right}
 use Rattle.std.proofs.lemmas.List.Sums.{sum_by-cons}
+use Rattle.client_session.specs.Answers.{opening_of}
 use Rattle.client_session.specs.Arrivals.{Arrival, arrival_of}
 use Rattle.client_side.specs.Login.{Fails, Opening, Says, Waits}
 use Rattle.mx_wire.specs.Log.{Log}
@@ -12,7 +13,8 @@ use Rattle.packet_frame.specs.Packets.{lacking}
 use Rattle.private_model.specs.Names.{ClientNo}
 use Rattle.private_model.specs.View.{Setup}
 use Rattle.log_story.specs.Clients.{is_answered}
-use Rattle.log_story.specs.Plan.{Alone, LastWord, Plan, is_before, is_by_now}
+use Rattle.log_story.specs.Owed.{talk_of}
+use Rattle.log_story.specs.Plan.{Alone, Behind, ForLogin, LastWord, Plan, is_before, is_by_now}
 use Rattle.log_story.specs.Tale.{Client, Tale, view_of}
 use Rattle.tale_world.specs.Decided.{Agrees, Decided, plan_of}
 use Rattle.tale_world.specs.Deciding.{Deciding, World}
@@ -20,7 +22,7 @@ use Rattle.tale_world.specs.World.{ended_now, is_ended}
 use Rattle.tale_world.proofs.Agreeing.{same_before}
 use Rattle.tale_world.proofs.Following.{going_even, step_even}
 use Rattle.router_promises.specs.Due.{served, turned_away}
-use Rattle.router_promises.specs.Ends.{IsLastWord, Left, NoMemory, TooMuch, TurnedAway, WordFor, buffers_word, comes_from, is_accepted, is_alone, is_at, is_left, is_measured, is_too_much, kept, kept_bytes, kept_in_all, was_answered}
+use Rattle.router_promises.specs.Ends.{IsLastWord, Left, NoMemory, TooMuch, TurnedAway, WordFor, buffers_word, comes_from, is_accepted, is_alone, is_at, is_left, is_measured, is_refused, is_refused_by, is_too_much, kept, kept_bytes, kept_in_all, loses_client, was_answered}
 use Rattle.router_promises.specs.Errors.{buffers_full, out_of_memory}
 use Rattle.router_promises.specs.Now as now
 use Rattle.router_promises.specs.Now.{Now, entry_now, now_at, while_ending}
@@ -32,7 +34,7 @@ use Rattle.shared_router.specs.More.{More}
 use Rattle.shared_router.specs.Shared.{final_terms, shared, world_at}
 use Rattle.shared_router.proofs.Ended as ended
 use Rattle.shared_router.proofs.Looked.{IsLooked}
-use Rattle.shared_router.proofs.Musts.{IsEnding, answered-same, ending_world, last_plan, left-same, served-same}
+use Rattle.shared_router.proofs.Musts.{IsEnding, answered-same, ending_world, last_plan, left-same, must-same, served-same}
 use Rattle.shared_router.proofs.Single.{IsAlone}
 use Rattle.shared_router.proofs.Parting.{even_at, next, world_more}
 use Rattle.shared_router.proofs.Since.{log-since, step-moment}
@@ -43,6 +45,20 @@ isnt is = absurd (cc)
 
 none-said : {A : Type 0} (word : LastWord) → None ≡ Some word → A
 none-said word is = absurd (cc)
+
+left-none : (a b : Bool) → (a || b) ≡ false → a ≡ false
+left-none false b is = refl
+left-none true b is = absurd (cc)
+
+right-none : (a b : Bool) → (a || b) ≡ false → b ≡ false
+right-none false b is = is
+right-none true b is = absurd (cc)
+
+behind-login : {A : Type 0} → Behind ≡ ForLogin → A
+behind-login is = absurd (cc)
+
+alone-login : {A : Type 0} → Alone ≡ ForLogin → A
+alone-login is = absurd (cc)
 
 some-same : {A : Type 0} (a b : A) → Some a ≡ Some b → a ≡ b
 some-same a b is = cc
@@ -268,6 +284,50 @@ module _ (fixed : Fixed) (numbered : IsNumbered fixed) (before later : Log) (e :
         by_tests false false false true starved l a h s so_is = much-why h word so_is
         by_tests false false false false true l a h s so_is = starved-why s word so_is
         by_tests false false false false false l a h s so_is = none-said word so_is
+
+    refused-none : must_go x client ≡ false → is_refused t client ≡ false
+    refused-none stays =
+        left-none (is_refused t client) _ (right-none (is_accepted e client && not (served t (before ++ e ∷ []) client)) _
+        (right-none (loses_client e client) _ (must-same fixed numbered before e log so client looked ∙ stays)))
+
+    -- A word in place of the answer to a login comes while that can't be answered yet: of whose login can't be read none comes.
+
+    place-waits : (o : Opening) → is_refused_by t client o ≡ false → place_by o ≡ ForLogin → (switched : Bool) × (o ≡ Waits switched)
+    place-waits (Waits switched) read place = (switched, refl)
+    place-waits (Says switched response id rest) read place = behind-login place
+    place-waits (Fails switched fault id) read place = isnt (sym read)
+
+    login-there : must_go x client ≡ false → word_place x client ≡ ForLogin → (switched : Bool) × (opening_of (talk_of plan client) ≡ Waits switched)
+    login-there stays place =
+        let opening : opening_of (talk_of plan client) ≡ opening_of (talk_of (plan_of d.decided) client) =
+        ap (λ service. opening_of (talk_of (record plan { service = service }) client)) so.agrees.service in
+        place-waits (opening_of (talk_of plan client)) (refused-none stays) (ap place_by opening ∙ place)
+
+    pub login-waits : (word : LastWord) → plan.words c ≡ Some word → word.from ≡ entry_now there → word.place ≡ ForLogin
+        → (switched : Bool) × (opening_of (talk_of plan client) ≡ Waits switched)
+    login-waits word planned at place =
+        by_tests (is_refused_now x client && was_left x client) (is_turned_away x client) (must_go x client) (has_too_much x client) (is_refused_now x client && may_say_starved x client) refl
+        (said-of word (word-now c word planned at)).1
+      where
+        says : (payload : List ℕ) → must_go x client ≡ false → Some (says_last x client payload) ≡ Some word → (switched : Bool) × (opening_of (talk_of plan client) ≡ Waits switched)
+        says payload stays is = login-there stays (ap (λ (w : LastWord). w.place) (some-same (says_last x client payload) word is) ∙ place)
+
+        away : (came : Option Arrival) → option_map (λ (came : Arrival). record { from = entry_now x.now; place = Alone; payloads = turned_away came.port }) came ≡ Some word
+            → (switched : Bool) × (opening_of (talk_of plan client) ≡ Waits switched)
+        away None is = none-said word is
+        away (Some came) is =
+            alone-login (ap (λ (w : LastWord). w.place) (some-same (record { from = entry_now x.now; place = Alone; payloads = turned_away came.port }) word is) ∙ place)
+
+        by_tests : (left away_now must much starved : Bool) → must_go x client ≡ must
+            → (if left then Some (left_word x) else if away_now then away_word x client else if must then None
+            else if much then Some (says_last x client (buffers_word x.terms x.ending client)) else if starved then Some (says_last x client out_of_memory) else None) ≡ Some word
+            → (switched : Bool) × (opening_of (talk_of plan client) ≡ Waits switched)
+        by_tests true away_now must much starved m is = behind-login (ap (λ (w : LastWord). w.place) (some-same (left_word x) word is) ∙ place)
+        by_tests false true must much starved m is = away (arrival_of client.number.0 x.log) is
+        by_tests false false true much starved m is = none-said word is
+        by_tests false false false true starved m is = says (buffers_word x.terms x.ending client) m is
+        by_tests false false false false true m is = says out_of_memory m is
+        by_tests false false false false false m is = none-said word is
 
     pub word-right : (is_accepted e client ≡ true → was_answered t ending client ≡ true) → (word : LastWord) → plan.words c ≡ Some word → word.from ≡ entry_now there
         → IsLastWord t (before ++ e ∷ []) there e client word

@@ -20,7 +20,7 @@ use Rattle.shared_router.specs.Kept.{EndsSeries, EndsSeriesAs, EndsSeriesFor, En
 use Rattle.shared_router.specs.Leads.{IsWantedThere, LeadsAs, LeadsFor, LeadsSo}
 use Rattle.shared_router.specs.Rests.{CalmSo, IsCalm, LogsInSo, SaysLogin}
 use Rattle.shared_router.specs.Sends.{MaySay, SendsAs, SendsFor, SendsSo}
-use Rattle.shared_router.specs.Waited.{AreDone, AreRead, AreTold, AreUnbroken, AreWhole, AsItWaits, AskNothing, WakesSo}
+use Rattle.shared_router.specs.Waited.{AreDone, AreRead, AreTold, AreUnbroken, AreWhole, AreWorked, AsItWaits, AskNothing, ServesAll, WakesSo}
 
 -- rules together
 
@@ -106,27 +106,32 @@ module _ (terms : Terms)
   Asked = Both (AsItWaits AreUnbroken terms) (Both (AsItWaits AreWhole terms) (AsItWaits AskNothing terms))
 
   abbrev Done : Log → Entry → Type 0
-  Done = Both (AsItWaits AreDone terms) (WakesSo terms)
+  Done = Both (Both (AsItWaits AreWorked terms) (AsItWaits ServesAll terms)) (WakesSo terms)
 
   abbrev Resting : Log → Entry → Type 0
   Resting = Both (Both Calm Heard) (Both Asked Done)
 
+  done_by : (log : Log) → AreWorked terms log (now_at terms log) → ServesAll terms log (now_at terms log) → AreDone terms log (now_at terms log)
+  done_by log worked served = record { clients = worked; idle = served }
+
   rest_by : (log : Log) (e : Entry) → Resting log e → RestsSo terms log e
   rest_by log (entry.Woke until_ms now_ms) all = record {
-    rests = parts log (now_at terms log) all.0.0.0 all.0.1.0 all.0.1.1 all.0.0.1 all.1.0.0 all.1.0.1.0 all.1.0.1.1 all.1.1.0;
+    rests = parts log (now_at terms log) all.0.0.0 all.0.1.0 all.0.1.1 all.0.0.1 all.1.0.0 all.1.0.1.0 all.1.0.1.1 (done_by log all.1.1.0.0 all.1.1.0.1);
     until = all.1.1.1;
   }
-  rest_by log entry.WaitFailed all = parts log (now_at terms log) all.0.0.0 all.0.1.0 all.0.1.1 all.0.0.1 all.1.0.0 all.1.0.1.0 all.1.0.1.1 all.1.1.0
-  rest_by log entry.Over all = parts log (now_at terms log) all.0.0.0 all.0.1.0 all.0.1.1 all.0.0.1 all.1.0.0 all.1.0.1.0 all.1.0.1.1 all.1.1.0
+  rest_by log entry.WaitFailed all =
+      parts log (now_at terms log) all.0.0.0 all.0.1.0 all.0.1.1 all.0.0.1 all.1.0.0 all.1.0.1.0 all.1.0.1.1 (done_by log all.1.1.0.0 all.1.1.0.1)
+  rest_by log entry.Over all = parts log (now_at terms log) all.0.0.0 all.0.1.0 all.0.1.1 all.0.0.1 all.1.0.0 all.1.0.1.0 all.1.0.1.1 (done_by log all.1.1.0.0 all.1.1.0.1)
   rest_by log _ all = tt
 
   pub rests_kept : (log : Log) → AllLawful (CalmSo terms) log → AllLawful (LogsInSo terms) log → AllLawful (AsItWaits AreRead terms) log → AllLawful (AsItWaits AreTold terms) log
-      → AllLawful (AsItWaits AreUnbroken terms) log → AllLawful (AsItWaits AreWhole terms) log → AllLawful (AsItWaits AskNothing terms) log → AllLawful (AsItWaits AreDone terms) log
-      → AllLawful (WakesSo terms) log → AllLawful (RestsSo terms) log
-  rests_kept log calm login read told unbroken whole none done wakes =
+      → AllLawful (AsItWaits AreUnbroken terms) log → AllLawful (AsItWaits AreWhole terms) log → AllLawful (AsItWaits AskNothing terms) log → AllLawful (AsItWaits AreWorked terms) log
+      → AllLawful (AsItWaits ServesAll terms) log → AllLawful (WakesSo terms) log → AllLawful (RestsSo terms) log
+  rests_kept log calm login read told unbroken whole none worked served wakes =
       so-from Resting (RestsSo terms) rest_by [] log
       (both (Both Calm Heard) (Both Asked Done) log
       (both Calm Heard log (both (CalmSo terms) (LogsInSo terms) log calm login) (both (AsItWaits AreRead terms) (AsItWaits AreTold terms) log read told))
       (both Asked Done log
       (both (AsItWaits AreUnbroken terms) (Both (AsItWaits AreWhole terms) (AsItWaits AskNothing terms)) log unbroken (both (AsItWaits AreWhole terms) (AsItWaits AskNothing terms) log whole none))
-      (both (AsItWaits AreDone terms) (WakesSo terms) log done wakes)))
+      (both (Both (AsItWaits AreWorked terms) (AsItWaits ServesAll terms)) (WakesSo terms) log
+      (both (AsItWaits AreWorked terms) (AsItWaits ServesAll terms) log worked served) wakes)))

@@ -27,7 +27,7 @@ use Rattle.shared_router.specs.Fixed.{Fixed, setup_of}
 use Rattle.shared_router.specs.Judged.{IsFresh}
 use Rattle.shared_router.specs.More.{More}
 use Rattle.shared_router.specs.Shared.{shared}
-use Rattle.shared_router.proofs.Decidedly.{GoesTo, are_more, became_due}
+use Rattle.shared_router.proofs.Decidedly.{GoesTo, are_more, became_due, was_decided}
 use Rattle.shared_router.proofs.Lone.{route_lone}
 use Rattle.shared_router.proofs.Numbered.{IsOld, IsReady, lower_old, next_new, number_within, numbered_taken, old_taken}
 use Rattle.shared_router.proofs.Numbered.{ready_apart, ready_next, replaced, taken_old}
@@ -88,7 +88,7 @@ module _ (fixed : Fixed) where
     decided_old m (Some x) at is = held.tabled.routes m x at
 
     pub looked_up_old : (m : MessageName) (reply taken : Bool) → has_reply (view_of setup w.tale) m ≡ reply → is_taken_of client m ≡ taken → (reply || taken) ≡ true → IsOld w.tale.clients m
-    looked_up_old m true taken replied was is = decided_old m (w.decided.routes m) refl (held.decided.answered m replied)
+    looked_up_old m true taken replied was is = decided_old m (w.decided.routes m) refl (was_decided w.decided m (held.decided.answered m replied))
     looked_up_old m false true replied was is = was_taken m was
     looked_up_old m false false replied was is = isnt is
 
@@ -212,13 +212,13 @@ module _ (fixed : Fixed) where
     none_due k is = let goes = held.decided.due k is.0 is.1.0 in no_some (Some goes.route) (sym unrouted ∙ ap w.decided.routes (sym is.1.1) ∙ goes.routed)
 
     none_there : (l : LinkId) → StandsOn (view_of setup w.tale).links l name → ⊥
-    none_there l on = isnt (sym undecided ∙ held.decided.stands l name on)
+    none_there l on = isnt (sym undecided ∙ was_decided w.decided name (held.decided.stands l name on))
 
     none_replied : (view_of setup w.tale).replies name ≡ None
-    none_replied = none_of ((view_of setup w.tale).replies name) (λ reply is. isnt (sym undecided ∙ held.decided.answered name (ap (λ x. is_some x) is)))
+    none_replied = none_of ((view_of setup w.tale).replies name) (λ reply is. isnt (sym undecided ∙ was_decided w.decided name (held.decided.answered name (ap (λ x. is_some x) is))))
 
     none_carried : (view_of setup w.tale).carriers name ≡ None
-    none_carried = none_of ((view_of setup w.tale).carriers name) (λ link is. isnt (sym undecided ∙ held.decided.carried name (ap (λ x. is_some x) is)))
+    none_carried = none_of ((view_of setup w.tale).carriers name) (λ link is. isnt (sym undecided ∙ was_decided w.decided name (held.decided.carried name (ap (λ x. is_some x) is))))
 
     -- where it is up, it is taken up
     pub taken_some : (message : Framed) → up ≡ true → found ≡ Some message → taken_once setup by w client ≡ Some (taken_then message ((plan_of d).routes name))

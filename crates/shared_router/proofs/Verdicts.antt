@@ -23,7 +23,7 @@ use Rattle.log_story.specs.Plan.{Plan, Route, com_execute, com_field_list, com_i
 use Rattle.log_story.specs.Tale.{Client, view_of}
 use Rattle.tale_world.specs.Served.{SameFor}
 use Rattle.tale_world.proofs.Looking.{same_args, same_messages, same_prepared}
-use Rattle.router_promises.specs.Statements.{between, com_close, drops, execute_size, is_byte, is_full, is_whole_execute, known_statement, next_number, numbers_given, standing}
+use Rattle.router_promises.specs.Statements.{are_types, between, com_close, drops, execute_size, is_byte, is_full, is_whole_execute, known_statement, next_number, numbers_given, standing}
 use Rattle.router_promises.specs.Takings.{Taking}
 use Rattle.router_promises.specs.Terms.{Terms, Tried, setup_in}
 use Rattle.router_promises.specs.Verdicts.{Asks, Chooses, Executes, Kind, Lists, Malformed, Pings, Prepares, Quits, ResetsStatement, Restarts, Silent, Unknown, Unprepared, Verdict, Wanted}
@@ -84,7 +84,7 @@ module _ (client : Client) (view : View) (moment : ℕ) (p q : Plan) (same : Sam
   whole_same : (number : ℕ) (prepared : Prepared) (payload : List ℕ)
       → is_whole_execute p client ordinal number prepared payload ≡ is_whole_execute q client ordinal number prepared payload
   whole_same number prepared payload =
-      ap (λ (args : Args). nat_le (execute_size prepared.params payload) (length payload) && not (not (nat_eq prepared.params 0) && is_none args.types))
+      ap (λ (args : Args). nat_le (execute_size prepared.params payload) (length payload) && not (not (nat_eq prepared.params 0) && not (are_types prepared.params args.types)))
       (same_args client view moment p q same prepared.params number prepared.ordinal (take (ordinal - 1) (messages p client)) payload (omega (arith, length-take (ordinal - 1) (messages p client)))
       ∙ ap (λ (ms : List Framed). args_in prepared.params number (λ i. not (is_some (q.routes (name_of client i)))) prepared.ordinal (take (ordinal - 1) ms) payload) said)
 

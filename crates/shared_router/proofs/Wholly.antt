@@ -17,8 +17,8 @@ use Rattle.log_story.specs.Servers.{written_in}
 use Rattle.shared_router.specs.Spelt.{ReadsRun, spelt}
 use Rattle.shared_router.proofs.Looked.{Each}
 
-abbrev limit : ℕ
-limit = 1073741824
+abbrev pub limit : ℕ
+limit = 36893488147419103232
 
 empty : {A : Type 0} (x : ℕ) (xs : List ℕ) → x ∷ xs ≡ [] → A
 empty x xs is = absurd (cc)
@@ -65,7 +65,7 @@ both_of written more whole (Some fault) broken all some =
 
 -- A front of one packet.
 
-spelt_one : (payload : List ℕ) → length payload ≤ limit
+pub spelt_one : (payload : List ℕ) → length payload ≤ limit
     → split limit 0 (spelling 0 payload) ≡ record { messages = record { first = 0; last = (0 + length payload / longest) % 256; payload = payload } ∷ []; rest = []; fault = None }
 spelt_one payload small =
     let again = first_message-again limit 0 payload [] (omega arith) small in

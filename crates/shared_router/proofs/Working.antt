@@ -161,13 +161,21 @@ module _ (k : Known) (link : LinkId) where
           isnt (sym d ∙ goes_out (asks (and_from (is_quiet there.stage) (not (is_reset_step (wire_now k.now link).step)) q (ap not r)) d) (wish_on k link) refl some)
 
 module _ (fixed : Fixed) (numbered : IsNumbered fixed) (log : Log) (our : IsOurLog fixed log) where
+  pub works_there : (before later : Log) (e : Entry) → IsAt log before e later → MayWait (known fixed (world_at fixed before)) → (link : LinkId)
+      → is_to_server (known fixed (world_at fixed before)).now.tale link ≡ true → is_open link (known fixed (world_at fixed before)).log ≡ true
+      → (wire_now (known fixed (world_at fixed before)).now link).entered ≡ true → is_some (wish_on (known fixed (world_at fixed before)) link) ≡ true
+      → is_at_work (known fixed (world_at fixed before)).terms (known fixed (world_at fixed before)).log (known fixed (world_at fixed before)).now link ≡ true
+  works_there before later e at may link to_server opened entered some =
+      let k : Known = known fixed (world_at fixed before) in
+      works k link may to_server opened
+      (λ answered goes. may_ask k link ((last_plan fixed numbered log).logins link) (known_so fixed numbered log our before later e at may link to_server opened) may to_server opened goes answered entered) some
+
   works_at : (before later : Log) (e : Entry) → IsAt log before e later → MayWait (known fixed (world_at fixed before)) → WorksOn (known fixed (world_at fixed before))
   works_at before later e at may link to_server vacant some =
       let k : Known = known fixed (world_at fixed before) in
       let first = and_parts (is_here k.log link) (wire_now k.now link).entered (and_parts (is_here k.log link && (wire_now k.now link).entered) _ vacant).0 in
       let opened : is_open link k.log ≡ true = (and_parts (is_open link k.log) (not (was_lost k.log link)) first.0).0 in
-      works k link may to_server opened
-      (λ answered goes. may_ask k link ((last_plan fixed numbered log).logins link) (known_so fixed numbered log our before later e at may link to_server opened) may to_server opened goes answered first.1) some
+      works_there before later e at may link to_server opened first.1 some
 
   works_by : (before later : Log) (e : Entry) → IsAt log before e later → IsOurs fixed before e → WorksSo fixed before e
   works_by before later (entry.Woke until_ms now_ms) at our_then = works_at before later (entry.Woke until_ms now_ms) at our_then.0

@@ -19,7 +19,7 @@ use Rattle.router_promises.specs.GivenUp.{is_in_work, key_tried, session_of}
 use Rattle.router_promises.specs.Heard as heard
 use Rattle.router_promises.specs.Heard.{Answer, Bad, Part, Reading, is_amiss, is_step, reading_of}
 use Rattle.router_promises.specs.Keys.{is_waiting, oldest}
-use Rattle.router_promises.specs.Now.{entry_now, is_loss, wire_now}
+use Rattle.router_promises.specs.Now.{entry_now, is_gone, wire_now}
 use Rattle.router_promises.specs.Running.{is_off, status_in}
 use Rattle.router_promises.specs.Steps.{wants_there}
 use Rattle.router_promises.specs.Terms.{plan_in}
@@ -57,7 +57,7 @@ payload_if true payload = Some payload
 payload_if false payload = None
 
 abbrev pub lost : Case → Option (List ℕ)
-lost c = payload_if (is_loss c.e && is_named c (is_on c)) connection_lost
+lost c = payload_if (is_gone c.e && is_named c (is_on c)) connection_lost
 
 -- at a wake, where no link is readied for it
 

@@ -3,7 +3,7 @@ use Rattle.std.specs.Prelude.{◌≡◌, Bool, true, false}
 use Rattle.mx_base.specs.declared.tag.Tag.{Tag}
 use Rattle.mx_base.specs.declared.tag.Tag.TheVariants as tags
 use Rattle.mx_wire.specs.Log.{Log}
-use Rattle.mx_wire.specs.Moments.{AllLawful, AtEachMoment}
+use Rattle.mx_wire.specs.Moments.{AllLawful}
 use Rattle.mx_wire.specs.declared.entry.Entry.{Entry}
 use Rattle.mx_wire.specs.declared.entry.Entry.TheVariants.{Wrote}
 use Rattle.private_model.specs.Commands.{Quit}
@@ -16,9 +16,6 @@ use Rattle.router_promises.specs.Now.{Now, next, now_at, wire_now}
 use Rattle.router_promises.specs.Steps.{IsInSeries}
 use Rattle.router_promises.specs.Terms.{Terms, plan_in, setup_in}
 use Rattle.router_promises.specs.Uses.{kind_of_step}
-use Rattle.shared_router.specs.Onward.{WordsGoOnSo}
-use Rattle.shared_router.specs.Spelt.{RunsReadSo}
-use Rattle.shared_router.specs.Waited.{AreDone, AsItWaits}
 
 -- a series of steps ends
 
@@ -48,11 +45,6 @@ EndsSeriesSo terms log e = EndsSeriesBy terms (now_at terms log) e
 abbrev pub LeavesFewSo : Terms → Log → Entry → Type 0
 LeavesFewSo terms log e = LeavesFew terms log (next terms (now_at terms log) e) e
 
--- Executes read as they are spelt; last words stay; series of steps end; few are left at a wake; and where the loop waits, the
--- rest of what it should have done is done.
+-- Series of steps end.
 pub record IsRest (terms : Terms) (log : Log) : Type 0 where
-  pub runs_read : AtEachMoment (RunsReadSo terms) log
-  pub words_go_on : AllLawful (WordsGoOnSo terms) log
   pub series_end : AllLawful (EndsSeriesSo terms) log
-  pub leaves_few : AllLawful (LeavesFewSo terms) log
-  pub done : AllLawful (AsItWaits AreDone terms) log

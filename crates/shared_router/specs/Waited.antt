@@ -1,15 +1,19 @@
 -- Parts of the promise that the loop waits at rest, in its own words.
-use Rattle.std.specs.Prelude.{All, ◌≡◌, ◌⊎◌, ◌<◌, ◌≤◌, false, is_some, true}
+use Rattle.std.specs.Prelude.{All, ◌≡◌, ◌⊎◌, ◌<◌, ◌≤◌, false, is_some, true, Some}
 use Rattle.std.specs.List.{list_any}
 use Rattle.mx_base.specs.declared.names.LinkId.{LinkId}
 use Rattle.mx_wire.specs.Log.{Log, is_open, of_link, written_of}
 use Rattle.mx_wire.specs.declared.entry.Entry.{Entry}
 use Rattle.mx_wire.specs.declared.entry.Entry.TheVariants.{Over, WaitFailed, Woke}
 use Rattle.ready_loop.specs.Drained.{write_dry}
+use Rattle.private_model.specs.Names.{SessionName}
+use Rattle.private_model.specs.View.{session_in}
 use Rattle.log_story.specs.Honest.{IsStep}
 use Rattle.log_story.specs.Owed.{name_of}
 use Rattle.log_story.specs.Tale.{Client, is_to_server}
+use Rattle.tale_world.specs.Policy.{Readied}
 use Rattle.router_promises.specs.Due.{due_to}
+use Rattle.router_promises.specs.Dues.{is_due}
 use Rattle.router_promises.specs.Ends.{was_answered}
 use Rattle.router_promises.specs.Keys.{LinkKey, how_many, is_at_work, is_idle, is_stepping, is_vacant, waiting}
 use Rattle.router_promises.specs.Now.{Now, link_now, now_at, wire_now}
@@ -17,7 +21,8 @@ use Rattle.router_promises.specs.Rest.{IsBegunWhole, IsInWork, IsRead, is_answer
 use Rattle.router_promises.specs.Terms.{Terms, plan_in, setup_in}
 use Rattle.router_promises.specs.Wakes.{has_ended, wakes_at}
 use Rattle.shared_router.specs.Fixed.{Fixed}
-use Rattle.shared_router.specs.Known.{Known, known}
+use Rattle.shared_router.specs.Known.{Known, known, link_by, present_by}
+use Rattle.shared_router.specs.Lends.{readied_now}
 use Rattle.shared_router.specs.Shared.{world_at}
 use Rattle.shared_router.specs.Wishes.{wish_on}
 
@@ -72,16 +77,23 @@ AreUnbroken terms log now =
     All (λ (client : Client). is_open client.link log ≡ true → has_ended terms now client ≡ false → list_any is_failed_write (of_link client.link log) ≡ false)
     now.tale.clients
 
--- What is left of rest, beside the parts that are laws of their own.
+-- Who waits is attended to.
 
 -- the last message of a client that was taken up is answered or in work
 abbrev pub IsWorked : Terms → Log → Now → Client → Type 0
 IsWorked terms log now client = has_ended terms now client ≡ false → was_answered terms now client ≡ false
     → IsInWork terms log now client ((plan_in terms).routes (name_of client client.taken))
 
+abbrev pub AreWorked : Terms → Log → Now → Type 0
+AreWorked terms log now = All (λ (client : Client). is_open client.link log ≡ true → IsWorked terms log now client) now.tale.clients
+
+-- where a link of a key is idle, no more statements wait than links are on their way to be lent
+abbrev pub ServesAll : Terms → Log → Now → Type 0
+ServesAll terms log now = (key : LinkKey) → 0 < how_many is_idle terms log now key → waiting terms now key ≤ how_many is_stepping terms log now key
+
 pub record AreDone (terms : Terms) (log : Log) (now : Now) : Type 0 where
-  pub clients : All (λ (client : Client). is_open client.link log ≡ true → IsWorked terms log now client) now.tale.clients
-  pub idle : (key : LinkKey) → 0 < how_many is_idle terms log now key → waiting terms now key ≤ how_many is_stepping terms log now key
+  pub clients : AreWorked terms log now
+  pub idle : ServesAll terms log now
 
 -- A link that carries nobody and on which something is wished is at work: something is unanswered there, or it takes no more.
 abbrev pub WorksOn : Known → Type 0
@@ -94,3 +106,20 @@ WorksSo fixed log (Woke until_ms now_ms) = WorksOn (known fixed (world_at fixed 
 WorksSo fixed log WaitFailed = WorksOn (known fixed (world_at fixed log))
 WorksSo fixed log Over = WorksOn (known fixed (world_at fixed log))
 WorksSo fixed log _ = Unit {0}
+
+-- A link on which nothing stands, and which is readied for a statement that waits, or carries a session in which one is due, is asked for something: the
+-- test before a first byte lets it by.
+
+abbrev pub IsItsLink : Known → LinkId → SessionName → Type 0
+IsItsLink k link n = ((r : Readied) × (readied_now k link ≡ Some r) × (r.name ≡ n)) ⊎ (session_in (link_by k link).carries ≡ Some n)
+
+abbrev pub AsksForWhom : Known → Type 0
+AsksForWhom k = (link : LinkId) (n : SessionName) → is_to_server k.now.tale link ≡ true → is_open link k.log ≡ true → IsItsLink k link n
+    → present_by k n.client n.hostgroup ≡ n → is_due k.terms k.now.tale n ≡ true → is_at_work k.terms k.log k.now link ≡ false
+    → is_some (wish_on k link) ≡ true
+
+abbrev pub AsksSo : Fixed → Log → Entry → Type 0
+AsksSo fixed log (Woke until_ms now_ms) = AsksForWhom (known fixed (world_at fixed log))
+AsksSo fixed log WaitFailed = AsksForWhom (known fixed (world_at fixed log))
+AsksSo fixed log Over = AsksForWhom (known fixed (world_at fixed log))
+AsksSo fixed log _ = Unit {0}

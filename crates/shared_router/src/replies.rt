@@ -27,9 +27,13 @@ pub fn keeps_replies()
     ensures { (fixed : Fixed) (log : Log) → IsNumbered fixed → IsOurLog fixed log → AllLawful (RepliesStaySo (final_terms fixed log)) log }
 {}
 
-/// So what was written to each client is at each moment a front of what it is due, where what a client with a last word is due goes on.
+/// What a client with a last word is due goes on: it is heard no more and takes up nothing more, each of its messages is answered, or its last
+/// was left for want of memory; and a word that is said stands behind what it was due, or in place of the answer to its login.
+pub fn keeps_last_words()
+    ensures { (fixed : Fixed) (log : Log) → IsNumbered fixed → IsOurLog fixed log → AllLawful (WordsGoOnSo (final_terms fixed log)) log }
+{}
+
+/// So what was written to each client is at each moment a front of what it is due.
 pub fn writes_answers_that_stay()
-    ensures { (fixed : Fixed) (log : Log) → IsNumbered fixed → IsOurLog fixed log
-        → AllLawful (WordsGoOnSo (final_terms fixed log)) log
-        → AtEachMoment (DueSo (final_terms fixed log)) log }
+    ensures { (fixed : Fixed) (log : Log) → IsNumbered fixed → IsOurLog fixed log → AtEachMoment (DueSo (final_terms fixed log)) log }
 {}
