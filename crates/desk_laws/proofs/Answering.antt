@@ -1,6 +1,6 @@
 -- What an answer makes of a session by how it ended is what the law makes of it.
 use Rattle.std.specs.Prelude.{◌≡◌, ℕ, Bool, true, false, not, if◌then◌else◌, List, Option}
-use Rattle.std.proofs.Common.{refl, ap, sym, ◌∙◌, subst}
+use Rattle.std.proofs.Common.{refl, ap, sym, ◌∙◌}
 use Rattle.mx_base.specs.Fields.{lenenc_at}
 use Rattle.mx_base.specs.declared.fields.Field.{Field}
 use Rattle.mx_base.specs.declared.fields.Field.TheVariants as fields
@@ -13,7 +13,6 @@ use Rattle.server_rule.specs.Classes.{Reads}
 use Rattle.server_rule.specs.Replies.{end_by, first_payload, is_eof_payload, is_err_payload, last_payload, ok_behind, ok_behind_rows, prepare_end_by, reply_end}
 use Rattle.private_model.specs.Commands as commands
 use Rattle.private_model.specs.Commands.{Command, Reply, end_of, is_prepare, pin_statement}
-use Rattle.private_model.specs.Names.{SessionName}
 use Rattle.private_model.specs.Story as story
 use Rattle.private_model.specs.Story.{Question, command_of}
 use Rattle.private_model.specs.View.{pin_heard}
@@ -21,7 +20,7 @@ use Rattle.link_state.specs.declared.asking.Form.{Form}
 use Rattle.link_state.specs.declared.asking.Form.TheVariants.{Text, Fields, Prepare, SetId, ReadId, Reset}
 use Rattle.link_state.specs.declared.asking.Purpose.{Purpose}
 use Rattle.link_state.specs.declared.asking.Purpose.TheVariants as purposes
-use Rattle.link_laws.specs.Stands.{IsForm, IsPurpose}
+use Rattle.link_laws.specs.Stands.{Codes, IsForm, IsPurpose}
 use Rattle.client_desk.specs.Answers.{class_in, pin_for}
 use Rattle.desk_laws.specs.Stands.{IsShared}
 
@@ -98,14 +97,14 @@ pin_stated reads Reset commands.Reset multiplex shared reply pin is plain same =
     plain_pin (class_in Reset) (class_in Reset) multiplex shared (end_of reply) pin refl same (plain_reply reply.to_prepare reply.payloads plain)
 pin_stated reads _ _ multiplex shared reply pin is plain same = absurd is
 
-pub pin_same : (reads : Reads) (purpose : Purpose) (form : Form) (question : Question) (shared : Option Bool) (reply : Reply) (pin : Pin) → IsPurpose purpose question
+pub pin_same : (reads : Reads) (codes : Codes) (purpose : Purpose) (form : Form) (question : Question) (shared : Option Bool) (reply : Reply) (pin : Pin) → IsPurpose codes purpose question
     → IsForm reads form (command_of question) → reply.to_prepare ≡ is_prepare (command_of question) → IsShared question shared
     → pin_heard reads question reply pin ≡ pin_for purpose form shared (end_of reply) pin
-pin_same reads (purposes.Statement name ordinal key) form (story.Statement n due) shared reply pin for is kinds same =
+pin_same reads codes (purposes.Statement name ordinal key) form (story.Statement n due) shared reply pin for is kinds same =
     pin_stated reads form due.command due.multiplex shared reply pin is kinds same
-pin_same reads (purposes.Prep name ordinal at) form (story.Prep n key text) shared reply pin for is kinds same = refl
-pin_same reads (purposes.Sync name) form (story.Sync n command) shared reply pin for is kinds same = refl
-pin_same reads purposes.Own form (story.Own command) shared reply pin for is kinds same = refl
-pin_same reads (purposes.End name) form (story.End n) shared reply pin for is kinds same = refl
-pin_same reads (purposes.Capture name) form (story.Capture n) shared reply pin for is kinds same = refl
-pin_same reads _ form _ shared reply pin for is kinds same = absurd for
+pin_same reads codes (purposes.Prep name ordinal at) form (story.Prep n key text) shared reply pin for is kinds same = refl
+pin_same reads codes (purposes.Sync name) form (story.Sync n command) shared reply pin for is kinds same = refl
+pin_same reads codes purposes.Own form (story.Own command) shared reply pin for is kinds same = refl
+pin_same reads codes (purposes.End name) form (story.End n) shared reply pin for is kinds same = refl
+pin_same reads codes (purposes.Capture name) form (story.Capture n) shared reply pin for is kinds same = refl
+pin_same reads codes _ form _ shared reply pin for is kinds same = absurd for

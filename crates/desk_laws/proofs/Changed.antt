@@ -1,43 +1,33 @@
 -- A desk of which one session changed.
-use Rattle.std.specs.Prelude.{◌≡◌, ◌<◌, ◌≤◌, ℕ, suc, ◌+◌, ◌%◌, ◌^◌, Bool, true, false, not, ◌||◌, if◌then◌else◌, List, [], Option, Some, None}
-use Rattle.std.specs.Option.{option_map, option_map_or}
+use Rattle.std.specs.Prelude.{◌≡◌, ◌<◌, ℕ, suc, ◌^◌, Bool, true, false, List, [], Option, Some, None}
 use Rattle.std.proofs.Common.{refl, ap, sym, ◌∙◌, arith, subst}
 use Rattle.pin_classifier.specs.declared.class.Class.{Class}
 use Rattle.session_state.specs.Classes.{Neither, effect_of, schema_by, settings_by}
-use Rattle.session_state.specs.Pins.{is_pinned}
 use Rattle.session_state.specs.declared.place.Place.{Place}
 use Rattle.server_rule.specs.Classes.{Reads}
-use Rattle.server_rule.specs.Replies.{one_number}
 use Rattle.private_model.specs.Commands as commands
 use Rattle.private_model.specs.Commands.{Command, Reply, class_of, end_of, is_ok, is_prepare}
 use Rattle.private_model.specs.Names.{ClientNo, Hostgroup, LinkId, SessionName}
-use Rattle.private_model.specs.Story.{BecameDue, Capture, Due, End, Freed, Gone, Happening, Heard, Left, Own, Prep, Question, Sent, Statement, Sync, command_of, is_client, is_hostgroup, is_message, is_name, message_of, put}
-use Rattle.private_model.specs.View.{Answered, Held, Setup, Stage, View, due_of, first_view, held_heard, lives_after, place_after, present, view_heard, view_step}
-use Rattle.private_model.specs.View as views
-use Rattle.link_state.specs.declared.asking.Asking.{Asking}
+use Rattle.private_model.specs.Story.{Capture, End, Own, Prep, Question, Statement, Sync, is_hostgroup}
+use Rattle.private_model.specs.View.{Held, Setup, View, first_view, place_after, present}
 use Rattle.link_state.specs.declared.asking.Form.{Form}
 use Rattle.link_state.specs.declared.asking.Form.TheVariants.{Text, Fields, Prepare, SetId, ReadId, Reset}
-use Rattle.link_laws.specs.Stands.{IsAsking, IsForm}
-use Rattle.link_laws.proofs.Keeps.{id_question}
+use Rattle.link_laws.specs.Stands.{IsForm}
 use Rattle.client_seat.specs.Seats.{place_by}
 use Rattle.client_seat.specs.declared.phase.Phase.{Phase}
 use Rattle.client_seat.specs.declared.phase.Phase.TheVariants as phase
 use Rattle.client_seat.specs.declared.seat.Seat.{Seat}
-use Rattle.client_desk.specs.Answers.{heard}
 use Rattle.client_desk.specs.Desks.{anew_in, name_of, session_of, taken_on}
 use Rattle.client_desk.specs.Desks as desks
-use Rattle.client_desk.specs.Sessions.{homed, next_life, next_session, parted_by, parted_of, put_in, session_in, stated, unhomed}
-use Rattle.client_desk.specs.Works.{gone_out, outlasts}
+use Rattle.client_desk.specs.Sessions.{next_life, put_in, session_in}
+use Rattle.client_desk.specs.Works.{outlasts}
 use Rattle.client_desk.specs.declared.desk.Desk.{Desk}
-use Rattle.client_desk.specs.declared.session.Parted.{Parted}
 use Rattle.client_desk.specs.declared.session.Session.{Session}
 use Rattle.client_desk.specs.declared.work.Work.{Work}
-use Rattle.desk_laws.specs.Spares.{IsAside, IsElsewhere, asked_for}
-use Rattle.desk_laws.specs.Stands.{AreSessions, AreToCome, HasRow, HasRowFor, IsDesk, IsParted, IsPlaced, IsRequest, IsSentOrNot, IsSession, IsShared, IsUnsent, IsWork, IsWorkOr, held_of, message_at, name_at}
-use Rattle.desk_laws.proofs.Answering.{pin_same}
-use Rattle.desk_laws.proofs.Clear.{ClearOr, clear_same, due_same, heard_same}
-use Rattle.desk_laws.proofs.Names.{hostgroup_of, in_other_hostgroup, of_other_life, put_apart, put_here, same_client, same_message, same_name}
-use Rattle.desk_laws.proofs.Rows.{distinct_next, distinct_put, distinct_with_row, has_row, home_row, row_put, session_elsewhere, session_hostgroup, session_next, session_put, session_unhomed, session_with_row}
+use Rattle.desk_laws.specs.Spares.{IsAside}
+use Rattle.desk_laws.specs.Stands.{AreSessions, AreToCome, HasRow, HasRowFor, IsDesk, IsPlaced, IsRequest, IsSession, IsShared, IsWorkOr, held_of, name_at}
+use Rattle.desk_laws.proofs.Names.{hostgroup_of}
+use Rattle.desk_laws.proofs.Rows.{distinct_put, home_row, row_put, session_elsewhere}
 use Rattle.desk_laws.proofs.Same.{Same, SameDue, SameMessage, session_stays, work_stays}
 
 -- The present session, by its name.

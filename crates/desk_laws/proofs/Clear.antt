@@ -1,11 +1,11 @@
 -- What happens to other names leaves views the same.
-use Rattle.std.specs.Prelude.{◌≡◌, ◌<◌, ◌≤◌, ℕ, Bool, true, false, if◌then◌else◌, Option, Some, None}
+use Rattle.std.specs.Prelude.{◌≡◌, ◌<◌, ◌≤◌, ℕ, Bool, true, false, Option, Some, None}
 use Rattle.std.specs.Option.{option_map_or}
-use Rattle.std.proofs.Common.{refl, ap, sym, ◌∙◌, arith, subst}
-use Rattle.private_model.specs.Commands.{Reply, class_of}
+use Rattle.std.proofs.Common.{refl, ap, sym, ◌∙◌, arith}
+use Rattle.private_model.specs.Commands.{Reply}
 use Rattle.private_model.specs.Names.{ClientNo, Hostgroup, LinkId, SessionName}
-use Rattle.private_model.specs.Story.{BecameDue, Broke, Capture, Dropped, Due, End, Freed, Gone, Happening, Heard, Left, LoggedIn, Mirrored, Own, Prep, Question, Ran, Sent, Statement, Sync, Unprepared, is_client, is_hostgroup, is_message, is_name, message_of, put}
-use Rattle.private_model.specs.View.{Answered, Asked, Carried, Held, Joined, Lent, Nobody, Quiet, Setup, Stage, View, due_of, held_freed, held_heard, lives_after, present, session_in, view_heard, view_step}
+use Rattle.private_model.specs.Story.{BecameDue, Broke, Capture, Dropped, End, Freed, Gone, Happening, Heard, Left, LoggedIn, Mirrored, Own, Prep, Question, Ran, Sent, Statement, Sync, Unprepared, is_client, is_hostgroup, is_message, is_name, message_of, put}
+use Rattle.private_model.specs.View.{Answered, Asked, Carried, Joined, Lent, Nobody, Quiet, Setup, Stage, View, held_freed, held_heard, lives_after, present, session_in, view_heard, view_step}
 use Rattle.desk_laws.specs.Spares.{answered_for, asked_for, named}
 use Rattle.desk_laws.specs.Stands.{message_at, name_at}
 use Rattle.desk_laws.proofs.Names.{apart_numbers, client_of, hostgroup_of, of_other_client, put_apart}

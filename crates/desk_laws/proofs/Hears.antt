@@ -1,53 +1,39 @@
 -- An answer is read.
-use Rattle.std.specs.Prelude.{◌≡◌, ◌<◌, ◌≤◌, ℕ, suc, ◌+◌, ◌%◌, ◌^◌, Bool, true, false, not, ◌||◌, if◌then◌else◌, List, [], Option, Some, None}
-use Rattle.std.specs.Option.{option_map, option_map_or}
-use Rattle.std.proofs.Common.{refl, ap, sym, ◌∙◌, arith, subst}
-use Rattle.pin_classifier.specs.declared.class.Class.{Class}
-use Rattle.session_state.specs.Classes.{Neither, effect_of, schema_by, settings_by}
-use Rattle.session_state.specs.Pins.{is_pinned}
-use Rattle.session_state.specs.declared.place.Place.{Place}
-use Rattle.server_rule.specs.Classes.{Reads}
+use Rattle.std.specs.Prelude.{◌≡◌, ℕ, Bool, false, Option, Some, None}
+use Rattle.std.proofs.Common.{refl, ap, sym, ◌∙◌, subst}
 use Rattle.server_rule.specs.Replies.{one_number}
-use Rattle.private_model.specs.Commands as commands
-use Rattle.private_model.specs.Commands.{Command, Reply, class_of, end_of, is_ok, is_prepare}
+use Rattle.private_model.specs.Commands.{Reply, end_of, is_ok, is_prepare}
 use Rattle.private_model.specs.Names.{ClientNo, Hostgroup, LinkId, SessionName}
-use Rattle.private_model.specs.Story.{BecameDue, Capture, Due, End, Freed, Gone, Happening, Heard, Left, Own, Prep, Question, Sent, Statement, Sync, command_of, is_client, is_hostgroup, is_message, is_name, message_of, put}
-use Rattle.private_model.specs.View.{Answered, Held, Setup, Stage, View, due_of, first_view, held_heard, lives_after, place_after, present, view_heard, view_step}
-use Rattle.private_model.specs.View as views
+use Rattle.private_model.specs.Story.{Capture, Due, End, Heard, Own, Prep, Question, Statement, Sync, command_of, is_client, is_hostgroup, is_name, put}
+use Rattle.private_model.specs.View.{Answered, Held, Setup, Stage, View, held_heard, place_after, view_heard, view_step}
 use Rattle.link_state.specs.declared.asking.Asking.{Asking}
-use Rattle.link_state.specs.declared.asking.Form.{Form}
-use Rattle.link_state.specs.declared.asking.Form.TheVariants.{Text, Fields, Prepare, SetId, ReadId, Reset}
-use Rattle.link_laws.specs.Stands.{IsAsking, IsForm}
+use Rattle.link_laws.specs.Stands.{Codes, IsAsking}
 use Rattle.link_laws.proofs.Keeps.{id_question}
-use Rattle.client_seat.specs.Seats.{place_by}
 use Rattle.client_seat.specs.declared.phase.Phase.{Phase}
 use Rattle.client_seat.specs.declared.phase.Phase.TheVariants as phase
 use Rattle.client_seat.specs.declared.seat.Seat.{Seat}
 use Rattle.client_desk.specs.Answers.{heard}
 use Rattle.client_desk.specs.Desks.{anew_in, name_of, session_of, taken_on}
 use Rattle.client_desk.specs.Desks as desks
-use Rattle.client_desk.specs.Sessions.{homed, next_life, next_session, parted_by, parted_of, put_in, session_in, stated, unhomed}
-use Rattle.client_desk.specs.Works.{gone_out, outlasts}
+use Rattle.client_desk.specs.Sessions.{put_in}
 use Rattle.client_desk.specs.declared.desk.Desk.{Desk}
-use Rattle.client_desk.specs.declared.session.Parted.{Parted}
 use Rattle.client_desk.specs.declared.session.Session.{Session}
-use Rattle.client_desk.specs.declared.work.Work.{Work}
-use Rattle.desk_laws.specs.Spares.{IsAside, IsElsewhere, asked_for}
-use Rattle.desk_laws.specs.Stands.{AreSessions, AreToCome, HasRow, HasRowFor, IsDesk, IsParted, IsPlaced, IsRequest, IsSentOrNot, IsSession, IsShared, IsUnsent, IsWork, IsWorkOr, held_of, message_at, name_at}
+use Rattle.desk_laws.specs.Spares.{IsAside, asked_for}
+use Rattle.desk_laws.specs.Stands.{AreSessions, HasRow, IsDesk, IsPlaced, IsSession, IsShared, held_of, name_at}
 use Rattle.desk_laws.proofs.Answering.{pin_same}
-use Rattle.desk_laws.proofs.Changed.{aside_shared, asked_due, desk_changed, moved_so, name_is, next_is, places_stay, present_held, present_is, rows_stay, same_work, SameWork, sessions_changed, some_is, works_stay}
-use Rattle.desk_laws.proofs.Clear.{ClearOr, clear_same, due_same, heard_same}
-use Rattle.desk_laws.proofs.Names.{hostgroup_of, in_other_hostgroup, of_other_life, put_apart, put_here, same_client, same_message, same_name}
-use Rattle.desk_laws.proofs.Rows.{distinct_next, distinct_put, distinct_with_row, has_row, home_row, row_put, session_elsewhere, session_hostgroup, session_next, session_put, session_unhomed, session_with_row}
-use Rattle.desk_laws.proofs.Same.{Same, SameDue, SameMessage, session_stays, work_stays}
+use Rattle.desk_laws.proofs.Changed.{aside_shared, desk_changed, moved_so, name_is, same_work, sessions_changed}
+use Rattle.desk_laws.proofs.Clear.{ClearOr, heard_same}
+use Rattle.desk_laws.proofs.Names.{in_other_hostgroup, of_other_life, put_apart, put_here, same_client, same_name}
+use Rattle.desk_laws.proofs.Rows.{session_hostgroup, session_put}
+use Rattle.desk_laws.proofs.Same.{Same, SameMessage}
 
-module _ (setup : Setup) (view : View) (c : ClientNo) (desk : Desk) (is : IsDesk setup.reads view c desk) where
-  heard_held : (asking : Asking) (question : Question) (shared : Option Bool) (reply : Reply) (s : Session) → IsAsking setup.reads asking question
+module _ (setup : Setup) (codes : Codes) (view : View) (c : ClientNo) (desk : Desk) (is : IsDesk setup.reads view c desk) where
+  heard_held : (asking : Asking) (question : Question) (shared : Option Bool) (reply : Reply) (s : Session) → IsAsking setup.reads codes asking question
       → reply.to_prepare ≡ is_prepare (command_of question) → IsShared question shared
       → held_heard setup.reads question reply (held_of s) ≡ held_of (heard asking shared (end_of reply) (one_number reply.payloads) s)
   heard_held asking question shared reply s asks kinds same = λ i. record {
-    pin = pin_same setup.reads asking.purpose asking.form question shared reply s.pin asks.purpose asks.form kinds same i;
-    id = id_question setup.reads asking.purpose asking.form question reply s.id asks.purpose asks.form i;
+    pin = pin_same setup.reads codes asking.purpose asking.form question shared reply s.pin asks.purpose asks.form kinds same i;
+    id = id_question setup.reads codes asking.purpose asking.form question reply s.id asks.purpose asks.form i;
     home = s.home;
   }
 
@@ -62,7 +48,7 @@ module _ (setup : Setup) (view : View) (c : ClientNo) (desk : Desk) (is : IsDesk
   heard_view link reply (Capture k) n names m = let same : k ≡ n = cc in ap (λ (x : SessionName). put is_name view.held x (held_heard setup.reads (Capture k) reply (view.held x)) m) same
 
   heard_session : (link : LinkId) (reply : Reply) (question : Question) (asking : Asking) (shared : Option Bool) (h : Hostgroup) (s : Session)
-      → asked_for question ≡ Some (name_at c h s.life) → IsAsking setup.reads asking question → reply.to_prepare ≡ is_prepare (command_of question)
+      → asked_for question ≡ Some (name_at c h s.life) → IsAsking setup.reads codes asking question → reply.to_prepare ≡ is_prepare (command_of question)
       → IsShared question shared → IsSession view c h s
       → IsSession (view_heard setup view link reply (Answered question)) c h (heard asking shared (end_of reply) (one_number reply.payloads) s)
   heard_session link reply question asking shared h s names asks kinds same at =
@@ -90,7 +76,7 @@ module _ (setup : Setup) (view : View) (c : ClientNo) (desk : Desk) (is : IsDesk
       (subst (λ (m : Option SessionName). ClearOr view c g m) (sym names) (λ other from. in_other_hostgroup c g h other life apart))
 
   heard_sessions : (link : LinkId) (reply : Reply) (question : Question) (asking : Asking) (shared : Option Bool) (h : Hostgroup)
-      → asked_for question ≡ Some (name_at c h (session_of desk h).life) → IsAsking setup.reads asking question
+      → asked_for question ≡ Some (name_at c h (session_of desk h).life) → IsAsking setup.reads codes asking question
       → reply.to_prepare ≡ is_prepare (command_of question) → IsShared question shared → HasRow desk.sessions h
       → AreSessions (view_heard setup view link reply (Answered question)) c desk.lefts
       (put_in desk.sessions (heard asking shared (end_of reply) (one_number reply.payloads) (session_of desk h)))
@@ -123,7 +109,7 @@ module _ (setup : Setup) (view : View) (c : ClientNo) (desk : Desk) (is : IsDesk
   aside_place link reply (Capture n) aside = refl
 
   aside_at : (link : LinkId) (reply : Reply) (question : Question) (asking : Asking) (shared : Option Bool) (h : Hostgroup) → IsAside question
-      → asked_for question ≡ Some (name_at c h (session_of desk h).life) → IsAsking setup.reads asking question
+      → asked_for question ≡ Some (name_at c h (session_of desk h).life) → IsAsking setup.reads codes asking question
       → reply.to_prepare ≡ is_prepare (command_of question) → IsShared question shared → HasRow desk.sessions h
       → IsDesk setup.reads (view_heard setup view link reply (Answered question)) c
       (desks.heard_in h asking shared (end_of reply) (one_number reply.payloads) desk)
@@ -134,7 +120,7 @@ module _ (setup : Setup) (view : View) (c : ClientNo) (desk : Desk) (is : IsDesk
       (same_work view after c desk.work (aside_message link reply question aside) (λ g. refl))
 
   pub heard_so : (link : LinkId) (reply : Reply) (question : Question) (asking : Asking) (shared : Option Bool) (h : Hostgroup)
-      → (view.links link).stage ≡ Answered question → IsAside question → asked_for question ≡ Some (name_of desk h) → IsAsking setup.reads asking question
+      → (view.links link).stage ≡ Answered question → IsAside question → asked_for question ≡ Some (name_of desk h) → IsAsking setup.reads codes asking question
       → reply.to_prepare ≡ is_prepare (command_of question) → HasRow desk.sessions h
       → IsDesk setup.reads (view_step setup view (Heard link reply)) c (desks.heard_in h asking shared (end_of reply) (one_number reply.payloads) desk)
   heard_so link reply question asking shared h there aside names asks kinds row =
@@ -147,7 +133,7 @@ module _ (setup : Setup) (view : View) (c : ClientNo) (desk : Desk) (is : IsDesk
   statement_at : (link : LinkId) (reply : Reply) (due : Due) (asking : Asking) (h : Hostgroup) (seat : Seat)
       → seat.client.number ≡ desk.seat.client.number → seat.phase ≡ desk.seat.phase
       → seat.place ≡ (desks.moved_by asking.form (is_ok reply) desk.seat).place
-      → IsAsking setup.reads asking (Statement (name_at c h (session_of desk h).life) due) → reply.to_prepare ≡ is_prepare due.command
+      → IsAsking setup.reads codes asking (Statement (name_at c h (session_of desk h).life) due) → reply.to_prepare ≡ is_prepare due.command
       → HasRow desk.sessions h
       → IsDesk setup.reads (view_heard setup view link reply (Answered (Statement (name_at c h (session_of desk h).life) due))) c
       (record (desks.heard_in h asking due.multiplex (end_of reply) (one_number reply.payloads) desk) { seat = seat; work = None })
@@ -173,7 +159,7 @@ module _ (setup : Setup) (view : View) (c : ClientNo) (desk : Desk) (is : IsDesk
   pub answered_so : (link : LinkId) (reply : Reply) (n : SessionName) (due : Due) (asking : Asking) (h : Hostgroup) (seat : Seat)
       → (view.links link).stage ≡ Answered (Statement n due) → n ≡ name_of desk h → seat.client.number ≡ desk.seat.client.number
       → seat.phase ≡ desk.seat.phase → seat.place ≡ (desks.moved_by asking.form (is_ok reply) desk.seat).place
-      → IsAsking setup.reads asking (Statement n due) → reply.to_prepare ≡ is_prepare due.command → HasRow desk.sessions h
+      → IsAsking setup.reads codes asking (Statement n due) → reply.to_prepare ≡ is_prepare due.command → HasRow desk.sessions h
       → IsDesk setup.reads (view_step setup view (Heard link reply)) c
       (record (desks.heard_in h asking due.multiplex (end_of reply) (one_number reply.payloads) desk) { seat = seat; work = None })
   answered_so link reply n due asking h seat there names number phases moved asks kinds row =
@@ -183,4 +169,4 @@ module _ (setup : Setup) (view : View) (c : ClientNo) (desk : Desk) (is : IsDesk
       subst (λ (stage : Stage). IsDesk setup.reads (view_heard setup view link reply stage) c
       (record (desks.heard_in h asking due.multiplex (end_of reply) (one_number reply.payloads) desk) { seat = seat; work = None })) (sym stands)
       (statement_at link reply due asking h seat number phases moved
-      (subst (λ (m : SessionName). IsAsking setup.reads asking (Statement m due)) same asks) kinds row)
+      (subst (λ (m : SessionName). IsAsking setup.reads codes asking (Statement m due)) same asks) kinds row)

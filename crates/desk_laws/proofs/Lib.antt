@@ -9,3 +9,4 @@ mod Moves
 mod Hears
 mod Leaves
 mod Ranking
+mod Working

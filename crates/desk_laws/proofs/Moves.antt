@@ -1,45 +1,25 @@
 -- A statement becomes due and goes out.
-use Rattle.std.specs.Prelude.{◌≡◌, ◌<◌, ◌≤◌, ℕ, suc, ◌+◌, ◌%◌, ◌^◌, Bool, true, false, not, ◌||◌, if◌then◌else◌, List, [], Option, Some, None}
-use Rattle.std.specs.Option.{option_map, option_map_or}
-use Rattle.std.proofs.Common.{refl, ap, sym, ◌∙◌, arith, subst}
-use Rattle.pin_classifier.specs.declared.class.Class.{Class}
-use Rattle.session_state.specs.Classes.{Neither, effect_of, schema_by, settings_by}
+use Rattle.std.specs.Prelude.{◌≡◌, ℕ, Bool, false, not, ◌||◌, List, Option, Some, None}
+use Rattle.std.specs.Option.{option_map}
+use Rattle.std.proofs.Common.{refl, ap, sym, ◌∙◌, subst}
 use Rattle.session_state.specs.Pins.{is_pinned}
-use Rattle.session_state.specs.declared.place.Place.{Place}
-use Rattle.server_rule.specs.Classes.{Reads}
-use Rattle.server_rule.specs.Replies.{one_number}
-use Rattle.private_model.specs.Commands as commands
-use Rattle.private_model.specs.Commands.{Command, Reply, class_of, end_of, is_ok, is_prepare}
+use Rattle.private_model.specs.Commands.{Command, class_of}
 use Rattle.private_model.specs.Names.{ClientNo, Hostgroup, LinkId, SessionName}
-use Rattle.private_model.specs.Story.{BecameDue, Capture, Due, End, Freed, Gone, Happening, Heard, Left, Own, Prep, Question, Sent, Statement, Sync, command_of, is_client, is_hostgroup, is_message, is_name, message_of, put}
-use Rattle.private_model.specs.View.{Answered, Held, Setup, Stage, View, due_of, first_view, held_heard, lives_after, place_after, present, view_heard, view_step}
-use Rattle.private_model.specs.View as views
-use Rattle.link_state.specs.declared.asking.Asking.{Asking}
-use Rattle.link_state.specs.declared.asking.Form.{Form}
-use Rattle.link_state.specs.declared.asking.Form.TheVariants.{Text, Fields, Prepare, SetId, ReadId, Reset}
-use Rattle.link_laws.specs.Stands.{IsAsking, IsForm}
-use Rattle.link_laws.proofs.Keeps.{id_question}
-use Rattle.client_seat.specs.Seats.{place_by}
-use Rattle.client_seat.specs.declared.phase.Phase.{Phase}
-use Rattle.client_seat.specs.declared.phase.Phase.TheVariants as phase
-use Rattle.client_seat.specs.declared.seat.Seat.{Seat}
-use Rattle.client_desk.specs.Answers.{heard}
+use Rattle.private_model.specs.Story.{BecameDue, Due, Happening, Prep, Sent, Statement, is_message, is_name, message_of, put}
+use Rattle.private_model.specs.View.{Held, Setup, View, due_of, present, view_step}
 use Rattle.client_desk.specs.Desks.{anew_in, name_of, session_of, taken_on}
 use Rattle.client_desk.specs.Desks as desks
-use Rattle.client_desk.specs.Sessions.{homed, next_life, next_session, parted_by, parted_of, put_in, session_in, stated, unhomed}
+use Rattle.client_desk.specs.Sessions.{homed, put_in, stated}
 use Rattle.client_desk.specs.Works.{gone_out, outlasts}
 use Rattle.client_desk.specs.declared.desk.Desk.{Desk}
-use Rattle.client_desk.specs.declared.session.Parted.{Parted}
 use Rattle.client_desk.specs.declared.session.Session.{Session}
 use Rattle.client_desk.specs.declared.work.Work.{Work}
-use Rattle.desk_laws.specs.Spares.{IsAside, IsElsewhere, asked_for}
-use Rattle.desk_laws.specs.Stands.{AreSessions, AreToCome, HasRow, HasRowFor, IsDesk, IsParted, IsPlaced, IsRequest, IsSentOrNot, IsSession, IsShared, IsUnsent, IsWork, IsWorkOr, held_of, message_at, name_at}
-use Rattle.desk_laws.proofs.Answering.{pin_same}
-use Rattle.desk_laws.proofs.Changed.{aside_shared, asked_due, desk_changed, moved_so, name_is, next_is, places_stay, present_held, present_is, rows_stay, same_work, SameWork, sessions_changed, some_is, works_stay}
-use Rattle.desk_laws.proofs.Clear.{ClearOr, clear_same, due_same, heard_same}
-use Rattle.desk_laws.proofs.Names.{hostgroup_of, in_other_hostgroup, of_other_life, put_apart, put_here, same_client, same_message, same_name}
-use Rattle.desk_laws.proofs.Rows.{distinct_next, distinct_put, distinct_with_row, has_row, home_row, row_put, session_elsewhere, session_hostgroup, session_next, session_put, session_unhomed, session_with_row}
-use Rattle.desk_laws.proofs.Same.{Same, SameDue, SameMessage, session_stays, work_stays}
+use Rattle.desk_laws.specs.Stands.{HasRow, HasRowFor, IsDesk, IsRequest, IsSentOrNot, IsSession, IsUnsent, IsWork, IsWorkOr, message_at, name_at}
+use Rattle.desk_laws.proofs.Changed.{asked_due, desk_changed, name_is, places_stay, present_held, present_is, same_work, sessions_changed}
+use Rattle.desk_laws.proofs.Clear.{clear_same}
+use Rattle.desk_laws.proofs.Names.{in_other_hostgroup, of_other_life, put_apart, put_here, same_message, same_name}
+use Rattle.desk_laws.proofs.Rows.{distinct_with_row, has_row, row_put, session_hostgroup, session_put, session_with_row}
+use Rattle.desk_laws.proofs.Same.{session_stays}
 
 module _ (setup : Setup) (view : View) (c : ClientNo) (desk : Desk) (is : IsDesk setup.reads view c desk) where
   pub due_so : (work : Work) (ordinal key : ℕ) (command : Command) (multiplex : Option Bool) → IsRequest setup.reads ordinal key command multiplex work

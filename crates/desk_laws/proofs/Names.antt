@@ -1,6 +1,6 @@
 -- Names that differ, and tables with one entry put.
-use Rattle.std.specs.Prelude.{◌≡◌, ◌<◌, ◌≤◌, ℕ, Bool, true, false, ◌&&◌, nat_eq, if◌then◌else◌}
-use Rattle.std.proofs.Common.{refl, ap, sym, ◌∙◌, arith, subst}
+use Rattle.std.specs.Prelude.{◌≡◌, ◌<◌, ◌≤◌, ℕ, Bool, true, false, nat_eq, if◌then◌else◌}
+use Rattle.std.proofs.Common.{refl, ap, sym, arith, subst}
 use Rattle.private_model.specs.Names.{ClientNo, Hostgroup, MessageName, SessionName}
 use Rattle.private_model.specs.Story.{is_client, is_hostgroup, is_message, is_name, put}
 use Rattle.desk_laws.specs.Stands.{message_at, name_at}

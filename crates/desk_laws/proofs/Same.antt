@@ -1,13 +1,13 @@
 -- Views that agree of what a desk stands for.
-use Rattle.std.specs.Prelude.{◌≡◌, ◌<◌, ◌≤◌, ℕ, suc, Bool, true, false, List, Option, Some, None}
-use Rattle.std.proofs.Common.{refl, ap, sym, ◌∙◌, arith, subst}
+use Rattle.std.specs.Prelude.{◌≡◌, ◌<◌, ◌≤◌, ℕ, Bool, true, false, List}
+use Rattle.std.proofs.Common.{◌∙◌, arith}
 use Rattle.session_state.specs.declared.place.Place.{Place}
 use Rattle.server_rule.specs.Classes.{Reads}
 use Rattle.private_model.specs.Names.{ClientNo, Hostgroup}
 use Rattle.private_model.specs.View.{View, present}
 use Rattle.client_desk.specs.declared.session.Session.{Session}
 use Rattle.client_desk.specs.declared.work.Work.{Work}
-use Rattle.desk_laws.specs.Stands.{AreSessions, AreToCome, IsOut, IsSentOrNot, IsSession, IsUnsent, IsWork, IsWorkOr, message_at, name_at}
+use Rattle.desk_laws.specs.Stands.{AreSessions, IsSentOrNot, IsSession, IsWork, message_at, name_at}
 
 -- of a client's sessions in a hostgroup, from the present one on; what is due in that may differ
 pub record Same (view after : View) (c : ClientNo) (h : Hostgroup) : Type 0 where

@@ -1,12 +1,9 @@
 -- A desk stands for its client as before, whatever happens to others.
 use Rattle.std.specs.Prelude.{◌≡◌, ◌⊎◌, ◌<◌, ◌≤◌, ℕ, suc, Bool, true, false, nat_eq, List, Option, Some, None}
-use Rattle.std.specs.Option.{option_map_or}
-use Rattle.std.proofs.Common.{refl, ap, sym, ◌∙◌, arith, subst, inl, inr}
+use Rattle.std.proofs.Common.{refl, sym, ◌∙◌, arith, subst, inl, inr}
 use Rattle.session_state.specs.declared.place.Place.{Place}
-use Rattle.server_side.specs.Account.{Account}
-use Rattle.server_rule.specs.Classes.{Reads}
-use Rattle.private_model.specs.Names.{ClientNo, Hostgroup, LinkId, SessionName}
-use Rattle.private_model.specs.Story.{BecameDue, Broke, Capture, Dropped, Due, End, Freed, Gone, Happening, Heard, Left, LoggedIn, Mirrored, Own, Prep, Question, Ran, Sent, Statement, Sync, Unprepared, is_client, is_message, is_name, message_of}
+use Rattle.private_model.specs.Names.{ClientNo, Hostgroup, SessionName}
+use Rattle.private_model.specs.Story.{BecameDue, Broke, Capture, Dropped, End, Freed, Gone, Happening, Heard, Left, LoggedIn, Mirrored, Own, Prep, Question, Ran, Sent, Statement, Sync, Unprepared, is_client, is_name, message_of}
 use Rattle.private_model.specs.View.{Answered, Asked, Quiet, Setup, Stage, View, view_step}
 use Rattle.client_seat.specs.declared.phase.Phase.{Phase}
 use Rattle.client_seat.specs.declared.phase.Phase.TheVariants as phase
@@ -14,10 +11,10 @@ use Rattle.client_desk.specs.declared.desk.Desk.{Desk}
 use Rattle.client_desk.specs.declared.session.Session.{Session}
 use Rattle.client_desk.specs.declared.work.Work.{Work}
 use Rattle.desk_laws.specs.Spares.{IsOver, Spares, SparesQuestion, SparesStage, SparesAnswered, SparesAsked, SparesToCome, answered_for, asked_for, is_of, named, touches}
-use Rattle.desk_laws.specs.Stands.{AreSessions, AreToCome, IsDesk, IsPlaced, IsWork, IsWorkOr, message_at, name_at}
+use Rattle.desk_laws.specs.Stands.{AreSessions, AreToCome, IsDesk, IsPlaced, IsWorkOr, name_at}
 use Rattle.desk_laws.proofs.Clear.{Clear, ClearAnswered, ClearAsked, ClearDue, ClearMessage, ClearMoved, ClearOr, ClearPlace, IsClear, clear_same, due_same, message_same, place_same}
 use Rattle.desk_laws.proofs.Names.{client_of, of_other_client, of_other_message, of_other_ordinal, of_past}
-use Rattle.desk_laws.proofs.Same.{session_stays, sessions_stay, work_stays}
+use Rattle.desk_laws.proofs.Same.{sessions_stay, work_stays}
 
 -- what happens is none of this client's, or of no matter to its desk
 

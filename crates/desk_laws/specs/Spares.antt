@@ -1,10 +1,9 @@
 -- What leaves a client's desk as it is: happenings of others, and of its sessions that were left.
-use Rattle.std.specs.Prelude.{◌≡◌, ◌⊎◌, ◌<◌, ℕ, Bool, true, false, Option, Some, None}
+use Rattle.std.specs.Prelude.{◌≡◌, ◌⊎◌, ◌<◌, ℕ, Bool, false, Option, Some, None}
 use Rattle.std.specs.Option.{option_map_or}
 use Rattle.private_model.specs.Names.{ClientNo, Hostgroup, SessionName}
-use Rattle.private_model.specs.Story.{BecameDue, Capture, Due, End, Freed, Gone, Happening, Heard, Left, Mirrored, Own, Prep, Question, Sent, Statement, Sync, is_client, is_hostgroup}
+use Rattle.private_model.specs.Story.{BecameDue, Capture, End, Freed, Gone, Happening, Heard, Left, Mirrored, Own, Prep, Question, Sent, Statement, Sync, is_client, is_hostgroup}
 use Rattle.private_model.specs.View.{Answered, Stage, View, session_in}
-use Rattle.client_seat.specs.declared.phase.Phase.{Phase}
 use Rattle.client_seat.specs.declared.phase.Phase.TheVariants as phase
 use Rattle.client_desk.specs.declared.desk.Desk.{Desk}
 use Rattle.client_desk.specs.declared.work.Work.{Work}

@@ -6,6 +6,7 @@ mod answers;
 mod others;
 mod questions;
 mod sessions;
+mod works;
 
 pub use answers::{answers_stand, steps_are_heard};
 pub use others::{coming_stays, others_stay, parted_stays, strangers_stay};
@@ -14,3 +15,4 @@ pub use sessions::{
     anew_stands, first_stands, freed_stands, gone_stands, homes_have_rows, left_stands,
     parted_stands, present_stands, transactions_stand,
 };
+pub use works::{given_up_stands, new_stands, seats_stand, taken_stands};

@@ -1,5 +1,5 @@
 -- A link to a server, and what is written there.
-use Rattle.std.specs.Prelude.{ℕ, Bool, true, false, if◌then◌else◌, Option, Some, None}
+use Rattle.std.specs.Prelude.{ℕ, Bool, true, false, if◌then◌else◌, List, Option, Some, None}
 use Rattle.std.specs.Option.{option_map}
 use Rattle.mx_base.specs.Sent.{Sent}
 use Rattle.mx_base.specs.declared.names.ServerId.{ServerId}
@@ -10,7 +10,8 @@ use Rattle.server_side.specs.declared.stage.Stage.{Stage}
 use Rattle.server_side.specs.declared.stage.Stage.TheVariants.{In}
 use Rattle.link_state.specs.States.{asked, closed_number, fresh}
 use Rattle.link_state.specs.Writes as writes
-use Rattle.link_state.specs.declared.spells.Spelt.{Spelt}
+use Rattle.link_state.specs.declared.state.Stage as there
+use Rattle.link_state.specs.declared.state.Stage.TheVariants.{Answered}
 use Rattle.link_state.specs.declared.writing.Writing.{Writing}
 use Rattle.lent_link.specs.declared.link.Begins.{Begins}
 use Rattle.lent_link.specs.declared.link.Begins.TheVariants as begins
@@ -40,9 +41,9 @@ is_in _ = false
 
 -- What is to be written.
 
-abbrev pub stands_next : Tag → Spelt → Begins → (first number : ℕ) → LentLink → LentLink
-stands_next tag spelt next first number link =
-    record link { next = Some next; writing = Some (writes.writing tag spelt); first = first; number = number }
+abbrev pub stands_next : Tag → (bytes : List ℕ) → Begins → (first number : ℕ) → LentLink → LentLink
+stands_next tag bytes next first number link =
+    record link { next = Some next; writing = Some (writes.writing tag bytes); first = first; number = number }
 
 -- no byte of it was written, and it is taken back
 
@@ -57,8 +58,13 @@ abbrev pub left_of : Option Writing → Option Sent
 left_of None = None
 left_of (Some writing) = writes.left_of writing
 
+-- of a question nothing more once a byte of its answer was read
+abbrev pub left_at : there.Stage → Option Writing → Option Sent
+left_at (Answered asking) writing = None
+left_at _ writing = left_of writing
+
 abbrev pub left_in : LentLink → Option Sent
-left_in link = if is_in link.login.stage then left_of link.writing else left link.login
+left_in link = if is_in link.login.stage then left_at link.state.stage link.writing else left link.login
 
 -- With its first byte it begins.
 

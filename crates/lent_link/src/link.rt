@@ -2,11 +2,11 @@
 ghost use Rattle.std.specs.Prelude.{◌≡◌, ◌<◌, IfOk};
 ghost use Rattle.mx_base.specs.Sent.{IsLent, MayTake};
 ghost use Rattle.handshake.specs.Spelling.{IsText};
-ghost use Rattle.lent_link.specs.Links.{begun, is_in, left_in, new_link, stands_next, unbegun, wrote_on};
+ghost use Rattle.lent_link.specs.Links.{begun, is_in, left_in, left_of, new_link, stands_next, unbegun, wrote_on};
 
 use crate::reading::Reading;
-use link_state::{Asking, LinkState, Spelt, Writing};
-use mx_base::{OutOfMemory, Piece, ServerId, Tag};
+use link_state::{Asking, LinkState, Stage as At, Writing};
+use mx_base::{Bytes, OutOfMemory, Piece, ServerId, Tag};
 use server_side::{Backend, Stage};
 use std::alloc::Global;
 
@@ -88,11 +88,11 @@ impl LentLink {
 
     /// This is to be written next, in place of what is to be written and of which no byte was. The answer to it begins with the sequence id
     /// `first` for the client, which knows what it prepares by `number`. Takes no memory.
-    pub fn begin(&mut self, tag: Tag, spelt: Spelt, next: Begins, first: u8, number: u32)
-        ensures { self.new ≡ stands_next tag spelt next first number self.old }
+    pub fn begin(&mut self, tag: Tag, bytes: Bytes, next: Begins, first: u8, number: u32)
+        ensures { self.new ≡ stands_next tag bytes next first number self.old }
     {
         self.next = Some(next);
-        self.writing = Some(Writing::new(tag, spelt));
+        self.writing = Some(Writing::new(tag, bytes));
         self.first = first;
         self.number = number;
     }
@@ -107,13 +107,23 @@ impl LentLink {
         }
     }
 
-    /// What is to be written, with its tag.
+    /// What is to be written, with its tag. Of a question nothing more is once a byte of its answer was read.
     pub fn outgoing(&self) -> Option<Piece<'_>>
         ensures { IsLent result (left_in self.now) }
     {
         if !self.is_in() {
             return self.login.outgoing();
         }
+        match &self.state.stage {
+            At::Answered(_) => None,
+            _ => self.left(),
+        }
+    }
+
+    // What isn't written yet of what stands there.
+    fn left(&self) -> Option<Piece<'_>>
+        ensures { IsLent result (left_of self.now.writing) }
+    {
         match &self.writing {
             Some(writing) => writing.outgoing(),
             None => None,
@@ -142,6 +152,7 @@ impl LentLink {
     }
 
     /// So many bytes of it were written, at least one: with the first it begins. Takes no memory.
+    #[tactic(auto, using(crate::proofs::Taking::may_take))]
     pub fn wrote(&mut self, count: usize)
         requires there { MayTake (left_in self.old) count }
         ensures { self.new ≡ wrote_on count self.old }

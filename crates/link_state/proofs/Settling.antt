@@ -1,5 +1,5 @@
 -- Settings with another's autocommit.
-use Rattle.std.proofs.Common.{◌≡◌, ◌≢◌, ℕ, false, List, get_or-set_other, sym, subst, ap, ◌∙◌, arith}
+use Rattle.std.proofs.Common.{◌≡◌, ◌≢◌, false, List, get_or-set_other, sym, subst, ap, ◌∙◌, arith}
 use Rattle.std.specs.Prelude.{IsTrue}
 use Rattle.session_vars.specs.declared.change.SlotValue.{SlotValue}
 use Rattle.session_vars.specs.declared.change.SlotValue.TheVariants.{Default}

@@ -11,7 +11,7 @@ use Rattle.link_state.specs.declared.asking.Asking.{Asking}
 use Rattle.link_state.specs.declared.asking.Form.{Form}
 use Rattle.link_state.specs.declared.asking.Form.TheVariants.{Text, Fields, Prepare, SetId, ReadId, Reset}
 use Rattle.link_state.specs.declared.asking.Purpose.{Purpose}
-use Rattle.link_state.specs.declared.asking.Purpose.TheVariants.{Statement, Prep, Sync, Own, End, Capture}
+use Rattle.link_state.specs.declared.asking.Purpose.TheVariants.{Statement, Prep, End}
 use Rattle.link_state.specs.Stood.{stood}
 
 -- What it was told.

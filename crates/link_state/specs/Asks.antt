@@ -1,12 +1,12 @@
 -- Questions, by what their answers make of a link.
-use Rattle.std.specs.Prelude.{ℕ, Bool, true, false}
+use Rattle.std.specs.Prelude.{Bool, true, false}
 use Rattle.mx_base.specs.declared.tag.Tag.{Tag}
 use Rattle.mx_base.specs.declared.tag.Tag.TheVariants as tags
 use Rattle.reply_track.specs.declared.reply.ReplyKind.{ReplyKind}
 use Rattle.reply_track.specs.declared.reply.ReplyKind.TheVariants as kinds
 use Rattle.session_state.specs.declared.names.SessionName.{SessionName}
 use Rattle.link_state.specs.declared.asking.Form.{Form}
-use Rattle.link_state.specs.declared.asking.Form.TheVariants.{Text, Fields, Prepare, SetId, ReadId, Reset}
+use Rattle.link_state.specs.declared.asking.Form.TheVariants.{Text, Fields, Prepare}
 use Rattle.link_state.specs.declared.asking.Purpose.{Purpose}
 use Rattle.link_state.specs.declared.asking.Purpose.TheVariants.{Statement, Prep, Sync, Own, End, Capture}
 use Rattle.link_state.specs.declared.state.Carried.{Carried}

@@ -1,6 +1,9 @@
 pub mod Answers
 pub mod Asks
+pub mod Behind
+pub mod Classes
 pub mod Dones
+pub mod Ids
 pub mod Places
 pub mod Spells
 pub mod States

@@ -1,15 +1,14 @@
 -- How commands are spelt: as packets from the sequence id 0 on (client/server protocol, "COM_STMT_SEND_LONG_DATA", "COM_STMT_EXECUTE").
 use Rattle.std.specs.Prelude.{ℕ, ◌/◌, ◌%◌, List, [], ◌∷◌, ◌++◌, Option, Some, None}
 use Rattle.std.specs.List.{flat_map}
-use Rattle.packet_frame.specs.Packets.{id_behind, spelling}
+use Rattle.packet_frame.specs.Packets.{spelling}
 use Rattle.session_vars.specs.declared.long_part.LongPart.{LongPart}
-use Rattle.link_state.specs.declared.spells.Spelt.{Spelt}
 
-abbrev pub spelt_on : (before payload : List ℕ) → Spelt
-spelt_on before payload = record { bytes = before ++ spelling 0 payload; behind = id_behind 0 payload }
+abbrev pub spelt_on : (before payload : List ℕ) → List ℕ
+spelt_on before payload = before ++ spelling 0 payload
 
-abbrev pub spelt : (payload : List ℕ) → Spelt
-spelt payload = record { bytes = spelling 0 payload; behind = id_behind 0 payload }
+abbrev pub spelt : (payload : List ℕ) → List ℕ
+spelt payload = spelling 0 payload
 
 -- a command for the prepared statement of a number
 abbrev pub with_number : (code number : ℕ) → List ℕ
@@ -33,5 +32,5 @@ args_bytes (byte ∷ nulls) types values = byte ∷ (nulls ++ (types_bytes types
 abbrev pub execute_bytes : (number : ℕ) → (nulls : List ℕ) → (types : Option (List ℕ)) → (values : List ℕ) → List ℕ
 execute_bytes number nulls types values = with_number 0x17 number ++ (0 ∷ 1 ∷ 0 ∷ 0 ∷ 0 ∷ args_bytes nulls types values)
 
-abbrev pub executes : (number : ℕ) → (nulls : List ℕ) → (types : Option (List ℕ)) → (values : List ℕ) → List LongPart → Spelt
+abbrev pub executes : (number : ℕ) → (nulls : List ℕ) → (types : Option (List ℕ)) → (values : List ℕ) → List LongPart → List ℕ
 executes number nulls types values parts = spelt_on (flat_map (long_bytes number) parts) (execute_bytes number nulls types values)

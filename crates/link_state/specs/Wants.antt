@@ -1,7 +1,6 @@
 -- What goes to a link next.
-use Rattle.std.specs.Prelude.{ℕ, Bool, true, false, not, ◌&&◌, ◌||◌, is_some, nat_eq, nat_lt, if◌then◌else◌, length, slice_get, List, Option, Some, None}
+use Rattle.std.specs.Prelude.{ℕ, Bool, false, not, ◌&&◌, ◌||◌, is_some, nat_eq, nat_lt, if◌then◌else◌, length, slice_get, List, Option, Some, None}
 use Rattle.std.specs.List.{list_any}
-use Rattle.std.specs.Option.{option_map_or}
 use Rattle.session_state.specs.Pins.{is_pinned, needs_reset}
 use Rattle.session_state.specs.declared.place.Place.{Place}
 use Rattle.link_state.specs.declared.state.Carried.{Carried}

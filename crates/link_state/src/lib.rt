@@ -3,8 +3,11 @@
 #![tactic(auto)]
 
 mod asking;
+mod behind;
+mod classes;
 mod done;
 mod effect;
+mod ids;
 mod place;
 mod spells;
 mod standing;
@@ -13,9 +16,11 @@ mod wish;
 mod writing;
 
 pub use asking::{Asking, Form, Purpose};
+pub use behind::pin_behind;
+pub use classes::use_class;
 pub use done::is_done_by;
 pub use effect::hear_id;
-pub use spells::{Spelt, spell, spell_execute, spell_id, spell_numbered, spell_text};
+pub use spells::{spell, spell_execute, spell_id, spell_numbered, spell_text};
 pub use standing::Standing;
 pub use state::{Carried, LinkState, Stage};
 pub use wish::{Command, Session, Task, Wanted, Wish, task_of};

@@ -9,33 +9,23 @@ use packet_frame::write_message;
 use session_vars::LongPart;
 use std::alloc::Global;
 
-/// A command as packets, and the sequence id with which its answer begins.
-#[derive(Drop)]
-pub struct Spelt {
-    pub bytes: Bytes,
-    pub behind: u8,
-}
-
 /// A payload as packets (client/server protocol, "MySQL Packets").
-pub fn spell(alloc: Global, payload: &[u8]) -> Result<Spelt, OutOfMemory>
+pub fn spell(alloc: Global, payload: &[u8]) -> Result<Bytes, OutOfMemory>
     ensures { IfOk result (λ whole. whole ≡ spelt payload.now) }
 {
     spell_on(Vec::new(alloc), payload)
 }
 
 // A payload as packets behind others.
-fn spell_on(mut bytes: Vec<u8>, payload: &[u8]) -> Result<Spelt, OutOfMemory>
+fn spell_on(mut bytes: Vec<u8>, payload: &[u8]) -> Result<Bytes, OutOfMemory>
     ensures { IfOk result (λ whole. whole ≡ spelt_on bytes.items payload.now) }
 {
-    let behind = write_message(&mut bytes, 0, payload)?;
-    Ok(Spelt {
-        bytes: Bytes::from_vec(bytes),
-        behind,
-    })
+    write_message(&mut bytes, 0, payload)?;
+    Ok(Bytes::from_vec(bytes))
 }
 
 /// A command of this code with a text.
-pub fn spell_text(alloc: Global, code: u8, text: &[u8]) -> Result<Spelt, OutOfMemory>
+pub fn spell_text(alloc: Global, code: u8, text: &[u8]) -> Result<Bytes, OutOfMemory>
     ensures { IfOk result (λ whole. whole ≡ spelt (code ∷ text.now)) }
 {
     let mut payload = Vec::from_slice(alloc, &[code])?;
@@ -54,7 +44,7 @@ fn id_text(alloc: Global, id: u64) -> Result<Vec<u8>, OutOfMemory>
 }
 
 /// COM_QUERY with the text that sets the insert id.
-pub fn spell_id(alloc: Global, id: u64) -> Result<Spelt, OutOfMemory>
+pub fn spell_id(alloc: Global, id: u64) -> Result<Bytes, OutOfMemory>
     ensures { IfOk result (λ whole. whole ≡ spelt (3 ∷ (codes "SET SESSION last_insert_id = " ++ decimal id))) }
 {
     let text = id_text(alloc, id)?;
@@ -75,7 +65,7 @@ fn with_number(code: u8, number: u32) -> [u8; 5]
 }
 
 /// A command of this code for the prepared statement of a number.
-pub fn spell_numbered(alloc: Global, code: u8, number: u32) -> Result<Spelt, OutOfMemory>
+pub fn spell_numbered(alloc: Global, code: u8, number: u32) -> Result<Bytes, OutOfMemory>
     ensures { IfOk result (λ whole. whole ≡ spelt (with_number code number)) }
 {
     spell(alloc, &with_number(code, number))
@@ -149,7 +139,7 @@ pub fn spell_execute(
     types: &Option<Bytes>,
     values: &[u8],
     parts: &[LongPart],
-) -> Result<Spelt, OutOfMemory>
+) -> Result<Bytes, OutOfMemory>
     ensures { IfOk result (λ whole. whole ≡ executes number nulls.now types.now values.now parts.now) }
 {
     let mut payload = Vec::from_slice(alloc, &with_number(0x17, number))?;

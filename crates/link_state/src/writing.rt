@@ -3,29 +3,26 @@ ghost use Rattle.std.specs.Prelude.{◌≡◌};
 ghost use Rattle.mx_base.specs.Sent.{IsLent, MayTake};
 ghost use Rattle.link_state.specs.Writes.{answer_id, is_whole, left_of, writing, wrote};
 
-use crate::spells::Spelt;
+use crate::ids::id_behind;
 use mx_base::{Bytes, Piece, Tag};
 
-/// What is written on a link for one command, with its tag: its packets, how many of their bytes are written, and the sequence id with
-/// which the answer to the whole of it begins.
+/// What is written on a link for one command, with its tag: its packets, and how many of their bytes are written.
 #[derive(Drop)]
 pub struct Writing {
     pub tag: Tag,
     pub bytes: Bytes,
     pub sent: usize,
-    pub behind: u8,
 }
 
 impl Writing {
     /// Nothing is written yet. Takes no memory.
-    pub fn new(tag: Tag, spelt: Spelt) -> Self
-        ensures { result ≡ writing tag spelt }
+    pub fn new(tag: Tag, bytes: Bytes) -> Self
+        ensures { result ≡ writing tag bytes }
     {
         Writing {
             tag,
-            bytes: spelt.bytes,
+            bytes,
             sent: 0,
-            behind: spelt.behind,
         }
     }
 
@@ -60,10 +57,16 @@ impl Writing {
         self.sent >= self.bytes.as_slice().len()
     }
 
-    /// The sequence id with which an answer to what is written begins: behind the whole, or else behind a packet.
+    /// The sequence id with which an answer to what is written begins: behind the last packet of the last whole message.
+    #[tactic(auto, using(crate::proofs::Walking::all_sent))]
     pub fn answer_id(&self) -> u8
         ensures { result ≡ answer_id self.now }
     {
-        if self.is_whole() { self.behind } else { 1 }
+        let bytes = self.bytes.as_slice();
+        if self.sent < bytes.len() {
+            id_behind(&bytes[..self.sent])
+        } else {
+            id_behind(bytes)
+        }
     }
 }

@@ -2,4 +2,4 @@ use Rattle.link_laws.proofs.Keeps.{ran_at}
 use Rattle.link_laws.proofs.ran_stands.Goals as goal
 
 pub returns : goal.returns
-returns c = λ reads state link stands. ran_at reads state link stands state.stage link.stage stands.stage
+returns c = λ reads codes state link stands. ran_at reads codes state link stands state.stage link.stage stands.stage

@@ -1,0 +1,9 @@
+pub mod Apart
+pub mod Begins
+pub mod Readied
+pub mod Reads
+pub mod Rows
+pub mod Unread
+pub mod Whose
+pub mod Wishes
+pub mod Written

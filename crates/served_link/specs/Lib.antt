@@ -1,0 +1,11 @@
+pub mod Begins
+pub mod Closes
+pub mod Hears
+pub mod Notes
+pub mod Numbers
+pub mod Reads
+pub mod Rests
+pub mod Rows
+pub mod States
+pub mod Wants
+pub mod Writes
