@@ -1,0 +1,13 @@
+pub mod Idling
+pub mod Finding
+pub mod Grounding
+pub mod Changing
+pub mod Liking
+pub mod Speaking
+pub mod Getting
+pub mod Forgetting
+pub mod Coming
+pub mod Newing
+pub mod Messaging
+pub mod Entering
+pub mod Looking

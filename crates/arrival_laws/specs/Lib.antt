@@ -1,0 +1,3 @@
+pub mod Comes
+pub mod Looks
+pub mod Ups

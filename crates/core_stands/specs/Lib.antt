@@ -1,0 +1,4 @@
+pub mod Grounds
+pub mod Clients
+pub mod Servers
+pub mod Stands

@@ -1,0 +1,77 @@
+-- How the core's tables stand for a tale.
+use Rattle.std.specs.Prelude.{◌≡◌, ℕ, Bool, true, false, All, is_some, List, Option, Some, None}
+use Rattle.mx_base.specs.declared.names.Hostgroup.{Hostgroup}
+use Rattle.client_session.specs.Setups.{Setup as Service}
+use Rattle.private_model.specs.Lawful.{IsLawful}
+use Rattle.private_model.specs.Names.{ClientNo, LinkId, SessionName}
+use Rattle.private_model.specs.Story.{is_link_id}
+use Rattle.log_story.specs.Tale as tales
+use Rattle.log_story.specs.Tale.{is_to_server}
+use Rattle.row_laws.specs.Whose.{name_in}
+use Rattle.client_desk.specs.Desks.{session_of}
+use Rattle.client_desk.specs.declared.desk.Desk.{Desk}
+use Rattle.step_laws.specs.Seats.{AreCounted, IsSeated, numbers}
+use Rattle.step_laws.specs.Freed.{NoneDone}
+use Rattle.step_laws.specs.Taken.{IsIdle}
+use Rattle.core_tables.specs.Tables.{Tabled}
+use Rattle.core_tables.specs.declared.client.Client.{Client}
+use Rattle.core_tables.specs.declared.server.Server.{Server}
+use Rattle.core_stands.specs.Clients.{IsClientOr}
+use Rattle.core_stands.specs.Grounds.{AreOver, Ground}
+use Rattle.core_stands.specs.Servers.{IsServerOr}
+
+-- Clients, and their links, which are no links to servers and no two clients'.
+
+pub record IsAt (g : Ground) (t : Tabled) (client : tales.Client) : Type 0 where
+  pub row : IsClientOr g client (t.clients client.number)
+  pub found : is_some (t.clients client.number) ≡ true → t.numbers client.link ≡ Some client.number
+  pub aside : is_to_server g.tale client.link ≡ false
+  pub alone : All (λ (other : tales.Client). is_link_id other.link client.link ≡ true → other.number ≡ client.number) g.tale.clients
+
+-- one of the tale's
+pub record IsKnown (g : Ground) (c : ClientNo) (client : tales.Client) : Type 0 where
+  pub seated : IsSeated g.tale client
+  pub number : client.number ≡ c
+
+pub record AreClients (g : Ground) (t : Tabled) : Type 0 where
+  pub counted : AreCounted 1 (numbers g.tale)
+  pub each : All (IsAt g t) g.tale.clients
+  pub known : (c : ClientNo) (row : Client) → t.clients c ≡ Some row → (client : tales.Client) × IsKnown g c client
+  pub named : (l : LinkId) (c : ClientNo) → t.numbers l ≡ Some c → (client : tales.Client) × IsKnown g c client × (client.link ≡ l) × (is_some (t.clients c) ≡ true)
+
+-- A present session has a link as its home where that link's row carries it, and no other.
+
+pub record IsHome (t : Tabled) (l : LinkId) (n : SessionName) (server : Server) : Type 0 where
+  pub there : t.links l ≡ Some server
+  pub carries : name_in server.row.link.state.carries ≡ Some n
+  pub present : server.row.left ≡ None
+  pub whole : server.row.lost ≡ false
+
+pub record AreHomes (g : Ground) (t : Tabled) : Type 0 where
+  pub carried : (c : ClientNo) (row : Client) (h : Hostgroup) (l : LinkId) → t.clients c ≡ Some row → (session_of row.desk h).home ≡ Some l
+      → (server : Server) × IsHome t l (record { client = c; hostgroup = h; life = (session_of row.desk h).life }) server
+  pub home : (l : LinkId) (server : Server) (n : SessionName) → t.links l ≡ Some server → name_in server.row.link.state.carries ≡ Some n
+      → server.row.left ≡ None → server.row.lost ≡ false
+      → (row : Client) × (t.clients n.client ≡ Some row) × ((session_of row.desk n.hostgroup).home ≡ Some l)
+      × ((session_of row.desk n.hostgroup).life ≡ n.life)
+
+-- By what the router serves: how clients log in, and how many bytes for a client wait while its messages do.
+pub record Stands (service : Service) (g : Ground) (t : Tabled) : Type 0 where
+  pub service_is : g.plan.service ≡ service
+  pub room_is : g.plan.room ≡ 1048576
+  pub clients : AreClients g t
+  pub servers : (l : LinkId) → IsServerOr g t l (t.links l)
+  pub homes : AreHomes g t
+  pub lawful : IsLawful g.setup g.tale.story
+
+-- Between two entries no link is to be given back, and of no client a message is up but of those who have room again.
+
+abbrev pub IsCalm : Ground → (roomy : ClientNo → Bool) → tales.Client → Type 0
+IsCalm g roomy client = g.over client.number ≡ false → roomy client.number ≡ false → IsIdle g.setup g.plan g.tale client
+
+pub record Rests (service : Service) (g : Ground) (t : Tabled) (roomy : ClientNo → Bool) : Type 0 where
+  pub stands : Stands service g t
+  pub over : AreOver g
+  pub looked : (c : ClientNo) → g.fresh c ≡ false
+  pub rested : NoneDone g.setup g.plan g.tale
+  pub calm : All (IsCalm g roomy) g.tale.clients

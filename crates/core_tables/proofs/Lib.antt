@@ -1,0 +1,4 @@
+pub mod Passing
+pub mod Keeping
+pub mod Settled
+pub mod Heard

@@ -1,0 +1,10 @@
+pub mod Tables
+pub mod Hearing
+pub mod Arrivals
+pub mod Taking
+pub mod Passing
+pub mod Beginning
+pub mod Writing
+pub mod Parting
+pub mod Noting
+pub mod Leaving

@@ -1,0 +1,135 @@
+// A client's message that came up is taken up.
+ghost use Rattle.std.specs.Prelude.{◌≡◌, true, IfOk, OnOk, Some};
+ghost use Rattle.core_tables.specs.Tables.{tables_of};
+ghost use Rattle.core_tables.specs.Taking.{IsDue, IsSentAs, IsTaken, IsUpAt, IsUpOr, answers, asked_of, passes, text_work};
+ghost use Rattle.client_seat.specs.Requests.{Says};
+ghost use Rattle.private_model.specs.Commands as commands;
+ghost use Rattle.std.specs.Option.{option_copied};
+ghost use Rattle.core_tables.specs.declared.client.Client.{Client};
+
+use crate::client::Client;
+use crate::tables::Tables;
+use client_desk::{Body, Work};
+use client_seat::Request;
+use link_state::{Command, Form};
+use mx_base::{Bytes, ClientNo, Hostgroup, OutOfMemory};
+use std::alloc::Global;
+
+impl Client {
+    // Its message is behind, and goes to no server.
+    fn pass(&mut self, alloc: Global, flag: u16) -> Result<(), OutOfMemory>
+        requires { IsUpAt self.old }
+        ensures { OnOk result (self.new ≡ passes flag self.new.desk.seat.statements self.old) }
+    {
+        self.desk.seat.take(alloc, flag)?;
+        self.went = None;
+        Ok(())
+    }
+
+    // The router answers it, in these packets.
+    fn answer(&mut self, alloc: Global, flag: u16, packets: &[u8]) -> Result<(), OutOfMemory>
+        requires { IsUpAt self.old }
+        ensures { OnOk result (self.new ≡ answers flag packets.now self.new.desk.seat.statements self.old) }
+    {
+        self.pass(alloc, flag)?;
+        self.desk.seat.reply_piece(packets)?;
+        self.desk.seat.reply();
+        Ok(())
+    }
+}
+
+impl Client {
+    // It goes to a server in this hostgroup, with this text in place of its own, and a statement becomes due. False where it asks for nothing
+    // that is sent as a text.
+    fn send(
+        &mut self,
+        alloc: Global,
+        ordinal: u64,
+        flag: u16,
+        hostgroup: Hostgroup,
+        text: Option<&[u8]>,
+        multiplex: Option<bool>,
+        form: Form,
+        since_ms: u64,
+    ) -> Result<bool, OutOfMemory>
+        requires { IsUpAt self.old }
+        ensures sent { IfOk result (λ is_due. is_due ≡ true
+            → IsSentAs flag (option_copied text.entry) (text_work ordinal hostgroup since_ms multiplex form) self.old self.new) }
+        ensures due { IfOk result (λ is_due. (command : commands.Command) → asked_of self.old (option_copied text.entry) ≡ Some (Says command)
+            → is_due ≡ true) }
+    {
+        let marks = form.marks();
+        match self.desk.seat.take_to(alloc, hostgroup, flag, text)? {
+            Some(Request::Text { packets, .. }) => {
+                self.went = Some(hostgroup);
+                self.desk.due(Work {
+                    ordinal,
+                    hostgroup,
+                    since_ms,
+                    anew: true,
+                    multiplex,
+                    key: 0,
+                    command: Command::Plain,
+                    marks,
+                    form: Some(form),
+                    body: Body::Packets(Bytes::from_vec(packets)),
+                    sent: false,
+                })?;
+                Ok(true)
+            }
+            _ => Ok(false),
+        }
+    }
+}
+
+impl Tables {
+    /// A client's message is behind, and goes to no server. Rules are tried first by this flag from now on.
+    #[tactic(auto, unfolding(crate::specs::Tables::tables_of))]
+    pub fn pass(&mut self, client: ClientNo, flag: u16) -> Result<(), OutOfMemory>
+        requires { IsUpOr ((tables_of self.old).clients client) }
+        ensures { OnOk result (IsTaken (passes flag) client (tables_of self.old) (tables_of self.new)) }
+    {
+        match self.clients.get_mut(&client.0) {
+            Some(row) => row.pass(self.alloc, flag),
+            None => Ok(()),
+        }
+    }
+
+    /// The router answers it itself, in these packets, whose sequence ids go on from the message's.
+    #[tactic(auto, unfolding(crate::specs::Tables::tables_of))]
+    pub fn answer(&mut self, client: ClientNo, flag: u16, packets: &[u8]) -> Result<(), OutOfMemory>
+        requires { IsUpOr ((tables_of self.old).clients client) }
+        ensures { OnOk result (IsTaken (answers flag packets.now) client (tables_of self.old) (tables_of self.new)) }
+    {
+        match self.clients.get_mut(&client.0) {
+            Some(row) => row.answer(self.alloc, flag, packets),
+            None => Ok(()),
+        }
+    }
+
+    /// It goes to a server in this hostgroup, with this text in place of its own, and a statement of this class becomes due. False where it asks
+    /// for nothing that is sent as a text.
+    #[tactic(auto, unfolding(crate::specs::Tables::tables_of))]
+    pub fn due(
+        &mut self,
+        client: ClientNo,
+        ordinal: u64,
+        flag: u16,
+        hostgroup: Hostgroup,
+        text: Option<&[u8]>,
+        multiplex: Option<bool>,
+        form: Form,
+        since_ms: u64,
+    ) -> Result<bool, OutOfMemory>
+        requires { IsUpOr ((tables_of self.old).clients client) }
+        ensures { IfOk result (λ is_due. is_due ≡ true
+            → IsDue flag (option_copied text.entry) (text_work ordinal hostgroup since_ms multiplex form) client (tables_of self.old) (tables_of self.new)) }
+    {
+        match self.clients.get_mut(&client.0) {
+            Some(row) => row.send(
+                self.alloc, ordinal, flag, hostgroup, text, multiplex, form, since_ms,
+            ),
+            None => Ok(false),
+        }
+    }
+}

@@ -1,0 +1,8 @@
+//! Bytes are read on links to servers: the tables stand for the tale.
+#![tactic(auto)]
+
+mod hearing;
+mod numbers;
+
+pub use hearing::bytes_are_heard;
+pub use numbers::numbers_are_heard;
