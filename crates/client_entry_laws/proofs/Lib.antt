@@ -1,0 +1,4 @@
+pub mod Facts
+pub mod Waiting
+pub mod Turning
+pub mod Speaking

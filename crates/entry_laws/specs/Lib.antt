@@ -1,0 +1,11 @@
+pub mod Tells
+pub mod Safe
+pub mod Speaks
+pub mod Dues
+pub mod Loops
+pub mod Calms
+pub mod Entries
+pub mod Grows
+pub mod Kinds
+pub mod Freeing
+pub mod Cores

@@ -1,0 +1,7 @@
+pub mod Uncalled
+pub mod Desks
+pub mod Opens
+pub mod Writes
+pub mod Composed
+pub mod OneRead
+pub mod Lost

@@ -1,0 +1,5 @@
+pub mod Calling
+pub mod Going
+pub mod Ending
+pub mod Keeping
+pub mod Naming
