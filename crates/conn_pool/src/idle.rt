@@ -105,6 +105,12 @@ impl IdleLinks {
         Some(link)
     }
 
+    /// Since when the link rests that was given back longest ago.
+    pub fn rests_since(&self) -> Option<u64> {
+        let link = self.rests.resting.oldest_of_all()?;
+        Some(self.rests.resting.since(link))
+    }
+
     /// Puts aside one of the links to a server that may be lent, since it takes no statements now. None: there is no more.
     pub fn put_aside(&mut self, server: u32, now_ms: u64) -> Option<u32>
         requires { server < self.old.lendable.servers }

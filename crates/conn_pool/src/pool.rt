@@ -144,6 +144,11 @@ impl Pool {
         self.idle.expire(now_ms, idle_ms)
     }
 
+    /// Since when the link rests that was given back longest ago.
+    pub fn rests_since(&self) -> Option<u64> {
+        self.idle.rests_since()
+    }
+
     /// Puts aside one of the links to a server that may be lent, since it takes no statements now. None: there is no more.
     pub fn put_aside(&mut self, server: u32, now_ms: u64) -> Option<u32>
         requires { server < self.old.links.kinds }
@@ -218,6 +223,13 @@ impl Pool {
         ensures { result ≡ slice_index self.now.waiting.since client }
     {
         self.waiting.since(client)
+    }
+
+    /// How many links of a key may be lent, or log in.
+    pub fn coming(&self, key: u32) -> u64
+        requires { key < self.now.idle.lendable.keys }
+    {
+        u64::from(self.idle.count(key)) + u64::from(self.logins.entering.count(key))
     }
 
     /// Whether more clients of a key wait than there are links that may be lent to them, log in, or have a step under way.

@@ -8,3 +8,4 @@ pub mod Writing
 pub mod Parting
 pub mod Noting
 pub mod Leaving
+pub mod Wording

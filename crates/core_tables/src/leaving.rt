@@ -1,7 +1,7 @@
-// Clients end, begin anew, say that they end, and are told a last word.
+// Clients end, begin anew, and say that they end.
 ghost use Rattle.std.specs.Prelude.{◌≡◌, OnOk};
 ghost use Rattle.client_seat.specs.Seats.{ended};
-ghost use Rattle.core_tables.specs.Leaving.{BeginsAnew, IsToldLast, Quits};
+ghost use Rattle.core_tables.specs.Leaving.{BeginsAnew, Quits};
 ghost use Rattle.core_tables.specs.Parting.{left_in};
 ghost use Rattle.core_tables.specs.Tables.{IsSame, tables_of};
 ghost use Rattle.core_tables.specs.Taking.{IsUpOr};
@@ -44,17 +44,5 @@ impl Tables {
     {
         self.end(client);
         self.pass(client, flag)
-    }
-
-    /// A client is told this last, behind all else, or in place of the answer to its login; no more is read of it. Its sessions are left by
-    /// whoever ends it then.
-    #[tactic(auto, unfolding(crate::specs::Tables::tables_of))]
-    pub fn last_word(&mut self, client: ClientNo, payload: &[u8]) -> Result<(), OutOfMemory>
-        ensures { OnOk result (IsToldLast payload.now client (tables_of self.old) (tables_of self.new)) }
-    {
-        match self.clients.get_mut(&client.0) {
-            Some(row) => row.desk.seat.last_word(self.alloc, payload),
-            None => Ok(()),
-        }
     }
 }

@@ -15,6 +15,7 @@ mod said;
 mod server;
 mod tables;
 mod taking;
+mod wording;
 mod writing;
 
 pub use client::{Client, ClientNote};

@@ -1,12 +1,13 @@
 -- The collations that clients name as they log in, by their numbers, and what SET NAMES makes of them. Empty are those that no
 -- server knows or takes from a client, and those of character sets in which a byte of ASCII may be the end of a character
--- (big5, cp932, gb18030, gbk, sjis) or another letter (swe7): there a text has other quotes than it seems.
+-- (big5, cp932, gb18030, gbk, sjis) or another letter (swe7): there a text has other quotes than it seems. Number 0 names no
+-- collation: a client that leaves the choice to the server; the router chooses.
 use Rattle.std.specs.Prelude.{ℕ, ◌-◌, Bool, not, nat_eq, nat_lt, List, [], ◌∷◌, length, slice_index_or, codes, if◌then◌else◌}
 
 -- from 0 on, four in a line
 abbrev pub first_names : List (List ℕ)
 first_names =
-    codes "" ∷ codes "" ∷ codes "latin2 COLLATE latin2_czech_cs" ∷ codes "dec8" ∷
+    codes "utf8mb4 COLLATE utf8mb4_general_ci" ∷ codes "" ∷ codes "latin2 COLLATE latin2_czech_cs" ∷ codes "dec8" ∷
     codes "cp850" ∷ codes "latin1 COLLATE latin1_german1_ci" ∷ codes "hp8" ∷ codes "koi8r" ∷
     codes "latin1" ∷ codes "latin2" ∷ codes "" ∷ codes "ascii" ∷
     codes "ujis" ∷ codes "" ∷ codes "cp1251 COLLATE cp1251_bulgarian_ci" ∷ codes "latin1 COLLATE latin1_danish_ci" ∷

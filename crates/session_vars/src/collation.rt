@@ -6,8 +6,8 @@ ghost use Rattle.session_vars.specs.Settings.{collation_names};
 // What SET NAMES makes of a collation, by its number (MySQL Reference Manual, "INFORMATION_SCHEMA COLLATIONS", "Supported
 // Character Sets and Collations"); empty where no client is served by it.
 static FIRST_NAMES: [&[u8]; 100] = [
-    // From 0 on.
-    b"",
+    // From 0 on, which is the router's choice for a client that names none.
+    b"utf8mb4 COLLATE utf8mb4_general_ci",
     b"",
     b"latin2 COLLATE latin2_czech_cs",
     b"dec8",

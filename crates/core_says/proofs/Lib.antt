@@ -1,0 +1,2 @@
+pub mod Concerning
+mod Links
