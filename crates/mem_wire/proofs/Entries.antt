@@ -32,7 +32,7 @@ use Rattle.mem_wire.specs.Came.{is_open_call, room_left, known, with_link, known
 use Rattle.mem_wire.specs.CameLaws.{opens-more}
 use Rattle.mem_wire.specs.Play.{is_ready, has_room, has_failed, FitsRoom, IsBehind, MayWrite, named_step, Answers}
 use Rattle.mem_wire.specs.Fitting.{fitting, takes}
-use Rattle.mem_wire.specs.Below.{link_below}
+use Rattle.mx_wire.specs.Tells.{link_below}
 use Rattle.mem_wire.specs.Tracks.{track_at, room_in, read_change, spent, write_change, ChangesTrack}
 use Rattle.mem_wire.specs.Steps.{place_in, EndsBy, ReadsTrack, WritesTrack, Moves, MovesAt, IsWithin}
 use Rattle.mem_wire.specs.Naming.{is_named, named_at, may_turn_ready}

@@ -9,7 +9,7 @@ use Rattle.mx_base.specs.declared.names.Address.{Address}
 use Rattle.mx_base.specs.declared.names.Port.{Port}
 use Rattle.mx_base.specs.declared.names.Port.TheVariants.{Traffic, Admin}
 use Rattle.mx_wire.specs.Log.{Log, AreMarks, link_of, moment_of, moment_step}
-use Rattle.mx_wire.specs.Tells.{OpenFor, IsOpen, IsNew, IsSalt, Fits}
+use Rattle.mx_wire.specs.Tells.{OpenFor, IsOpen, IsNew, IsSalt, Fits, MayOpen}
 use Rattle.mx_wire.specs.Growth.{moment_of-more}
 use Rattle.mx_wire.specs.declared.entry.Entry.{Entry}
 use Rattle.mx_wire.specs.declared.entry.Entry.TheVariants as entry
@@ -17,7 +17,8 @@ use Rattle.recording.specs.declared.entry.RecordEntry.{RecordEntry}
 use Rattle.mem_wire.specs.declared.stage.Stage.{Stage}
 use Rattle.mx_wire.specs.Adds.{Adds, IsBounded}
 use Rattle.mem_wire.specs.Adds.{late_entries, Calls}
-use Rattle.mem_wire.specs.Below.{link_below, all_below, links_below}
+use Rattle.mx_wire.specs.Tells.{link_below, all_below}
+use Rattle.mem_wire.specs.Below.{links_below}
 use Rattle.mem_wire.specs.Lines.{clients_at}
 use Rattle.mem_wire.specs.Play.{mark_at}
 use Rattle.mem_wire.specs.Cuts.{NoMoment, EndsAtMoment, first_moment}
@@ -72,6 +73,12 @@ sound-opens recording old new server address log follows opens =
 
 pub new-link : (recording : List RecordEntry) (s : Stage) (log : Log) → Follows recording s log → IsNew (next_link s) (log ++ late_entries s.late)
 new-link recording s log follows = sound-new recording s log (late_entries s.late) follows.sound (sound-late recording s log follows.sound)
+
+pub may-open : (recording : List RecordEntry) (s : Stage) (log : Log) → Follows recording s log → MayOpen (log ++ late_entries s.late) (next_link s)
+may-open recording s log follows = record {
+  fresh = new-link recording s log follows;
+  above = all_below-append log (late_entries s.late) (length s.places.items) follows.sound.below (sound-late recording s log follows.sound).below;
+}
 
 pub salt-next : (recording : List RecordEntry) (s : Stage) (log : Log) (port : Port) (client : Waiting) → Follows recording s log → slice_get (clients_of port s) (accepted_of port s) ≡ Some client → IsSalt client.salt
 salt-next recording s log Traffic client follows is = salt-at s.traffic.items s.traffic_accepted client follows.sound.traffic is

@@ -14,7 +14,8 @@ use Rattle.mem_wire.specs.Marks.{mark_entry, entries_of}
 use Rattle.mem_wire.specs.Play.{mark_on, mark_at}
 use Rattle.mem_wire.specs.declared.late.Late.{Late}
 use Rattle.mem_wire.specs.Adds.{late_entries}
-use Rattle.mem_wire.specs.Below.{link_below, all_below, links_below}
+use Rattle.mx_wire.specs.Tells.{link_below, all_below}
+use Rattle.mem_wire.specs.Below.{links_below}
 
 pub and-left : (a b : Bool) → (a && b) ≡ true → a ≡ true
 and-left true b h = refl

@@ -12,7 +12,8 @@ use Rattle.mem_wire.specs.declared.stage.Stage.{Stage}
 use Rattle.mem_wire.specs.declared.marks.Mark.{Mark}
 use Rattle.mem_wire.specs.Marks.{entries_of}
 use Rattle.mem_wire.specs.Adds.{late_entries}
-use Rattle.mem_wire.specs.Below.{link_below, all_below, links_below}
+use Rattle.mx_wire.specs.Tells.{link_below, all_below}
+use Rattle.mem_wire.specs.Below.{links_below}
 use Rattle.mem_wire.specs.Tracks.{track_at, SameLinks, ChangesTrack}
 use Rattle.mem_wire.specs.Steps.{numbered, next_link}
 use Rattle.mem_wire.specs.Follows.{Continues, HaveSalts, IsSound}

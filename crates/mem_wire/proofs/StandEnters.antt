@@ -19,7 +19,8 @@ use Rattle.mem_wire.specs.Play.{named_since, named_step}
 use Rattle.mem_wire.specs.Tracks.{track_at, place}
 use Rattle.mem_wire.specs.Steps.{numbered, next_link, clients_of, accepted_of, Enters}
 use Rattle.mem_wire.specs.Naming.{is_named}
-use Rattle.mem_wire.specs.Below.{link_below, all_below, links_below}
+use Rattle.mx_wire.specs.Tells.{link_below, all_below}
+use Rattle.mem_wire.specs.Below.{links_below}
 use Rattle.mem_wire.specs.Stands.{CutsAt, Numbered, read_by, written_by, IsFresh, is_in, Fits, Stands, Entered}
 use Rattle.mem_wire.specs.CameLaws.{wakes-more, known-more, named-more}
 use Rattle.mem_wire.proofs.StandSteps.{but-entry, each-track, fits-but, new-links}

@@ -9,7 +9,8 @@ use Rattle.mem_wire.specs.declared.waiting.Waiting.{Waiting}
 use Rattle.mem_wire.specs.declared.stage.Stage.{Stage}
 use Rattle.mem_wire.specs.Adds.{late_entries}
 use Rattle.mem_wire.specs.Tracks.{track_at}
-use Rattle.mem_wire.specs.Below.{all_below, links_below}
+use Rattle.mx_wire.specs.Tells.{all_below}
+use Rattle.mem_wire.specs.Below.{links_below}
 use Rattle.mem_wire.specs.Play.{last_marks, late_marks, IsPlay}
 use Rattle.mem_wire.specs.Stands.{Stands}
 use Rattle.mem_wire.specs.Turns.{AllInTurn}

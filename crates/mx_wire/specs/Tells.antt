@@ -1,7 +1,8 @@
 -- How a call of a wire adds to the log.
-use Rattle.std.specs.Prelude.{◌≡◌, ℕ, ◌+◌, ◌<◌, ◌≤◌, true, List, [], ◌∷◌, ◌++◌, All, length, Option, Some}
+use Rattle.std.specs.Prelude.{◌≡◌, ℕ, ◌+◌, ◌<◌, ◌≤◌, Bool, true, nat_lt, List, [], ◌∷◌, ◌++◌, All, length, Option, Some, None}
+use Rattle.std.specs.List.{list_all}
 use Rattle.mx_base.specs.declared.names.LinkId.{LinkId}
-use Rattle.mx_wire.specs.Log.{Log, AreMarks, of_link, is_open, moment_of}
+use Rattle.mx_wire.specs.Log.{Log, AreMarks, of_link, link_of, is_open, moment_of}
 use Rattle.mx_wire.specs.declared.entry.Entry.{Entry}
 use Rattle.mx_wire.specs.declared.entry.Entry.TheVariants.{Woke, Accepted, Opened, Got, ReadNothing, Ended, ReadFailed, Wrote, WriteNothing, WriteFailed, Closed}
 
@@ -34,11 +35,24 @@ pub record MayWrite (log : Log) (link : LinkId) (bytes : List ℕ) : Type 0 wher
   pub opened : IsOpen link log
   pub some : 0 < length bytes
 
--- moments never fall, a link that comes is new, and calls name open links alone
+-- the links that a log names have numbers below this
+
+abbrev pub link_below : ℕ → Option LinkId → Bool
+link_below next None = true
+link_below next (Some link) = nat_lt link.0 next
+
+abbrev pub all_below : ℕ → Log → Bool
+all_below next log = list_all (λ e. link_below next (link_of e)) log
+
+pub record MayOpen (log : Log) (link : LinkId) : Type 0 where
+  pub fresh : IsNew link log
+  pub above : all_below link.0 log ≡ true
+
+-- moments never fall, a link that comes is new, one that is opened has a greater number than all before, and calls name open links alone
 abbrev pub Fits : Log → Entry → Type 0
 Fits log (Woke until_ms now_ms) = moment_of log ≤ now_ms
 Fits log (Accepted port link salt) = MayAccept log link salt
-Fits log (Opened server address link) = IsNew link log
+Fits log (Opened server address link) = MayOpen log link
 Fits log (Got link bytes) = MayRead log link bytes
 Fits log (ReadNothing link) = IsOpen link log
 Fits log (Ended link) = IsOpen link log

@@ -173,7 +173,7 @@ same-link one other is = ap (λ k. record { 0 = k }) (nat_eq-true one.0 other.0 
 pub not-both-step : (link : LinkId) (log : Log) (e : Entry) → Fits log e → NotBoth link log → NotBoth link (log ++ e ∷ [])
 not-both-step link log e fits before came opened = by (last-of (came_as link) log e came) (last-of (opened_as link) log e opened) where
   fresh : (e : Entry) → Fits log e → opened_as link e ≡ true → IsNew link log
-  fresh (Opened server address other) fits is = subst (λ (l : LinkId). IsNew l log) (sym (same-link link other is)) fits
+  fresh (Opened server address other) fits is = subst (λ (l : LinkId). IsNew l log) (sym (same-link link other is)) fits.fresh
   fresh _ fits is = absurd (let no : false ≡ true = is in cc)
 
   fresh-too : (e : Entry) → Fits log e → came_as link e ≡ true → IsNew link log

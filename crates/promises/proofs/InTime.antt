@@ -68,7 +68,7 @@ module _ (service : Service) (log : Log) (e : Entry) (fits : Fits log e) where
     known = arrival-came n log came is
 
     fresh : (d : Entry) → Fits log d → opened_as came.link d ≡ true → IsNew came.link log
-    fresh (Opened server address other) fits now = subst (λ (l : LinkId). IsNew l log) (sym (same-link came.link other now)) fits
+    fresh (Opened server address other) fits now = subst (λ (l : LinkId). IsNew l log) (sym (same-link came.link other now)) fits.fresh
     fresh _ fits now = absurd (let no : false ≡ true = now in cc)
 
     fresh-too : (d : Entry) → Fits log d → came_as came.link d ≡ true → IsNew came.link log

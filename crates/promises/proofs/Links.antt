@@ -138,7 +138,7 @@ opened-now service link log (Opened server address new) owner fits may is owned 
   parts = owner-turn (turn_of service link (log ++ Opened server address new ∷ [])) owner owned
 
   at : may.turn ≡ parts.0
-  at = turn-last link (open_tries log) service.opens may.turn parts.0 (new-untried link log (subst (λ (l : LinkId). IsNew l log) (sym same) fits)) may.is_next
+  at = turn-last link (open_tries log) service.opens may.turn parts.0 (new-untried link log (subst (λ (l : LinkId). IsNew l log) (sym same) fits.fresh)) may.is_next
       (ap (λ (l : LinkId). turn_by link (open_tries log ++ Some l ∷ []) service.opens) same ∙ ap (λ l. turn_by link l service.opens) (sym (tries-more log (Opened server address new))) ∙ parts.1)
 
   owner-is : owner_for service may.turn.client may.message may.due ≡ owner

@@ -159,7 +159,7 @@ module _ {service : Service} {log : Log} {server : ServerId} {address : Address}
   now-stood : Stood service new on.for.client.0 tables.lends with-it
   now-stood = stood on.happens.sound.lends (leaving on link (Opens server address link)) (
       let goes : RowGoes service log new on.for.client.0 link tables.lends with-it = RowStays first here (
-        opened-row service log (record { server = server; address = address }) link _ on.for.waiting.ask.account on.happens.fits on.next refl
+        opened-row service log (record { server = server; address = address }) link _ on.for.waiting.ask.account on.happens.fits.fresh on.next refl
             (on.happens.sound.lends.asks on.for.client.0 on.for.waiting.ask on.for.waiting.asks).account,
         Own refl owned (λ out. (on.for.waiting.ask, on.for.waiting.asks, refl)),
       ) (λ is. refl) (λ is. none-one tables.lends.closing on.quiet.unclosed is) refl refl in

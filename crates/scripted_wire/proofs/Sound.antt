@@ -5,12 +5,12 @@ use Rattle.std.proofs.lemmas.List.Folds.{list_all-append}
 use Rattle.mx_base.specs.declared.names.LinkId.{LinkId}
 use Rattle.mx_wire.specs.Growth.{moment_of-more}
 use Rattle.mx_wire.specs.Log.{Log, AreMarks, IsMark, is_link, is_open, link_of, moment_of, moment_step, of_link}
-use Rattle.mx_wire.specs.Tells.{Fits, IsOpen, OpenFor, Tells}
+use Rattle.mx_wire.specs.Tells.{Fits, IsOpen, MayOpen, OpenFor, Tells, all_below, link_below}
 use Rattle.mx_wire.specs.declared.entry.Entry.{Entry}
 use Rattle.mx_wire.specs.declared.entry.Entry.TheVariants as entry
 use Rattle.mx_wire.specs.Adds.{Adds, AddsIf, AddsOne, adds-append}
 use Rattle.scripted_wire.specs.Marks.{mark_of, option_log}
-use Rattle.scripted_wire.specs.Sound.{AddsMarks, IsFollowed, IsSound, all_below, link_below}
+use Rattle.scripted_wire.specs.Sound.{AddsMarks, IsFollowed, IsSound}
 use Rattle.scripted_wire.specs.declared.did.Did.{Did}
 use Rattle.scripted_wire.specs.declared.did.Did.TheVariants as did
 
@@ -195,6 +195,12 @@ open_low links moment told shown link same opened sound log is = is_below link.0
 
 pub is_new : (links moment : ℕ) (told : Option Log) (link : LinkId) → link.0 ≡ links → IsSound links moment told → (log : Log) → told ≡ Some log → of_link link log ≡ []
 is_new links moment told link is sound log told_is = below-fresh link log (subst (λ (n : ℕ). all_below n log ≡ true) (sym is) (sound.follows log told_is).below)
+
+pub may_open : (links moment : ℕ) (told : Option Log) (link : LinkId) → link.0 ≡ links → IsSound links moment told → (log : Log) → told ≡ Some log → MayOpen log link
+may_open links moment told link is sound log told_is = record {
+  fresh = is_new links moment told link is sound log told_is;
+  above = subst (λ (n : ℕ). all_below n log ≡ true) (sym is) (sound.follows log told_is).below;
+}
 
 -- Waits.
 

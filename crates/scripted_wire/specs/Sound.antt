@@ -1,17 +1,9 @@
 -- What keeps the log sound: links are new, and moments don't fall.
 use Rattle.std.specs.Prelude.{◌≡◌, ℕ, ◌≤◌, Bool, true, nat_lt, Option, Some, None}
-use Rattle.std.specs.List.{list_all}
 use Rattle.mx_base.specs.declared.names.LinkId.{LinkId}
-use Rattle.mx_wire.specs.Log.{Log, AreMarks, link_of, moment_of}
+use Rattle.mx_wire.specs.Log.{Log, AreMarks, moment_of}
+use Rattle.mx_wire.specs.Tells.{all_below}
 use Rattle.mx_wire.specs.Adds.{Adds}
-
-abbrev pub link_below : ℕ → Option LinkId → Bool
-link_below next None = true
-link_below next (Some link) = nat_lt link.0 next
-
--- the links of the log are below this number
-abbrev pub all_below : ℕ → Log → Bool
-all_below next log = list_all (λ e. link_below next (link_of e)) log
 
 pub record IsFollowed (links moment : ℕ) (log : Log) : Type 0 where
   pub below : all_below links log ≡ true

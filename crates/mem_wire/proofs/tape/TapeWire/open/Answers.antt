@@ -10,7 +10,7 @@ use Rattle.mem_wire.specs.Steps.{next_link, Asks}
 use Rattle.mem_wire.proofs.Telling.{tells, goes_on}
 use Rattle.mem_wire.proofs.Courses.{within-asked, within-enters}
 use Rattle.mem_wire.proofs.Links.{late_are}
-use Rattle.mem_wire.proofs.Following.{new-link}
+use Rattle.mem_wire.proofs.Following.{may-open}
 use Rattle.mem_wire.proofs.Entries.{follows-refused}
 use Rattle.mem_wire.proofs.Arrivals.{opens-asked, follows-opened}
 use Rattle.mem_wire.proofs.Results.{on_ok}
@@ -59,4 +59,4 @@ returns-else-is_err-clause-told c =
     rw (← c.self.view_is) (tells c.self.inside.told (late_entries s.late) (entry.Opened c.args.server c.args.address c.next_link-id.result) _
     (subst (λ (marks : Log). Calls c.self.inside.told marks (entry.Opened c.args.server c.args.address c.next_link-id.result) c.add_call-2.new.told) (ap {A = Stage} (λ t. late_entries t.late) c.ask_open.ensures.frame) c.add_call-2.ensures)
     (late_are s.late) (λ log is.
-    rw link (new-link _ s log (c.self.invariant.follows log is))))
+    rw link (may-open _ s log (c.self.invariant.follows log is))))

@@ -1,6 +1,6 @@
 use Rattle.std.proofs.Common.{◌≡◌, ◌+◌, length, refl, arith}
 use Rattle.mx_wire.specs.declared.entry.Entry.TheVariants as entry
-use Rattle.scripted_wire.proofs.Sound.{is_below, is_new, sound_one, tells_one}
+use Rattle.scripted_wire.proofs.Sound.{is_below, may_open, sound_one, tells_one}
 use Rattle.scripted_wire.proofs.Staged.{opens_one}
 use Rattle.scripted_wire.proofs.scripted.Scripted.open_at.Goals as goal
 
@@ -17,4 +17,4 @@ pub returns-in-Ok-clause-told : goal.returns-in-Ok-clause-told
 returns-in-Ok-clause-told g c =
     let s = c.self.inside.stage in
     rw (← c.self.view_is) (tells_one c.self.inside.told (entry.Opened c.args.server c.args.address c.next_link-id.result) c.add.new.self c.add.ensures
-    (λ log is. is_new (length s.links.items) s.moment c.self.inside.told c.next_link-id.result c.next_link-id.ensures c.self.invariant log is))
+    (λ log is. may_open (length s.links.items) s.moment c.self.inside.told c.next_link-id.result c.next_link-id.ensures c.self.invariant log is))
