@@ -1,2 +1,0 @@
-pub mod Concerning
-mod Links
