@@ -68,7 +68,8 @@ fits-so log (entry.Accepted port link salt) is =
     let parts = and_parts (is_new link log) _ is in
     let salted = and_parts _ _ parts.1 in
     record { fresh = empty-so (of_link link log) parts.0; salted = record { size = number_of (length salt) 20 salted.0; bytes = all-so IsSaltByte _ salt byte-so salted.1 } }
-fits-so log (entry.Opened server address link) is = empty-so (of_link link log) is
+fits-so log (entry.Opened server address link) is =
+    let parts = and_parts (is_new link log) _ is in record { fresh = empty-so (of_link link log) parts.0; above = parts.1 }
 fits-so log (entry.Got link bytes) is =
     let parts = and_parts _ _ is in
     let sized = and_parts _ _ parts.1 in

@@ -8,6 +8,7 @@ use Rattle.mx_base.specs.declared.names.LinkId.{LinkId}
 use Rattle.mx_base.specs.declared.tag.Tag.{Tag}
 use Rattle.mx_base.specs.declared.tag.Tag.TheVariants as tags
 use Rattle.mx_wire.specs.Log.{Log, is_open, moment_of, of_link, written_of}
+use Rattle.mx_wire.specs.Tells.{all_below}
 use Rattle.mx_wire.specs.declared.entry.Entry.{Entry}
 use Rattle.mx_wire.specs.declared.entry.Entry.TheVariants.{Accepted, Closed, Ended, Got, Opened, ReadFailed, ReadNothing, Woke, WriteFailed, WriteNothing, Wrote}
 use Rattle.packet_frame.specs.Packets.{Framed, spelling}
@@ -49,7 +50,7 @@ is_salt salt = nat_eq (length salt) 20 && list_all (λ byte. nat_le 1 byte && na
 abbrev pub fits : Log → Entry → Bool
 fits log (Woke until_ms now_ms) = nat_le (moment_of log) now_ms
 fits log (Accepted port link salt) = is_new link log && is_salt salt
-fits log (Opened server address link) = is_new link log
+fits log (Opened server address link) = is_new link log && all_below link.0 log
 fits log (Got link bytes) = is_open link log && (nat_lt 0 (length bytes) && nat_le (length bytes) 65536)
 fits log (ReadNothing link) = is_open link log
 fits log (Ended link) = is_open link log

@@ -114,7 +114,7 @@ module _ (fixed : Fixed) where
   none_opened log (entry.Opened server address other) link fits named = by_test (is_link_id link other) refl where
     by_test : (b : Bool) → is_link_id link other ≡ b → (b || false) ≡ false
     by_test false apart = refl
-    by_test true same = named_new other log (subst (λ (l : LinkId). is_named l log ≡ true) (link_of link other same) named) fits
+    by_test true same = named_new other log (subst (λ (l : LinkId). is_named l log ≡ true) (link_of link other same) named) fits.fresh
   none_opened log _ link fits named = refl
 
   any_both : (link : LinkId) (a b : List LinkId) → list_any (is_link_id link) a ≡ false → list_any (is_link_id link) b ≡ false → list_any (is_link_id link) (a ++ b) ≡ false

@@ -48,7 +48,7 @@ module _ (l : LinkId) where
   -- it doesn't come again
   stays_closed : (log : Log) (e : Entry) (was : Bool) → Fits log e → is_link l (link_of e) ≡ true → (of_it log ≡ [] → ⊥) → was ≡ false → open_step was e ≡ false
   stays_closed log (entry.Accepted port link salt) was fits here came is = absurd (came (ap (λ k. of_link k log) (maps.link_of l link here) ∙ fits.fresh))
-  stays_closed log (entry.Opened server address link) was fits here came is = absurd (came (ap (λ k. of_link k log) (maps.link_of l link here) ∙ fits))
+  stays_closed log (entry.Opened server address link) was fits here came is = absurd (came (ap (λ k. of_link k log) (maps.link_of l link here) ∙ fits.fresh))
   stays_closed log (entry.Closed link) was fits here came is = refl
   stays_closed log _ was fits here came is = is
 

@@ -94,7 +94,7 @@ module _ (fixed : Fixed) where
         → (if b then (tried_by (known fixed (world_at fixed log))).bare else (world_at fixed log).more.bare link) ≡ (world_at fixed log).more.bare link
     by_test false apart = refl
     by_test true same =
-        true-false (sym there ∙ ap (is_to_server (world_at fixed log).tale) (link_of link other same) ∙ new_there log other fits)
+        true-false (sym there ∙ ap (is_to_server (world_at fixed log).tale) (link_of link other same) ∙ new_there log other fits.fresh)
   bare_told log _ fits link there = refl
 
   pub bare_from : (before later : Log) → LawfulAfter Fits before later → (link : LinkId) → is_to_server (world_at fixed before).tale link ≡ true

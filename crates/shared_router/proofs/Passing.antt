@@ -181,7 +181,7 @@ pub passes_so : (fixed : Fixed) (log : Log) (e : Entry) → AreBegun fixed (worl
     → AreDecided (world_at fixed log).decided (view_of (setup_of fixed) (world_at fixed log).tale)
     → IsOurs fixed log e → Fits log e → PassesBy (setup_of fixed) (shared fixed) (world_at fixed log) e
 passes_so fixed log (entry.Opened server address link) begun decided ours fits =
-    ap (λ t. is_to_server t link) (sym (tale_then fixed log [])) ∙ new_link (setup_of fixed) (plan_of (world_at fixed (log ++ [])).decided) log link fits
+    ap (λ t. is_to_server t link) (sym (tale_then fixed log [])) ∙ new_link (setup_of fixed) (plan_of (world_at fixed (log ++ [])).decided) log link fits.fresh
 passes_so fixed log (entry.Wrote link tag bytes) begun decided ours fits = λ there begins.
     let w : World More = world_at fixed log in
     let d : Decided = decided_told (setup_of fixed) (shared fixed) w (entry.Wrote link tag bytes) in

@@ -296,7 +296,7 @@ module _ (fixed : Fixed) where
 
   new_then : (before : Log) (e : Entry) → Fits before e → IsNewThen (world_at fixed before).tale e
   new_then before (entry.Opened server address link) fits =
-      ap (λ t. is_to_server t link) (sym (tale_then fixed before [])) ∙ new_link setup (plan_of (world_at fixed (before ++ [])).decided) before link fits
+      ap (λ t. is_to_server t link) (sym (tale_then fixed before [])) ∙ new_link setup (plan_of (world_at fixed (before ++ [])).decided) before link fits.fresh
   new_then before _ fits = tt
 
   pub first_begun : AreBegun (first fixed)
