@@ -212,7 +212,7 @@ module _ (fixed : Fixed) (numbered : IsNumbered fixed) where
       let kept : (world_at fixed (before ++ e ∷ later)).more.bare link ≡ (world_at fixed (before ++ e ∷ [])).more.bare link =
       subst (λ (l : Log). (world_at fixed l).more.bare link ≡ (world_at fixed (before ++ e ∷ [])).more.bare link) (append_assoc before (e ∷ []) later)
       (bare_from fixed (before ++ e ∷ []) later fits.1 link (opened_there fixed before server address link)) in
-      tried_by_parts tried _ _ (agrees.logins link tried.login (opened_as fixed before server address link fits.fresh.0)) (kept ∙ behind)
+      tried_by_parts tried _ _ (agrees.logins link tried.login (opened_as fixed before server address link fits.0.fresh)) (kept ∙ behind)
 
   failed_tried : (before later : Log) (server : ServerId) (address : Address)
       → tried_by (known fixed (world_at fixed before)) ≡ (final_terms fixed (before ++ entry.OpenFailed server address ∷ later)).decided.tried (entry_behind before)
