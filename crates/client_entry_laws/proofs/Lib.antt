@@ -1,4 +1,0 @@
-pub mod Facts
-pub mod Waiting
-pub mod Turning
-pub mod Speaking

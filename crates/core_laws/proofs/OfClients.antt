@@ -1,0 +1,10 @@
+pub mod Facts
+pub mod Waiting
+pub mod Turning
+pub mod Speaking
+pub mod Homing
+pub mod Ending
+pub mod Following
+pub mod Keeping
+pub mod Unfaulty
+pub mod Telling

@@ -1,0 +1,477 @@
+-- A client's turns, one by one.
+use Rattle.std.specs.Prelude.{◌≡◌, ◌<◌, ◌≤◌, ◌+◌, ◌||◌, ℕ, zero, suc, length, Bool, true, false, not, ◌&&◌, is_some, if◌then◌else◌, slice_get, List, [], ◌∷◌, Option, Some, None}
+use Rattle.std.proofs.Common.{refl, sym, ap, ◌∙◌, subst, arith}
+use Rattle.std.proofs.lemmas.Option.{none-some}
+use Rattle.packet_frame.specs.Packets.{Framed, spellings}
+use Rattle.client_session.specs.Setups.{Setup as Service}
+use Rattle.private_model.specs.Commands.{Command}
+use Rattle.private_model.specs.Names.{ClientNo}
+use Rattle.private_model.specs.Story.{Left, is_client}
+use Rattle.log_story.specs.Clients.{taken_by, taken_up, waits_for_capture}
+use Rattle.log_story.specs.Owed.{messages, name_of}
+use Rattle.log_story.specs.Plan.{Route, word_at}
+use Rattle.log_story.specs.Tale as tales
+use Rattle.log_story.specs.Tale.{Tale, tell, with_client}
+use Rattle.stmt_map.specs.declared.client.ClientStatements.{ClientStatements}
+use Rattle.client_desk.specs.declared.work.Work.{Work}
+use Rattle.desk_laws.specs.Stands.{IsRequest, IsPlaced}
+use Rattle.client_seat.specs.Requests.{Says, text_in}
+use Rattle.client_seat.specs.Seats.{is_ended}
+use Rattle.client_seat.specs.Stands.{IsHeardIn}
+use Rattle.client_seat.specs.declared.next.Next.{Next}
+use Rattle.client_seat.specs.declared.next.Next.TheVariants as next
+use Rattle.client_seat.specs.declared.phase.Phase.{Phase}
+use Rattle.client_seat.specs.declared.phase.Phase.TheVariants as phase
+use Rattle.client_seat.specs.declared.seat.Seat.{Seat}
+use Rattle.step_laws.proofs.Taking.{idle_takes, next_takes, once_seats, past_idle, seated_next}
+use Rattle.step_laws.specs.Seats.{IsSeated}
+use Rattle.step_laws.specs.Taken.{IsIdle, all_taken, next_made, next_of}
+use Rattle.core_tables.specs.Arrivals.{looked, seated, turn}
+use Rattle.core_tables.specs.Parting.{left_in}
+use Rattle.core_tables.specs.Tables.{IsSame, Tabled, client_changed}
+use Rattle.core_tables.specs.Taking.{answers, begins_anew, goes, quits}
+use Rattle.core_tables.specs.declared.client.Client.{Client}
+use Rattle.core_stands.specs.Clients.{IsOwing}
+use Rattle.core_stands.specs.Grounds.{Ground, ending, looked_at, on, view_on}
+use Rattle.core_stands.specs.Stands.{Stands}
+use Rattle.core_laws.specs.parting.Partings.{HasLives, IsEnding, IsLeaving}
+use Rattle.core_laws.proofs.OfArrival.Changing.{changed-so}
+use Rattle.core_laws.proofs.OfArrival.Finding.{client-same, false-true}
+use Rattle.core_laws.proofs.OfArrival.Idling.{down-idles}
+use Rattle.core_laws.specs.arrival.Looks.{IsLook, Looks, LooksBy, CameUp, IsParting, Rested}
+use Rattle.core_laws.specs.taking.Takes.{IsSent, IsUpOf, is_reset, own_of, route_of, took}
+use Rattle.core_laws.proofs.OfTaking.Standing.{took_answered, took_reset, took_sent}
+use Rattle.core_laws.proofs.OfEntry.Looping.{taking_ends, taking_goes_on, taking_looks}
+use Rattle.core_laws.specs.entry.Loops.{IsTaking}
+use Rattle.core_laws.specs.entry.Safe.{has_runs, is_run}
+use Rattle.core_laws.proofs.OfClients.Facts.{few_so, has_lives, its_row, unended, waits_so}
+use Rattle.core_laws.proofs.OfClients.Waiting.{looked_waiting}
+use Rattle.core_laws.specs.clients.Chosen.{IsChosen, IsGone, IsHaltIn, IsLookedFor, IsStanding, IsTurning, PlanHas, StandsBehind}
+use Rattle.core_laws.specs.clients.Turns.{AnswersBy, Answers, Choice, ComesUp, EndsThere, Ends, Goes, GoesBy, Halt, HaltsSo, IsLookedAt, IsTurn, MakesAnswer, count_by, is_quitting}
+use Rattle.core_laws.specs.clients.Turns.{MayLeave, Quits, QuitsThere, Rests, RestsThere, Turns, Waits, WaitsThere}
+
+-- The laws by which it goes.
+
+pub record Laws : Type 0 where
+  pub looks : (service : Service) (g : Ground) (t now : Tabled) (default : List ℕ) (client : tales.Client) (row : Client)
+      → Stands service g t → IsLook g t default client row → IsSame now (looked service default client.number t)
+      → Looks service g now default client row
+  pub waits : (g : Ground) (client : tales.Client) → waits_for_capture (view_on g) g.plan client ≡ true
+      → IsIdle g.setup g.plan g.tale client
+  pub taken : (g : Ground) (t : Tabled) (client : tales.Client) (row : Client) → (is : IsUpOf g t client row)
+      → next_made g.setup g.plan client g.tale
+      ≡ Some (taken_by g.setup g.plan client (suc client.taken) is.up.message (route_of g client) g.tale)
+  pub owns : (service : Service) (g : Ground) (t other : Tabled) (client : tales.Client) (row : Client) → Stands service g t
+      → (is : IsUpOf g t client row) (flag : ℕ) (payloads : List (List ℕ)) (packets : List ℕ) (statements : ClientStatements)
+      → route_of g client ≡ None → own_of g client ≡ Some payloads → packets ≡ spellings row.desk.seat.first payloads
+      → is_reset is.up.message ≡ false → IsSame other (client_changed client.number (answers flag packets statements) t)
+      → Stands service (on g (took g client is.up.message)) other
+  pub resets : (service : Service) (g : Ground) (t other : Tabled) (client : tales.Client) (row : Client) → Stands service g t
+      → (is : IsUpOf g t client row) (flag : ℕ) (payloads : List (List ℕ)) (packets : List ℕ) (statements : ClientStatements)
+      → route_of g client ≡ None → own_of g client ≡ Some payloads → packets ≡ spellings row.desk.seat.first payloads
+      → is_reset is.up.message ≡ true → HasLives (view_on g) client.number
+      → IsSame other (begins_anew client.number flag packets statements t) → Stands service (on g (took g client is.up.message)) other
+  pub quitting : (service : Service) (g : Ground) (t other : Tabled) (client : tales.Client) (row : Client) → Stands service g t
+      → (is : IsUpOf g t client row) (flag : ℕ) (statements : ClientStatements) → route_of g client ≡ None → own_of g client ≡ None
+      → is_reset is.up.message ≡ false → HasLives (view_on g) client.number → word_at g.plan g.tale.moment client.number ≡ None
+      → IsSame other (quits client.number flag statements t)
+      → Stands service (ending client.number (on g (tell (Left client.number) (took g client is.up.message)))) other
+  pub dues : (service : Service) (g : Ground) (t other : Tabled) (client : tales.Client) (row : Client) → Stands service g t
+      → (is : IsUpOf g t client row) (flag : ℕ) (route : Route) (command : Command) (work : Work) (statements : ClientStatements)
+      → IsSent g client is.up.message route command work → IsSame other (client_changed client.number (goes flag work statements) t)
+      → Stands service (on g (took g client is.up.message)) other
+  pub leaves : (service : Service) (g : Ground) (t : Tabled) (client : tales.Client) (row : Client) (by : Seat → Seat) → Stands service g t
+      → IsSeated g.tale client → t.clients client.number ≡ Some row
+      → HasLives (view_on g) client.number
+      → IsLeaving (on g (tell (Left client.number) g.tale)) client (by row.desk.seat)
+      → IsEnding (on g (tell (Left client.number) g.tale)) client (by row.desk.seat)
+      → Stands service (ending client.number (on g (tell (Left client.number) g.tale))) (left_in client.number by t)
+  pub same : (service : Service) (g : Ground) (t other : Tabled) → Stands service g t → IsSame other t → Stands service g other
+  pub texts : (payload : List ℕ) (text : Option (List ℕ)) (command : Command) → text_in payload text ≡ Some (Says command)
+      → is_run command ≡ false
+
+-- How many were taken up.
+
+none_more : (n : ℕ) → n ≡ n + 0
+none_more n = omega arith
+
+one_more : (n : ℕ) → suc n ≡ n + 1
+one_more n = omega arith
+
+one_before : (n others last : ℕ) → suc n + (others + last) ≡ n + (suc others + last)
+one_before n others last = omega arith
+
+-- One turn, and what is asked of the next.
+pub record IsOn (service : Service) (default : List ℕ) (first : tales.Client) (from : Tale) (g : Ground) (client : tales.Client) (now : Tabled) (tale : Tale)
+    : Type 0 where
+  pub turning : IsTurning service default first from (on (looked_at client.number g) tale) now (next_of client)
+  pub moment : tale.moment ≡ g.tale.moment
+
+module _ (laws : Laws) (service : Service) (default : List ℕ) (first client : tales.Client) (from : Tale) (g : Ground) (t : Tabled)
+    (is : IsTurning service default first from g t client) where
+  abbrev c : ClientNo
+  c = client.number
+
+  abbrev seen : Ground
+  seen = looked_at c g
+
+  is_look : (row : Client) (said : Next) → IsLookedAt service default c t row said → IsLook g t default client row
+  is_look row said looks = record {
+    known = record { seated = is.taking.seated; number = refl };
+    there = looks.there;
+    going = unended service g t client row is.taking.stands is.taking.seated looks.there is.going;
+    captured = sym (waits_so service g t client row is.taking.stands is.taking.seated looks.there is.going) ∙ looks.captured;
+    few = few_so service g t client row is.taking.stands is.taking.seated looks.there is.going looks.few;
+    let_in = is.let_in;
+  }
+
+  said_so : (row : Client) (said : Next) (now : Tabled) → IsLookedAt service default c t row said → IsSame now (looked service default c t)
+      → LooksBy said service g now client row (turn service default row.desk.seat)
+  said_so row said now looks same =
+      subst (λ (x : Next). LooksBy x service g now client row (turn service default row.desk.seat)) looks.says
+      (laws.looks service g t now default client row is.taking.stands (is_look row said looks) same)
+
+  unlooked : (other : ClientNo) → g.fresh other ≡ false → seen.fresh other ≡ false
+  unlooked other e = by (not (is_client c other)) where
+    by : (b : Bool) → (b && g.fresh other) ≡ false
+    by true = e
+    by false = refl
+
+  its_looked : seen.fresh c ≡ false
+  its_looked = ap (λ (b : Bool). not b && g.fresh c) (client-same c c refl)
+
+  -- it waits, or rests
+
+  pub waits_there : (now : Tabled) → WaitsThere c t now → IsLookedFor service first from client.taken g c now
+  waits_there now there =
+      let idle : IsIdle g.setup g.plan g.tale client =
+      laws.waits g client (sym (waits_so service g t client there.row is.taking.stands is.taking.seated there.there is.going) ∙ there.waits) in
+      let stands : Stands service seen now =
+      laws.same service seen t now
+      (looked_waiting service g t client there.row is.taking.stands is.taking.seated there.there is.going is.unrouted there.waits) there.same in
+      record {
+        standing = record {
+          client = client;
+          count = refl;
+          tale = g.tale;
+          fresh = seen.fresh;
+          taking = taking_looks service first client from g t is.taking now stands;
+          idle = idle;
+          all = taking_ends service first client from g t is.taking idle;
+          runless = is.runless;
+          unlooked = unlooked;
+        };
+        looked = its_looked;
+      }
+
+  pub rests_there : (now : Tabled) → RestsThere service default c t now → IsLookedFor service first from client.taken g c now
+  rests_there now there =
+      let rested : Rested service g now client = said_so there.row next.Nothing now there.looks there.same in
+      record {
+        standing = record {
+          client = client;
+          count = refl;
+          tale = g.tale;
+          fresh = seen.fresh;
+          taking = taking_looks service first client from g t is.taking now rested.stands;
+          idle = rested.idle;
+          all = taking_ends service first client from g t is.taking rested.idle;
+          runless = is.runless;
+          unlooked = unlooked;
+        };
+        looked = its_looked;
+      }
+
+  -- it is refused
+
+  pub ends_there : word_at g.plan g.tale.moment c ≡ None → (now : Tabled) → EndsThere service default c t now → IsGone service first from client.taken g c now
+  ends_there wordless now there =
+      let seat : Seat = turn service default there.row.desk.seat in
+      let parts : IsParting g client there.row seat =
+      said_so there.row next.Ended (looked service default c t) there.looks (record { clients = λ n. refl; numbers = λ l. refl; links = λ l. refl }) in
+      let after : Ground = on g (tell (Left c) g.tale) in
+      let leaving : IsLeaving after client seat = record {
+        who = parts.who;
+        heard = subst (λ (at : Phase). IsHeardIn at g.plan client seat) (sym parts.ended) tt;
+        owed = subst (λ (at : Phase). IsOwing at (g.fresh c) after client seat) (sym parts.ended)
+            (let front = parts.owed wordless in record { written = front.written; size = front.size; front = front.front });
+        placed = subst (λ (at : Phase). IsPlaced at (view_on after) c seat.place) (sym parts.ended) tt;
+      } in
+      let ends : IsEnding after client seat = record {
+        ended = ap is_ended parts.ended;
+        told = λ worded. false-true (is_some (word_at g.plan g.tale.moment c)) (ap is_some wordless) worded;
+      } in
+      let stood : Stands service (ending c after) (left_in c (turn service default) t) =
+      laws.leaves service g t client there.row (turn service default) is.taking.stands is.taking.seated there.looks.there
+      (has_lives service g t client there.row is.taking.stands is.taking.seated there.looks.there there.lives) leaving ends in
+      record {
+        client = client;
+        count = refl;
+        tale = g.tale;
+        fresh = g.fresh;
+        stands = laws.same service (ending c after) (left_in c (turn service default) t) now stood there.same;
+        seated = is.taking.seated;
+        number = is.taking.number;
+        all = taking_ends service first client from g t is.taking parts.rested;
+        runless = is.runless;
+        unlooked = λ other e. e;
+      }
+
+  -- A message of it comes up.
+
+  module _ (between : Tabled) (up : ComesUp service default c t between) where
+    abbrev there : Client
+    there = seated (turn service default) up.row
+
+    came : CameUp service g between client (turn service default up.row.desk.seat) up.ordinal
+    came = said_so up.row (next.Message up.ordinal) between up.looks up.same
+
+    is_up : IsUpOf seen between client there
+    is_up = record {
+      seated = is.taking.seated;
+      there = changed-so (turn service default) c t between up.row up.looks.there up.same;
+      up = record {
+        account = came.up.account;
+        serves = came.up.serves;
+        served = came.up.served;
+        message = came.up.message;
+        rest = came.up.rest;
+        whole = came.up.whole;
+        found = came.up.found;
+        next = came.up.next;
+        counts = refl;
+        up = came.up.up;
+        answered = came.up.answered;
+        first = came.up.first;
+      };
+      few = (is_look up.row (next.Message up.ordinal) up.looks).few;
+    }
+
+    is_found : up.message ≡ came.up.message
+    is_found = let both : Some up.message ≡ Some came.up.message = sym up.found ∙ came.up.found in cc
+
+    looking : IsTaking service first from seen between client
+    looking = taking_looks service first client from g t is.taking between came.stands
+
+    next_is : next_made g.setup g.plan client g.tale
+        ≡ Some (taken_by g.setup g.plan client (suc client.taken) came.up.message (route_of g client) g.tale)
+    unfolding came is_up
+    next_is = laws.taken seen between client there is_up
+
+    abbrev taken_then : Tale
+    taken_then = took seen client came.up.message
+
+    turned_so : (now : Tabled) → Stands service (on seen taken_then) now → (has_runs from.story ≡ false → has_runs taken_then.story ≡ false)
+        → taken_then.moment ≡ g.tale.moment → IsOn service default first from g client now taken_then
+    turned_so now stands runless moment = record {
+      turning = record {
+        taking = taking_goes_on service first client from seen between looking now
+            (taken_by g.setup g.plan client (suc client.taken) came.up.message (route_of g client) g.tale) next_is stands;
+        classes = is.classes;
+        let_in = record { account = is.let_in.account; place = is.let_in.place };
+        going = is.going;
+        unrouted = is.unrouted;
+        runless = runless;
+      };
+      moment = moment;
+    }
+
+    lives_here : MayLeave up.row → HasLives (view_on seen) c
+    lives_here may = has_lives service g t client up.row is.taking.stands is.taking.seated up.looks.there may
+
+    answered_by : (b : Bool) → is_reset came.up.message ≡ b → (payloads : List (List ℕ)) (flag : ℕ) (packets : List ℕ) (statements : ClientStatements)
+        → packets ≡ spellings (turn service default up.row.desk.seat).first payloads → (now : Tabled)
+        → MakesAnswer b c flag packets statements up.row between now
+        → route_of g client ≡ None → own_of g client ≡ Some payloads → IsOn service default first from g client now taken_then
+    unfolding came is_up
+    answered_by false e payloads flag packets statements spelt now makes unrouted own =
+        let tale_is : taken_then ≡ with_client (next_of client) g.tale = took_answered seen client came.up.message unrouted e in
+        turned_so now (laws.owns service seen between now client there came.stands is_up flag payloads packets statements unrouted own spelt e makes)
+        (λ none. ap (λ (x : Tale). has_runs x.story) tale_is ∙ is.runless none) (ap (λ (x : Tale). x.moment) tale_is)
+    answered_by true e payloads flag packets statements spelt now makes unrouted own =
+        let tale_is : taken_then ≡ with_client (next_of client) (tell (Left c) g.tale) = took_reset seen client came.up.message unrouted e in
+        turned_so now
+        (laws.resets service seen between now client there came.stands is_up flag payloads packets statements unrouted own spelt e (lives_here makes.0) makes.1)
+        (λ none. ap (λ (x : Tale). has_runs x.story) tale_is ∙ is.runless none) (ap (λ (x : Tale). x.moment) tale_is)
+
+    goes_by : (route : Route) (command : Command) (flag : ℕ) (work : Work) (statements : ClientStatements) (now : Tabled)
+        → IsSent seen client came.up.message route command work
+        → IsSame now (client_changed c (goes flag work statements) between) → IsOn service default first from g client now taken_then
+    unfolding came is_up
+    goes_by route command flag work statements now sends same =
+        let tale_is = took_sent seen client came.up.message route command work sends in
+        turned_so now (laws.dues service seen between now client there came.stands is_up flag route command work statements sends same)
+        (λ none. ap (λ (x : Tale). has_runs x.story) tale_is
+        ∙ ap (λ (b : Bool). b || has_runs g.tale.story) (laws.texts came.up.message.payload route.text command sends.asked) ∙ is.runless none)
+        (ap (λ (x : Tale). x.moment) tale_is)
+
+    -- it quits
+    quits_by : (flag : ℕ) (statements : ClientStatements) (now : Tabled) → is_reset came.up.message ≡ false → MayLeave up.row
+        → IsSame now (quits c flag statements between) → route_of g client ≡ None → own_of g client ≡ None
+        → word_at g.plan g.tale.moment c ≡ None → Stands service (ending c (on seen (tell (Left c) taken_then))) now
+    unfolding came is_up
+    quits_by flag statements now e may same unrouted own wordless =
+        laws.quitting service seen between now client there came.stands is_up flag statements unrouted own e (lives_here may) wordless same
+
+    -- nothing more of it is up, since that isn't answered
+
+    answered_not : (own reply others : Bool) → own ≡ false → reply ≡ false → ((own || reply) && others) ≡ false
+    answered_not true reply others owned none = false-true true owned refl
+    answered_not false true others owned none = false-true true none refl
+    answered_not false false others owned none = refl
+
+    quit_idle : route_of g client ≡ None → own_of g client ≡ None → is_reset came.up.message ≡ false → IsIdle g.setup g.plan taken_then (next_of client)
+    quit_idle unrouted own e =
+        subst (λ (tale : Tale). IsIdle g.setup g.plan tale (next_of client)) (sym (took_answered seen client came.up.message unrouted e))
+        (down-idles g.setup g.plan (next_of client) (with_client (next_of client) g.tale)
+        (answered_not (is_some (own_of g client)) (is_some ((view_on g).replies (name_of client (suc client.taken)))) _ (ap is_some own)
+        (ap is_some ((its_row service g t client up.row is.taking.stands is.taking.seated up.looks.there).coming.unanswered (suc client.taken) (omega arith)))))
+
+    quit_seated : IsSeated taken_then (next_of client)
+    quit_seated =
+        seated_next g.setup g.plan client (next_of client) g.tale
+        (taken_by g.setup g.plan client (suc client.taken) came.up.message (route_of g client) g.tale) refl
+        (once_seats g.setup g.plan client (slice_get (messages g.plan client) client.taken) g.tale
+        (taken_by g.setup g.plan client (suc client.taken) came.up.message (route_of g client) g.tale) next_is) is.taking.seated
+
+    -- and that was all
+    quit_all : (most : ℕ) → length (messages g.plan client) ≤ most + client.taken
+        → taken_up most g.setup g.plan client g.tale ≡ all_taken g.setup g.plan first from
+        → IsIdle g.setup g.plan taken_then (next_of client) → all_taken g.setup g.plan first from ≡ taken_then
+    quit_all zero enough to_come idle =
+        absurd (none-some (taken_by g.setup g.plan client (suc client.taken) came.up.message (route_of g client) g.tale)
+        (sym (past_idle g.setup g.plan client g.tale (omega (arith, enough))) ∙ next_is))
+    quit_all (suc most) enough to_come idle =
+        sym to_come
+        ∙ next_takes g.setup g.plan most client g.tale
+        (taken_by g.setup g.plan client (suc client.taken) came.up.message (route_of g client) g.tale) next_is
+        ∙ idle_takes g.setup g.plan most (next_of client) taken_then idle
+
+    quits_there : (flag : ℕ) (statements : ClientStatements) (now : Tabled) → is_reset came.up.message ≡ false → MayLeave up.row
+        → IsSame now (quits c flag statements between) → IsHaltIn Quits g.plan g.tale.moment (name_of client (suc client.taken))
+        → IsGone service first from (suc client.taken) g c now
+    quits_there flag statements now e may same last = record {
+      client = next_of client;
+      count = refl;
+      tale = taken_then;
+      fresh = seen.fresh;
+      stands = quits_by flag statements now e may same last.unrouted last.unanswered last.wordless;
+      seated = quit_seated;
+      number = is.taking.number;
+      all = quit_all is.taking.most is.taking.enough is.taking.to_come (quit_idle last.unrouted last.unanswered e);
+      runless = λ none. ap (λ (x : Tale). has_runs x.story) (took_answered seen client came.up.message last.unrouted e) ∙ is.runless none;
+      unlooked = unlooked;
+    }
+
+  -- Turns as the code makes them.
+
+  answers_turn : (payloads : List (List ℕ)) (now : Tabled) → AnswersBy service default payloads c t now
+      → IsChosen (Answers payloads) g.plan g.tale.moment (name_of client (suc client.taken))
+      → (tale : Tale) × IsOn service default first from g client now tale
+  answers_turn payloads now turn chosen =
+      let message : Framed = (came turn.between turn.up).up.message in (
+        taken_then turn.between turn.up,
+        answered_by turn.between turn.up (is_reset message) refl payloads turn.flag turn.packets turn.statements turn.spelt now
+            (subst (λ (m : Framed). MakesAnswer (is_reset m) c turn.flag turn.packets turn.statements turn.up.row turn.between now)
+            (is_found turn.between turn.up) turn.makes)
+            chosen.unrouted chosen.answered,
+      )
+
+  goes_turn : (route : Route) (now : Tabled) → GoesBy service default route c t now
+      → IsChosen (Goes route) g.plan g.tale.moment (name_of client (suc client.taken))
+      → (tale : Tale) × IsOn service default first from g client now tale
+  goes_turn route now turn chosen =
+      let message : Framed = (came turn.between turn.up).up.message in
+      let sends : IsSent seen client message route turn.command turn.work = record {
+        routed = chosen.routed;
+        unanswered = chosen.unanswered;
+        single = chosen.single;
+        asked = subst (λ (m : Framed). text_in m.payload route.text ≡ Some (Says turn.command)) (is_found turn.between turn.up) turn.asked;
+        request = subst (λ (ordinal : ℕ). IsRequest g.setup.reads ordinal route.key turn.command route.multiplex turn.work)
+            (came turn.between turn.up).up.counts (turn.request g.setup.reads is.classes);
+        kind = turn.kind;
+        hostgroup = turn.hostgroup;
+      } in (
+        taken_then turn.between turn.up,
+        goes_by turn.between turn.up route turn.command turn.flag turn.work turn.statements now sends turn.same,
+      )
+
+  one_turn : (choice : Choice) (now : Tabled) → IsTurn choice service default c t now
+      → IsChosen choice g.plan g.tale.moment (name_of client (suc client.taken))
+      → (tale : Tale) × IsOn service default first from g client now tale
+  one_turn (Goes route) now turn chosen = goes_turn route now turn chosen
+  one_turn (Answers payloads) now turn chosen = answers_turn payloads now turn chosen
+
+  quits_turn : (now : Tabled) → QuitsThere service default c t now
+      → IsHaltIn Quits g.plan g.tale.moment (name_of client (suc client.taken)) → IsGone service first from (suc client.taken) g c now
+  quits_turn now there last =
+      quits_there there.between there.up there.flag there.statements now
+      (subst (λ (m : Framed). is_reset m ≡ false) (is_found there.between there.up) there.quits_only) there.lives there.same last
+
+  last_turn : (halt : Halt) (now : Tabled) → HaltsSo halt service default c t now
+      → IsHaltIn halt g.plan g.tale.moment (name_of client (suc client.taken))
+      → StandsBehind halt service first from (client.taken + count_by [] halt) g c now
+  last_turn Waits now there has =
+      subst (λ (n : ℕ). IsLookedFor service first from n g c now) (none_more client.taken) (waits_there now there)
+  last_turn Rests now there has =
+      subst (λ (n : ℕ). IsLookedFor service first from n g c now) (none_more client.taken) (rests_there now there)
+  last_turn Quits now there has =
+      subst (λ (n : ℕ). IsGone service first from n g c now) (one_more client.taken) (quits_turn now there has)
+  last_turn Ends now there has =
+      subst (λ (n : ℕ). IsGone service first from n g c now) (none_more client.taken) (ends_there has now there)
+
+  -- What stands behind other turns stands behind these.
+
+  module _ (tale : Tale) (taken : ℕ) (now : Tabled) where
+    abbrev after : Ground
+    after = on seen tale
+
+    still_standing : IsStanding service first from taken after now → IsStanding service first from taken g now
+    still_standing s = record {
+      client = s.client;
+      count = s.count;
+      tale = s.tale;
+      fresh = s.fresh;
+      taking = s.taking;
+      idle = s.idle;
+      all = s.all;
+      runless = s.runless;
+      unlooked = λ other e. s.unlooked other (unlooked other e);
+    }
+
+    still_gone : IsGone service first from taken after c now → IsGone service first from taken g c now
+    still_gone s = record {
+      client = s.client;
+      count = s.count;
+      tale = s.tale;
+      fresh = s.fresh;
+      stands = s.stands;
+      seated = s.seated;
+      number = s.number;
+      all = s.all;
+      runless = s.runless;
+      unlooked = λ other e. s.unlooked other (unlooked other e);
+    }
+
+    still : (halt : Halt) → StandsBehind halt service first from taken after c now → StandsBehind halt service first from taken g c now
+    unfolding still_standing
+    still Waits s = record { standing = still_standing s.standing; looked = s.looked }
+    still Rests s = record { standing = still_standing s.standing; looked = s.looked }
+    still Quits s = still_gone s
+    still Ends s = still_gone s
+
+pub turns_so : (laws : Laws) (service : Service) (default : List ℕ) (first client : tales.Client) (from : Tale) (g : Ground) (t now : Tabled)
+    (choices : List Choice) (halt : Halt) → IsTurning service default first from g t client
+    → PlanHas choices halt g.plan g.tale.moment (name_of client (suc client.taken))
+    → Turns choices halt service default client.number t now
+    → StandsBehind halt service first from (client.taken + count_by choices halt) g client.number now
+turns_so laws service default first client from g t now [] halt is has turns =
+    last_turn laws service default first client from g t is halt now turns has
+turns_so laws service default first client from g t now (choice ∷ others) halt is has turns =
+    let made = one_turn laws service default first client from g t is choice turns.0 turns.1 has.0 in
+    subst (λ (n : ℕ). StandsBehind halt service first from n g client.number now)
+    (one_before client.taken (length others) (if is_quitting halt then 1 else 0))
+    (still laws service default first client from g t is made.0 (suc client.taken + count_by others halt) now halt
+    (turns_so laws service default first (next_of client) from (on (looked_at client.number g) made.0) turns.0 now others halt made.1.turning
+    (subst (λ (moment : ℕ). PlanHas others halt g.plan moment (name_of (next_of client) (suc (suc client.taken)))) (sym made.1.moment) has.1)
+    turns.2))

@@ -1,0 +1,754 @@
+-- Bytes are written on a link to a server: the tables stand for the tale.
+use Rattle.std.specs.Prelude.{◌≡◌, ◌⊎◌, ◌<◌, ◌≤◌, ℕ, suc, Bool, true, false, not, ◌&&◌, ◌||◌, is_some, nat_eq, length, take, if◌then◌else◌, All, map, List, [], ◌∷◌, ◌++◌, Option, Some, None}
+use Rattle.std.specs.List.{list_any}
+use Rattle.std.specs.Option.{option_map, option_map_or}
+use Rattle.std.proofs.Common.{refl, sym, ap, ◌∙◌, subst, arith, inl, inr}
+use Rattle.std.proofs.lemmas.Bool.{and_from, false≢true, true≢false}
+use Rattle.std.proofs.lemmas.List.Elements.{All-weaker}
+use Rattle.std.proofs.lemmas.Option.{none-some, same_Some}
+use Rattle.mx_base.specs.Sent.{Sent as Offer}
+use Rattle.mx_base.specs.declared.tag.Tag.{Tag}
+use Rattle.mx_base.specs.declared.tag.Tag.TheVariants as tags
+use Rattle.client_session.specs.Setups.{Setup as Service}
+use Rattle.reply_track.specs.Runs.{renumbered}
+use Rattle.reply_track.specs.Tracking.{started}
+use Rattle.private_model.proofs.Maps.{client_of, link_of, name_of as name_is, same_link, same_message, same_name}
+use Rattle.private_model.specs.Commands.{Command, Quit, class_of}
+use Rattle.private_model.specs.Lawful.{IsLawful}
+use Rattle.private_model.specs.Names.{ClientNo, Hostgroup, LinkId, MessageName, SessionName}
+use Rattle.private_model.specs.Story as story
+use Rattle.private_model.specs.Story.{Due, Happening, Question, Sent, command_of, is_link_id, message_of, put}
+use Rattle.private_model.specs.View as view
+use Rattle.private_model.specs.View.{Link, Setup, View, view_step}
+use Rattle.private_model.specs.View.{asked as asked_there}
+use Rattle.log_story.specs.Plan.{Asks, Plan, StepText}
+use Rattle.log_story.specs.Servers as servers
+use Rattle.log_story.specs.Servers.{begun_on, quits_for, reply_id, step_for, tell_all, writes}
+use Rattle.log_story.specs.Servers.{begins as law_begins}
+use Rattle.log_story.specs.Tale as tales
+use Rattle.log_story.specs.Telling.{told}
+use Rattle.mx_wire.specs.declared.entry.Entry.TheVariants.{Wrote as WroteBytes}
+use Rattle.log_story.specs.Tale.{client_gets}
+use Rattle.log_story.specs.Tale.{Tale, Wire, is_to_server, link_in, view_of, with_wire}
+use Rattle.tale_world.proofs.Testing.{tells_so}
+use Rattle.link_state.specs.Asks.{kind_of, lends_by, lent_for}
+use Rattle.link_state.specs.declared.asking.Form.{Form}
+use Rattle.link_laws.specs.Stands.{IsForm}
+use Rattle.server_rule.specs.Classes.{Reads as Classes}
+use Rattle.client_desk.specs.Desks as desks
+use Rattle.client_desk.specs.Desks.{session_of}
+use Rattle.client_desk.specs.Works.{gone_out, outlasts}
+use Rattle.link_state.specs.Dones.{is_quiet}
+use Rattle.link_state.specs.declared.asking.Asking.{Asking}
+use Rattle.link_state.specs.declared.asking.Purpose.{Purpose}
+use Rattle.link_state.specs.declared.asking.Purpose.TheVariants as purposes
+use Rattle.link_state.specs.declared.state.LinkState.{LinkState}
+use Rattle.link_state.specs.declared.state.Stage.{Stage}
+use Rattle.link_state.specs.declared.state.Stage.TheVariants.{Quiet, Asked, Answered}
+use Rattle.link_laws.specs.Stands.{Codes}
+use Rattle.lent_link.specs.Links.{is_in, left_at, left_in, wrote_on}
+use Rattle.lent_link.specs.Links.{begun as link_begun}
+use Rattle.link_state.specs.Writes as link_writes
+use Rattle.lent_link.specs.Rests.{is_resetting, is_whole_or_none, may_begin}
+use Rattle.lent_link.specs.declared.link.Begins.{Begins}
+use Rattle.lent_link.specs.declared.link.Begins.TheVariants as begins
+use Rattle.lent_link.specs.declared.link.LentLink.{LentLink}
+use Rattle.lent_link.specs.declared.link.Step.{Step}
+use Rattle.lent_link.specs.declared.link.Step.TheVariants.{Other, Closes, Resets}
+use Rattle.served_link.specs.Writes.{began, next_kind, wrote}
+use Rattle.served_link.specs.declared.row.Identity.{Identity}
+use Rattle.served_link.specs.declared.row.LeftSession.{LeftSession}
+use Rattle.served_link.specs.declared.row.Row.{Row}
+use Rattle.served_link.specs.declared.writing.Kind.{Kind}
+use Rattle.row_laws.specs.Begins.{IsBeginning, IsNoStep}
+use Rattle.row_laws.specs.Rows.{IsRow, IsRowIn}
+use Rattle.row_laws.specs.Unread.{kind_answered, sought}
+use Rattle.row_laws.specs.Whose.{OfStatement, name_in}
+use Rattle.row_laws.specs.Written.{is_other}
+use Rattle.core_tables.specs.Passing.{passes_next, sends}
+use Rattle.core_tables.specs.Tables.{Tabled, client_changed, link_changed}
+use Rattle.core_tables.specs.Writing.{begun_for, client_sent, lasts, purpose_next, server_wrote, wrote_by}
+use Rattle.core_tables.specs.Writing.{wrote_on as wrote_on_tables}
+use Rattle.core_tables.specs.declared.client.Client.{Client}
+use Rattle.core_tables.specs.declared.server.Server.{Server}
+use Rattle.core_stands.specs.Grounds.{Ground, on, view_on}
+use Rattle.core_stands.specs.Servers.{IsPartedAt, IsPartedFor, is_lent, is_stating, IsNextFor, IsNextOf, IsNextStatement, IsReplying, IsReplyingAt, IsReplyingFor, IsServer, IsServerBy, IsServerOr, IsStanding, IsStandingAt}
+use Rattle.core_stands.specs.Stands.{AreClients, AreHomes, Stands}
+use Rattle.core_laws.specs.writing.Planned.{IsPlanned, planned_on}
+use Rattle.core_laws.proofs.OfWriting.Begun.{Begun, IsDueThere, IsStated, IsStep, OfPurpose, told_for}
+use Rattle.core_laws.proofs.OfWriting.Framing.{CarriedOf, HomeOf, Onward, Reads, SameHomes, flipped, homes_on, link_apart, link_here, parted_on, same_reads, server_on, standing_on}
+use Rattle.core_laws.proofs.OfWriting.Knowing.{dry_by, enters_in, entered, is_servers, over, quiet, serves, serving, unread}
+use Rattle.core_laws.proofs.OfWriting.Lending.{BegunFor, IsLent, MayBegin, begun_so, goes_on, left_inside, may_send, quit_tag, quits_told}
+use Rattle.core_laws.proofs.OfWriting.Moving.{ComingStays, OthersStay, clients_still, clients_step, sent, still}
+use Rattle.core_laws.proofs.OfWriting.Onwards.{onward_statement, onward_step, onward_still, reads_sent}
+use Rattle.core_laws.proofs.OfWriting.Stated.{SentDesk, SentStands, clients_sent, homes_sent, now_there, sent_desk}
+use Rattle.core_laws.proofs.OfWriting.Stating.{due_is, life_is, unanswered_there, unsent_there}
+use Rattle.core_laws.proofs.OfWriting.Rows.{Wrote, kind_next, kind_none, row_spoilt, wrote_next, wrote_outside, wrote_so}
+
+put_there : {A : Type 0} (f : LinkId → A) (l : LinkId) (x : A) → put is_link_id f l x l ≡ x
+put_there f l x = ap (λ (same : Bool). if same then x else f l) (same_link l)
+
+-- row_laws' rows_say, rows_write_on and rows_begin
+
+abbrev pub Says : Type 0
+Says = (setup : Setup) (codes : Codes) (plan : Plan) (tale : Tale) (l : LinkId) (row : Row) (tag : Tag) (count now : ℕ)
+    → IsRowIn setup codes plan tale l row → (offer : Offer) → left_in row.link ≡ Some offer → count ≤ length offer.bytes → 0 < count
+    → (tale.wires l).entered ≡ false → row.link.spoilt ≡ false
+    → IsRowIn setup codes plan (writes setup plan l tag (take count offer.bytes) (tale.wires l) tale) l (wrote count now row)
+
+abbrev pub WritesOn : Type 0
+WritesOn = (setup : Setup) (codes : Codes) (plan : Plan) (tale : Tale) (l : LinkId) (row : Row) (tag : Tag) (count now : ℕ)
+    → IsRowIn setup codes plan tale l row → (offer : Offer) → left_in row.link ≡ Some offer → count ≤ length offer.bytes → 0 < count
+    → (tale.wires l).entered ≡ true → row.link.next ≡ None
+    → IsRowIn setup codes plan (writes setup plan l tag (take count offer.bytes) (tale.wires l) tale) l (wrote count now row)
+
+abbrev pub BeginsThere : Type 0
+BeginsThere = (setup : Setup) (codes : Codes) (plan : Plan) (tale : Tale) (l : LinkId) (row : Row) (tag : Tag) (count now : ℕ)
+    → IsRowIn setup codes plan tale l row → (offer : Offer) → left_in row.link ≡ Some offer → count ≤ length offer.bytes → 0 < count
+    → (tale.wires l).entered ≡ true → (next : Begins) → row.link.next ≡ Some next
+    → IsBeginning next setup.reads codes (view_of setup tale) l row ((view_of setup tale).links l)
+    (begun_on setup plan tale.moment (view_of setup tale) l (tale.wires l) tag) (step_for tag (plan.steps l (tale.wires l).begun))
+    (quits_for tag (plan.steps l (tale.wires l).begun))
+    → IsRowIn setup codes plan (writes setup plan l tag (take count offer.bytes) (tale.wires l) tale) l (wrote count now row)
+
+-- desk_laws' outlasts_as_said
+abbrev pub OutlastsAsSaid : Type 0
+OutlastsAsSaid = (reads : Classes) (form : Form) (command : Command) → IsForm reads form command → outlasts form ≡ (class_of reads command).outlasts_reset
+
+-- Each link's row: that of the one that is written, and others.
+
+pub servers_made : (g after : Ground) (t now : Tabled) (l : LinkId) (server : Server) → now.links l ≡ Some server → IsServerOr after now l (Some server)
+    → ((other : LinkId) → is_link_id other l ≡ false → IsServerOr after now other (now.links other)) → (other : LinkId) → IsServerOr after now other (now.links other)
+servers_made g after t now l server there is others other = by (is_link_id other l) refl where
+  by : (same : Bool) → is_link_id other l ≡ same → IsServerOr after now other (now.links other)
+  by true e =
+      let here : other ≡ l = link_of other l e in
+      subst (λ (k : LinkId). IsServerOr after now k (now.links k)) (sym here) (subst (λ (x : Option Server). IsServerOr after now l x) (sym there) is)
+  by false e = others other e
+
+pub by_to_server : (to_server : Bool) (after : Ground) (now : Tabled) (l : LinkId) (server : Server) → to_server ≡ true → IsServer after now l server.row
+    → IsServerBy to_server after now l (Some server)
+by_to_server true after now l server is_true is = is
+by_to_server false after now l server is_true is = absurd (false≢true is_true)
+
+-- a link's row is written, and no client changes: homes stay where whom it carries does
+pub same_but : (t now : Tabled) (l : LinkId) (server after : Server) → ((c : ClientNo) → now.clients c ≡ t.clients c) → t.links l ≡ Some server → now.links l ≡ Some after
+    → ((other : LinkId) → is_link_id other l ≡ false → now.links other ≡ t.links other) → name_in after.row.link.state.carries ≡ name_in server.row.link.state.carries
+    → after.row.left ≡ server.row.left → after.row.lost ≡ server.row.lost → SameHomes t now
+same_but t now l server after same there there_now others carries left lost = record {
+  was = λ c row at. record { row_there = row; there = sym (same c) ∙ at; sessions = λ h. refl };
+  is = λ c row at. record { row_there = row; there = same c ∙ at; sessions = λ h. refl };
+  link_was = λ k server_now at. was k server_now at (is_link_id k l) refl;
+  link_is = λ k server_was at. is k server_was at (is_link_id k l) refl;
+} where
+  was : (k : LinkId) (server_now : Server) → now.links k ≡ Some server_now → (here : Bool) → is_link_id k l ≡ here → CarriedOf t k server_now
+  was k server_now at true e =
+      let made : after ≡ server_now = same_Some after server_now (sym there_now ∙ ap now.links (sym (link_of k l e)) ∙ at) in
+      record {
+        server_there = server;
+        there = ap t.links (link_of k l e) ∙ there;
+        carries = sym carries ∙ ap (λ (s : Server). name_in s.row.link.state.carries) made;
+        left = sym left ∙ ap (λ (s : Server). s.row.left) made;
+        lost = sym lost ∙ ap (λ (s : Server). s.row.lost) made;
+      }
+  was k server_now at false e = record { server_there = server_now; there = sym (others k e) ∙ at; carries = refl; left = refl; lost = refl }
+
+  is : (k : LinkId) (server_was : Server) → t.links k ≡ Some server_was → (here : Bool) → is_link_id k l ≡ here → CarriedOf now k server_was
+  is k server_was at true e =
+      let made : server ≡ server_was = same_Some server server_was (sym there ∙ ap t.links (sym (link_of k l e)) ∙ at) in
+      record {
+        server_there = after;
+        there = ap now.links (link_of k l e) ∙ there_now;
+        carries = carries ∙ ap (λ (s : Server). name_in s.row.link.state.carries) made;
+        left = left ∙ ap (λ (s : Server). s.row.left) made;
+        lost = lost ∙ ap (λ (s : Server). s.row.lost) made;
+      }
+  is k server_was at false e = record { server_there = server_was; there = others k e ∙ at; carries = refl; left = refl; lost = refl }
+
+no_reset : (step : Step) → is_other step ≡ true → is_resetting step ≡ false
+no_reset Other is = refl
+no_reset (Closes number) is = refl
+no_reset (Resets number) is = absurd (false≢true is)
+
+not_false : (b : Bool) → (b ≡ false → ⊥) → b ≡ true
+not_false true never = refl
+not_false false never = absurd (never refl)
+
+not_true : (b : Bool) → (b ≡ true → ⊥) → b ≡ false
+not_true true never = absurd (never refl)
+not_true false never = refl
+
+module _ (may : MayBegin) (says : Says) (writes_on : WritesOn) (begins_there : BeginsThere) (service : Service) (g : Ground) (t : Tabled) (l : LinkId) (server : Server)
+    (offer : Offer) (count now : ℕ) (stands : Stands service g t) (there : t.links l ≡ Some server) (is : IsServer g t l server.row)
+    (left : left_in server.row.link ≡ Some offer) (some : 0 < count) (within : count ≤ length offer.bytes) where
+  abbrev row : Row
+  row = server.row
+
+  abbrev wire : Wire
+  wire = g.tale.wires l
+
+  abbrev bytes : List ℕ
+  bytes = take count offer.bytes
+
+  abbrev row_now : Row
+  row_now = wrote count now row
+
+  abbrev server_now : Server
+  server_now = server_wrote count now server
+
+  abbrev written : Tabled
+  written = link_changed l (server_wrote count now) t
+
+  abbrev tale_now : Tale
+  tale_now = writes g.setup g.plan l offer.tag bytes wire g.tale
+
+  wrote_row : Wrote row_now row (wrote_on count row.link)
+  wrote_row = wrote_so count now row
+
+  there_now : written.links l ≡ Some server_now
+  there_now = link_here l (server_wrote count now) t ∙ ap (option_map (server_wrote count now)) there
+
+  others_now : (other : LinkId) → is_link_id other l ≡ false → written.links other ≡ t.links other
+  others_now other apart = link_apart l other (server_wrote count now) t (flipped other.0 l.0 apart)
+
+  to_server : is_to_server g.tale l ≡ true
+  to_server = is_servers service g t l server stands there
+
+  -- What began goes on, or the login: nothing is told.
+
+  module _ (none : row.link.next ≡ None) where
+    abbrev wire_on : Wire
+    wire_on = record wire { written = wire.written ++ bytes }
+
+    abbrev still_now : Tale
+    still_now = still g l wire_on
+
+    waits : servers.may_begin g.setup l wire g.tale ≡ false
+    waits = not_true (servers.may_begin g.setup l wire g.tale) (goes_on may service g t l row stands is offer left none)
+
+    tale_is : tale_now ≡ still_now
+    tale_is = ap (λ (b : Bool). if b then law_begins g.setup g.plan l offer.tag bytes wire g.tale else still_now) waits
+
+    row_in_by : (inside : Bool) → wire.entered ≡ inside → (spoilt : Bool) → row.link.spoilt ≡ spoilt → IsRowIn g.setup g.codes g.plan still_now l row_now
+    row_in_by true inside spoilt same_spoilt =
+        subst (λ (tale : Tale). IsRowIn g.setup g.codes g.plan tale l row_now) tale_is
+        (writes_on g.setup g.codes g.plan g.tale l row offer.tag count now is.row offer left within some inside none)
+    row_in_by false outside false fine =
+        subst (λ (tale : Tale). IsRowIn g.setup g.codes g.plan tale l row_now) tale_is
+        (says g.setup g.codes g.plan g.tale l row offer.tag count now is.row offer left within some outside fine)
+    row_in_by false outside true spoilt =
+        subst (λ (w : Wire). IsRow g.setup.reads g.codes (g.plan.logins l) (view_on g) row_now w (link_in g.setup g.tale l)) (sym (put_there g.tale.wires l wire_on))
+        (row_spoilt g.setup.reads g.codes (g.plan.logins l) (view_on g) row row_now wire (link_in g.setup g.tale l) count bytes outside is.row.server
+        (enters_in g.setup.reads g.codes (g.plan.logins l) (view_on g) row wire (link_in g.setup g.tale l) outside is.row) spoilt wrote_row)
+
+    -- the link as it was, but for what is written
+
+    record Going : Type 0 where
+      next : row_now.link.next ≡ None
+      state : row_now.link.state ≡ row.link.state
+      first : row_now.link.first ≡ row.link.first
+      number : row_now.link.number ≡ row.link.number
+      spoilt : row_now.link.spoilt ≡ row.link.spoilt
+      unasked : (asking : Asking) → row.link.state.stage ≡ Answered asking → ⊥
+      dry : (asking : Asking) → row.link.state.stage ≡ Asked asking → row.link.spoilt ≡ false → wire.unread ≡ []
+
+    answered_none : (stage : Stage) (asking : Asking) → stage ≡ Answered asking → left_at stage row.link.writing ≡ Some offer → ⊥
+    answered_none stage asking same at =
+        none-some offer (ap (λ (s : Stage). left_at s row.link.writing) (sym same) ∙ at)
+
+    going_by : (inside : Bool) → wire.entered ≡ inside → Going
+    going_by true inside =
+        let s = serves g t l row is inside in
+        let at_in = ap is_in s.inside in
+        let link = wrote_row.link_is ∙ wrote_next count row.link None at_in none in
+        record {
+          next = ap (λ (k : LentLink). k.next) link;
+          state = ap (λ (k : LentLink). k.state) link;
+          first = ap (λ (k : LentLink). k.first) link;
+          number = ap (λ (k : LentLink). k.number) link;
+          spoilt = ap (λ (k : LentLink). k.spoilt) link;
+          unasked = λ asking same.
+              answered_none row.link.state.stage asking same (left_inside row offer at_in left);
+          dry = λ asking same fine.
+              let unquiet : is_quiet row.link.state.stage ≡ false = ap is_quiet same in
+              let plain = no_reset row.link.step
+              (not_false (is_other row.link.step) (λ other. true≢false (sym (s.stepless other) ∙ unquiet))) in
+              dry_by row.link.reading row.link.step row.link.state.stage (reply_id wire) row.link.first row.link.number wire.unread plain
+              (ap kind_answered same) (s.unread fine);
+        }
+    going_by false outside =
+        let e = enters_in g.setup.reads g.codes (g.plan.logins l) (view_on g) row wire (link_in g.setup g.tale l) outside is.row in
+        let link = wrote_row.link_is ∙ wrote_outside count row.link e.outside in
+        let quiet : row.link.state.stage ≡ Quiet = ap (λ (s : LinkState). s.stage) e.state in
+        record {
+          next = ap (λ (k : LentLink). k.next) link ∙ none;
+          state = ap (λ (k : LentLink). k.state) link;
+          first = ap (λ (k : LentLink). k.first) link;
+          number = ap (λ (k : LentLink). k.number) link;
+          spoilt = ap (λ (k : LentLink). k.spoilt) link;
+          unasked = λ asking same. true≢false (ap is_quiet (sym quiet ∙ same));
+          dry = λ asking same fine. absurd (true≢false (ap is_quiet (sym quiet ∙ same)));
+        }
+
+    going : Going
+    going = going_by wire.entered refl
+
+    replying_for : (p : Purpose) (asking : Asking) → wire.unread ≡ [] → IsReplyingFor p g t l row asking → IsReplyingFor p (on g still_now) written l row_now asking
+    replying_for (purposes.Statement n ordinal key) asking dry was = record {
+      client = was.client;
+      work = was.work;
+      there = was.there;
+      in_work = was.in_work;
+      last = was.last;
+      sent = was.sent;
+      hostgroup = was.hostgroup;
+      plain = was.plain;
+      first = was.first ∙ sym going.first;
+      coming = was.coming
+          ∙ ap (λ (unread : List ℕ). renumbered (started (sought (kind_of asking.form) (reply_id wire) row.link.first row.link.number)) unread) dry
+          ∙ ap (λ (unread : List ℕ). renumbered (started (sought (kind_of asking.form) (reply_id ((still_now).wires l)) row_now.link.first row_now.link.number)) unread)
+          (sym dry ∙ ap (λ (w : Wire). w.unread) (sym (put_there g.tale.wires l wire_on)));
+    }
+    replying_for (purposes.Prep n ordinal key) asking dry was = tt
+    replying_for (purposes.Sync n) asking dry was = tt
+    replying_for purposes.Own asking dry was = tt
+    replying_for (purposes.End n) asking dry was = tt
+    replying_for (purposes.Capture n) asking dry was = tt
+
+    replying_at : (stage : Stage) → row.link.state.stage ≡ stage → row.link.spoilt ≡ false → IsReplyingAt stage g t l row → IsReplyingAt stage (on g still_now) written l row_now
+    replying_at Quiet same fine was = tt
+    replying_at (Asked asking) same fine was = replying_for asking.purpose asking (going.dry asking same fine) was
+    replying_at (Answered asking) same fine was = absurd (going.unasked asking same)
+
+    server_is : IsServer (on g still_now) written l row_now
+    server_is = record {
+      row = row_in_by wire.entered refl row.link.spoilt refl;
+      user = ap (λ (i : Identity). i.user) wrote_row.identity ∙ is.user;
+      found_rows = ap (λ (i : Identity). i.found_rows) wrote_row.identity ∙ is.found_rows;
+      standing = standing_on g (on g still_now) l (λ m at. at) refl (link_in g.setup g.tale l).stage is.standing;
+      next = subst (λ (next : Option Begins). IsNextOf next (on g still_now) written row_now (link_in g.setup still_now l)) (sym going.next) tt;
+      lent = subst (λ (state : LinkState). is_lent state.carries ≡ true → is_stating state.stage ≡ true) (sym going.state) is.lent;
+      parted = λ sound kept left_some.
+          subst (λ (state : LinkState). IsPartedAt state.stage (on g still_now)) (sym going.state)
+          (parted_on g t written l still_now (onward_still g l wire_on) (same_reads t written (λ c. refl)) row.link.state.stage
+          (is.parted (sym going.spoilt ∙ sound) (sym wrote_row.lost ∙ kept) (ap (λ (x : Option LeftSession). is_some x) (sym wrote_row.left) ∙ left_some)));
+      replying = λ sound kept mine.
+          subst (λ (state : LinkState). IsReplyingAt state.stage (on g still_now) written l row_now) (sym going.state)
+          (replying_at row.link.state.stage refl (sym going.spoilt ∙ sound)
+          (is.replying (sym going.spoilt ∙ sound) (sym wrote_row.lost ∙ kept) (sym wrote_row.left ∙ mine)));
+    }
+
+    stands_still : Stands service (on g still_now) written
+    stands_still = record {
+      service_is = stands.service_is;
+      room_is = stands.room_is;
+      clients = clients_still g l wire_on t written (λ c. refl) (λ k. refl) stands.clients;
+      servers = servers_made g (on g still_now) t written l server_now there_now
+          (by_to_server (is_to_server still_now l) (on g still_now) written l server_now to_server server_is)
+          (λ other apart.
+          subst (λ (x : Option Server). IsServerOr (on g still_now) written other x) (sym (others_now other apart))
+          (server_on g t written l still_now (onward_still g l wire_on) (same_reads t written (λ c. refl)) other apart (t.links other) (stands.servers other)));
+      homes = homes_on g (on g still_now) t written
+          (same_but t written l server server_now (λ c. refl) there there_now others_now (ap (λ (s : LinkState). name_in s.carries) going.state)
+          wrote_row.left wrote_row.lost) stands.homes;
+      lawful = stands.lawful;
+    }
+
+    pub goes : Stands service (on g tale_now) (wrote_by (Some server) l count now t)
+    goes =
+        subst (λ (kind : Kind). Stands service (on g tale_now) (begun_for (began kind) l (lasts row.link.next) written)) (sym (kind_none row.link none))
+        (subst (λ (tale : Tale). Stands service (on g tale) written) (sym tale_is) stands_still)
+
+  -- Something begins.
+
+  module _ (next : Begins) (same_next : row.link.next ≡ Some next) where
+    inside : wire.entered ≡ true
+    inside = entered g t l row is next same_next
+
+    at_in : is_in row.link.login.stage ≡ true
+    at_in = ap is_in (serves g t l row is inside).inside
+
+    starts : servers.may_begin g.setup l wire g.tale ≡ true
+    starts =
+        may g.setup g.codes g.plan g.tale l row is.row inside
+        ∙ and_from (is_in row.link.login.stage) _ at_in
+        (and_from (is_quiet row.link.state.stage) _ (over g t l row is next same_next).quiet
+        (and_from (is_some row.link.next || is_whole_or_none row.link.writing) _ (ap (λ (n : Option Begins). is_some n || is_whole_or_none row.link.writing) same_next)
+        (ap not (over g t l row is next same_next).answered)))
+
+    abbrev wire_begun : Wire
+    wire_begun = record wire {
+      written = bytes;
+      step = step_for offer.tag (planned_on g l);
+      begun = suc wire.begun;
+      quits = wire.quits || quits_for offer.tag (planned_on g l);
+    }
+
+    begins_so : (es : List Happening) → told_for g l offer.tag ≡ es → tale_now ≡ tell_all es (still g l wire_begun)
+    begins_so es happens =
+        ap (λ (b : Bool). if b then law_begins g.setup g.plan l offer.tag bytes wire g.tale else with_wire l (record wire { written = wire.written ++ bytes }) g.tale) starts
+        ∙ ap (λ (all : List Happening). tell_all all (still g l wire_begun)) happens
+
+    unread_now : wire.unread ≡ [] → ((still g l wire_begun).wires l).unread ≡ []
+    unread_now none = ap (λ (w : Wire). w.unread) (put_there g.tale.wires l wire_begun) ∙ none
+
+  -- The QUIT begins.
+
+  module _ (same_next : row.link.next ≡ Some begins.Quits) (planned : planned_on g l ≡ Asks Quit) where
+    abbrev still_quit : Tale
+    still_quit = still g l (wire_begun begins.Quits same_next)
+
+    tag_is : offer.tag ≡ tags.Own
+    tag_is = quit_tag may service g t l row stands is offer same_next left
+
+    told_none : told_for g l offer.tag ≡ []
+    told_none = ap (told_for g l) tag_is ∙ quits_told may service g t l row stands is planned
+
+    tale_quit : tale_now ≡ still_quit
+    tale_quit = begins_so begins.Quits same_next [] told_none
+
+    next_is : IsNextOf (Some begins.Quits) g t row (link_in g.setup g.tale l)
+    next_is = subst (λ (n : Option Begins). IsNextOf n g t row (link_in g.setup g.tale l)) same_next is.next
+
+    quit_begins : IsBeginning begins.Quits g.setup.reads g.codes (view_on g) l row (link_in g.setup g.tale l) (told_for g l offer.tag)
+        (step_for offer.tag (planned_on g l)) (quits_for offer.tag (planned_on g l))
+    quit_begins = (
+      told_none,
+      subst (λ (tag : Tag). IsNoStep (step_for tag (planned_on g l))) (sym tag_is) (subst (λ (step : StepText). IsNoStep (Some step)) (sym planned) tt),
+      next_is.1,
+      ap (λ (tag : Tag). quits_for tag (planned_on g l)) tag_is ∙ ap (λ (step : StepText). quits_for tags.Own step) planned,
+    )
+
+    link_quit : row_now.link ≡ link_begun begins.Quits (record row.link { next = None; writing = option_map (link_writes.wrote count) row.link.writing })
+    link_quit = wrote_row.link_is ∙ wrote_next count row.link (Some begins.Quits) (at_in begins.Quits same_next) same_next
+
+    stage_quit : row_now.link.state.stage ≡ Quiet
+    stage_quit = ap (λ (k : LentLink). k.state.stage) link_quit ∙ quiet g t l row is begins.Quits same_next
+
+    server_quit : IsServer (on g still_quit) written l row_now
+    server_quit = record {
+      row = subst (λ (tale : Tale). IsRowIn g.setup g.codes g.plan tale l row_now) tale_quit
+          (begins_there g.setup g.codes g.plan g.tale l row offer.tag count now is.row offer left within some (inside begins.Quits same_next) begins.Quits same_next quit_begins);
+      user = ap (λ (i : Identity). i.user) wrote_row.identity ∙ is.user;
+      found_rows = ap (λ (i : Identity). i.found_rows) wrote_row.identity ∙ is.found_rows;
+      standing = standing_on g (on g still_quit) l (λ m at. at) refl (link_in g.setup g.tale l).stage is.standing;
+      next = subst (λ (n : Option Begins). IsNextOf n (on g still_quit) written row_now (link_in g.setup still_quit l)) (sym (ap (λ (k : LentLink). k.next) link_quit)) tt;
+      lent = subst (λ (k : LentLink). is_lent k.state.carries ≡ true → is_stating k.state.stage ≡ true) (sym link_quit) is.lent;
+      parted = λ sound kept left_some. subst (λ (stage : Stage). IsPartedAt stage (on g still_quit)) (sym stage_quit) tt;
+      replying = λ sound kept mine. subst (λ (stage : Stage). IsReplyingAt stage (on g still_quit) written l row_now) (sym stage_quit) tt;
+    }
+
+    stands_quit : Stands service (on g still_quit) written
+    stands_quit = record {
+      service_is = stands.service_is;
+      room_is = stands.room_is;
+      clients = clients_still g l (wire_begun begins.Quits same_next) t written (λ c. refl) (λ k. refl) stands.clients;
+      servers = servers_made g (on g still_quit) t written l server_now there_now
+          (by_to_server (is_to_server still_quit l) (on g still_quit) written l server_now to_server server_quit)
+          (λ other apart.
+          subst (λ (x : Option Server). IsServerOr (on g still_quit) written other x) (sym (others_now other apart))
+          (server_on g t written l still_quit (onward_still g l (wire_begun begins.Quits same_next)) (same_reads t written (λ c. refl)) other apart (t.links other) (stands.servers other)));
+      homes = homes_on g (on g still_quit) t written
+          (same_but t written l server server_now (λ c. refl) there there_now others_now (ap (λ (k : LentLink). name_in k.state.carries) link_quit)
+          wrote_row.left wrote_row.lost) stands.homes;
+      lawful = stands.lawful;
+    }
+
+    pub quits : Stands service (on g tale_now) (wrote_by (Some server) l count now t)
+    quits =
+        subst (λ (kind : Kind). Stands service (on g tale_now) (begun_for (began kind) l (lasts row.link.next) written))
+        (sym (kind_next row.link (Some begins.Quits) (at_in begins.Quits same_next) same_next))
+        (subst (λ (tale : Tale). Stands service (on g tale) written) (sym tale_quit) stands_quit)
+
+  -- A question begins.
+
+  module _ (asking : Asking) (same_next : row.link.next ≡ Some (begins.Asks asking)) (for : BegunFor may service g t l row stands is asking offer.tag) where
+    abbrev begun : Begun g t l row asking offer.tag
+    begun = for.begun
+
+    abbrev wire_asked : Wire
+    wire_asked = wire_begun (begins.Asks asking) same_next
+
+    tale_asked : tale_now ≡ sent g l wire_asked begun.question
+    tale_asked = begins_so (begins.Asks asking) same_next (Sent l begun.question ∷ []) begun.happens
+
+    row_asked : IsRowIn g.setup g.codes g.plan tale_now l row_now
+    row_asked =
+        begins_there g.setup g.codes g.plan g.tale l row offer.tag count now is.row offer left within some (inside (begins.Asks asking) same_next) (begins.Asks asking) same_next
+        (begun.question, begun.happens, begun.asked, begun.stays, for.fine)
+
+    link_asked : row_now.link ≡ link_begun (begins.Asks asking) (record row.link { next = None; writing = option_map (link_writes.wrote count) row.link.writing })
+    link_asked = wrote_row.link_is ∙ wrote_next count row.link (Some (begins.Asks asking)) (at_in (begins.Asks asking) same_next) same_next
+
+    lawful_asked : IsLawful g.setup (Sent l begun.question ∷ g.tale.story)
+    lawful_asked =
+        tells_so g.setup (Sent l begun.question ∷ []) g.tale.story (tt, begun.of_view) (may_send may service g t l row stands is asking offer.tag same_next for) stands.lawful
+
+    kind_asked : (tables : Option Purpose → Bool → Tabled) → (P : Tabled → Type 0) → P (tables (Some asking.purpose) (lasts (Some (begins.Asks asking))))
+        → P (tables (purpose_next row) (lasts row.link.next))
+    kind_asked tables P here =
+        subst (λ (kind : Kind). P (tables (began kind) (lasts row.link.next)))
+        (sym (kind_next row.link (Some (begins.Asks asking)) (at_in (begins.Asks asking) same_next) same_next))
+        (subst (λ (n : Option Begins). P (tables (Some asking.purpose) (lasts n))) (sym same_next) here)
+
+    -- the link's row, where what stands there is said, and what comes of its reply
+    server_asked : (q : Question) → begun.question ≡ q → (tables : Tabled) → OfStatement q (IsStanding (on g (sent g l wire_asked q)) l)
+        → (is_lent (lent_for asking.purpose row.link.state.carries) ≡ true → is_stating (Asked asking) ≡ true)
+        → (is_some row.left ≡ true → IsPartedFor asking.purpose (on g (sent g l wire_asked q))) → IsReplyingFor asking.purpose (on g (sent g l wire_asked q)) tables l row_now asking → IsServer (on g (sent g l wire_asked q)) tables l row_now
+    server_asked q same_q tables standing lent parted replying = record {
+      row = subst (λ (tale : Tale). IsRowIn g.setup g.codes g.plan tale l row_now) (tale_asked ∙ ap (sent g l wire_asked) same_q) row_asked;
+      user = ap (λ (i : Identity). i.user) wrote_row.identity ∙ is.user;
+      found_rows = ap (λ (i : Identity). i.found_rows) wrote_row.identity ∙ is.found_rows;
+      standing = subst (λ (link : Link). IsStandingAt link.stage (on g (sent g l wire_asked q)) l) (sym (put_there (view_on g).links l (asked_there q ((view_on g).links l)))) standing;
+      next = subst (λ (n : Option Begins). IsNextOf n (on g (sent g l wire_asked q)) tables row_now (link_in g.setup (sent g l wire_asked q) l))
+          (sym (ap (λ (k : LentLink). k.next) link_asked)) tt;
+      lent = λ carried.
+          ap (λ (k : LentLink). is_stating k.state.stage) link_asked ∙ lent (sym (ap (λ (k : LentLink). is_lent k.state.carries) link_asked) ∙ carried);
+      parted = λ sound kept left_some.
+          subst (λ (stage : Stage). IsPartedAt stage (on g (sent g l wire_asked q))) (sym (ap (λ (k : LentLink). k.state.stage) link_asked))
+          (parted (ap (λ (x : Option LeftSession). is_some x) (sym wrote_row.left) ∙ left_some));
+      replying = λ sound kept mine.
+          subst (λ (stage : Stage). IsReplyingAt stage (on g (sent g l wire_asked q)) tables l row_now) (sym (ap (λ (k : LentLink). k.state.stage) link_asked)) replying;
+    }
+
+    lawful_as : (q : Question) → begun.question ≡ q → IsLawful g.setup (Sent l q ∷ g.tale.story)
+    lawful_as q same_q = subst (λ (x : Question). IsLawful g.setup (Sent l x ∷ g.tale.story)) same_q lawful_asked
+
+    -- a step
+
+    step_stands : (q : Question) → IsStep q → OfStatement q (IsStanding (on g (sent g l wire_asked q)) l)
+    step_stands (story.Statement n due) step = absurd step
+    step_stands (story.Prep n key text) step = absurd step
+    step_stands (story.Sync n command) step = tt
+    step_stands (story.Own command) step = tt
+    step_stands (story.End n) step = tt
+    step_stands (story.Capture n) step = tt
+
+    steps : IsStep begun.question → name_in (lent_for asking.purpose row.link.state.carries) ≡ name_in row.link.state.carries
+        → is_lent (lent_for asking.purpose row.link.state.carries) ≡ is_lent row.link.state.carries → IsPartedFor asking.purpose (on g (sent g l wire_asked begun.question))
+        → IsReplyingFor asking.purpose (on g (sent g l wire_asked begun.question)) written l row_now asking → Stands service (on g tale_now) written
+    steps step same_name_in same_lent parted replying =
+        let q = begun.question in
+        let never_lent : is_lent (lent_for asking.purpose row.link.state.carries) ≡ true → is_stating (Asked asking) ≡ true = λ (lent : is_lent (lent_for asking.purpose row.link.state.carries) ≡ true).
+        absurd (false≢true (sym (ap is_stating (quiet g t l row is (begins.Asks asking) same_next)) ∙ is.lent (sym same_lent ∙ lent))) in
+        let tale = sent g l wire_asked q in
+        subst (λ (x : Tale). Stands service (on g x) written) (sym tale_asked) (record {
+          service_is = stands.service_is;
+          room_is = stands.room_is;
+          clients = clients_step g l wire_asked q step t written (λ c. refl) (λ k. refl) stands.clients;
+          servers = servers_made g (on g tale) t written l server_now there_now
+              (by_to_server (is_to_server tale l) (on g tale) written l server_now to_server (server_asked q refl written (step_stands q step) never_lent (λ left_some. parted) replying))
+              (λ other apart.
+              subst (λ (x : Option Server). IsServerOr (on g tale) written other x) (sym (others_now other apart))
+              (server_on g t written l tale (onward_step g l wire_asked q step) (same_reads t written (λ c. refl)) other apart (t.links other) (stands.servers other)));
+          homes = homes_on g (on g tale) t written
+              (same_but t written l server server_now (λ c. refl) there there_now others_now (ap (λ (k : LentLink). name_in k.state.carries) link_asked ∙ same_name_in)
+              wrote_row.left wrote_row.lost) stands.homes;
+          lawful = lawful_asked;
+        })
+
+    -- a client's statement
+
+    module _ (others : OthersStay) (coming : ComingStays) (sends_so : SentStands) (outlasts_so : OutlastsAsSaid) (name : SessionName) (ordinal key : ℕ)
+        (purpose : asking.purpose ≡ purposes.Statement name ordinal key) (so : IsStated g t row name ordinal begun.question) where
+      abbrev due : Due
+      due = so.at.unsent.due
+
+      abbrev client : Client
+      client = so.client
+
+      abbrev lasting : Bool
+      lasting = outlasts asking.form
+
+      abbrev statement : Question
+      statement = story.Statement name due
+
+      abbrev tale_sent : Tale
+      tale_sent = sent g l wire_asked statement
+
+      abbrev goes_out : Client → Client
+      goes_out = client_sent name.hostgroup l lasting
+
+      abbrev tables : Tabled
+      tables = client_changed name.client goes_out written
+
+      of_group : so.work.hostgroup ≡ name.hostgroup
+      of_group = ap (λ (m : SessionName). m.hostgroup) (sym so.at.names)
+
+      names : name ≡ desks.name_of client.desk name.hostgroup
+      names = so.at.names ∙ ap (desks.name_of client.desk) of_group
+
+      is_form : IsForm g.setup.reads asking.form due.command
+      is_form = subst (λ (q : Question). IsForm g.setup.reads asking.form (command_of q)) so.is begun.asked.said.asks.form
+
+      lasts_so : lasting ≡ (class_of g.setup.reads due.command).outlasts_reset
+      lasts_so = outlasts_so g.setup.reads asking.form due.command is_form
+
+      due_here : (view_on g).dues name ≡ Some due
+      due_here = due_is g client name ordinal so.work so.at
+
+      life : name.life ≡ (view_on g).lives name.client name.hostgroup
+      life = life_is g client name ordinal so.work so.at
+
+      not_sent : (view_on g).carriers (message_of name due) ≡ None
+      not_sent = unsent_there g client name ordinal so.work so.at
+
+      none_unread : wire.unread ≡ []
+      none_unread = unread g t l row is (begins.Asks asking) same_next for.fine
+
+      next_statement : IsNextStatement g t row (link_in g.setup g.tale l) asking name ordinal
+      next_statement =
+          subst (λ (p : Purpose). IsNextFor p g t row (link_in g.setup g.tale l) asking) purpose
+          (subst (λ (n : Option Begins). IsNextOf n g t row (link_in g.setup g.tale l)) same_next is.next).1
+
+      left_none : row.left ≡ None
+      left_none = subst (λ (q : Question). OfStatement q (λ n due. row.left ≡ None)) so.is begun.asked.present
+
+      reads_on : Reads t tables
+      reads_on =
+          let reads = reads_sent written name.client client so.work so.there so.in_work so.unsent name.hostgroup l lasting in
+          record {
+            firsts = λ c r w at in_now.
+                let older = reads.firsts c r w at in_now in
+                record { row_was = older.row_was; there = older.there; work_was = older.work_was; in_work = older.in_work; ordinal = older.ordinal; first = older.first };
+            kept = λ c r w was in_was sent_was. reads.kept c r w was in_was sent_was;
+          }
+
+      made : (c : ClientNo) → tables.clients c ≡ (client_changed name.client goes_out t).clients c
+      made c = refl
+
+      due_ordinal_is : due.ordinal ≡ so.work.ordinal
+      due_ordinal_is = so.at.unsent.as_due.request.ordinal_is
+
+      clients_on : AreClients (on g tale_sent) tables
+      clients_on =
+          clients_sent g t tables l wire_asked name due client so.work lasting others coming sends_so so.there so.in_work so.unsent names of_group due_here
+          due_ordinal_is lasts_so made (λ k. refl) stands.clients
+
+      now_here : tables.clients name.client ≡ Some (goes_out client)
+      now_here =
+          now_there g t tables l wire_asked name due client so.work lasting others coming sends_so so.there so.in_work so.unsent names of_group due_here
+          due_ordinal_is lasts_so made (λ k. refl)
+
+      standing_now : IsStanding (on g tale_sent) l name due
+      standing_now = record {
+        carrier = ap (λ (b : Bool). if b then Some l else (view_on g).carriers (message_of name due)) (same_message (message_of name due));
+        unanswered = unanswered_there g client name ordinal so.work so.at;
+      }
+
+      replying_now : IsReplying (on g tale_sent) tables l row_now asking name ordinal
+      replying_now = record {
+        client = goes_out client;
+        work = gone_out so.work;
+        there = now_here;
+        in_work = ap (option_map gone_out) so.in_work;
+        last = so.at.ordinal_is;
+        sent = refl;
+        hostgroup = of_group;
+        plain = next_statement.plain;
+        first = next_statement.first client so.work so.there so.in_work so.at.ordinal_is ∙ sym (ap (λ (k : LentLink). k.first) link_asked);
+        coming = so.at.dry
+            ∙ ap (λ (unread : List ℕ). renumbered (started (sought (kind_of asking.form) (reply_id (tale_sent.wires l)) row_now.link.first row_now.link.number)) unread)
+            (sym (unread_now (begins.Asks asking) same_next none_unread));
+      }
+
+      server_on_sent : IsServer (on g tale_sent) tables l row_now
+      server_on_sent =
+          server_asked statement so.is tables standing_now (λ lent. ap (λ (p : Purpose). is_stating (Asked (record asking { purpose = p }))) purpose) (λ left_some. absurd (false≢true (sym (ap (λ (x : Option LeftSession). is_some x) left_none) ∙ left_some)))
+          (subst (λ (p : Purpose). IsReplyingFor p (on g tale_sent) tables l row_now asking) (sym purpose) replying_now)
+
+      carries_now : name_in row_now.link.state.carries ≡ name_in (lends_by name row.link.state.carries)
+      carries_now =
+          ap (λ (k : LentLink). name_in k.state.carries) link_asked
+          ∙ ap (λ (p : Purpose). name_in (lent_for p row.link.state.carries)) purpose
+
+      at_home : ((session_of client.desk name.hostgroup).home ≡ None) ⊎ (name_in row.link.state.carries ≡ Some name)
+      at_home = subst (λ (h : Hostgroup). ((session_of client.desk h).home ≡ None) ⊎ (name_in row.link.state.carries ≡ Some name)) of_group so.home
+
+      homes_desk : SentDesk client.desk (goes_out client).desk name.hostgroup l
+      homes_desk =
+          sent_desk g.setup (view_on g) so.at.client.number client.desk (goes_out client).desk l name due so.at.desk
+          (sends_so g.setup (view_on g) so.at.client.number client.desk so.at.desk l name.hostgroup name due lasting so.work names lasts_so so.in_work of_group so.unsent due_here)
+          names
+
+      homes_now : AreHomes (on g tale_sent) tables
+      homes_now =
+          homes_sent g t tables l wire_asked name due client so.work lasting others coming sends_so so.there so.in_work so.unsent names of_group due_here
+          due_ordinal_is lasts_so made (λ k. refl) (on g tale_sent) server server_now homes_desk there there_now others_now carries_now so.carries
+          wrote_row.left wrote_row.lost left_none for.lost at_home stands.homes
+
+      statement_stands : Stands service (on g tale_now) tables
+      statement_stands =
+          subst (λ (x : Tale). Stands service (on g x) tables) (sym (tale_asked ∙ ap (sent g l wire_asked) so.is)) (record {
+            service_is = stands.service_is;
+            room_is = stands.room_is;
+            clients = clients_on;
+            servers = servers_made g (on g tale_sent) t tables l server_now there_now
+                (by_to_server (is_to_server tale_sent l) (on g tale_sent) tables l server_now to_server server_on_sent)
+                (λ other apart.
+                subst (λ (x : Option Server). IsServerOr (on g tale_sent) tables other x) (sym (others_now other apart))
+                (server_on g t tables l tale_sent (onward_statement g l wire_asked name due life not_sent) reads_on other apart (t.links other) (stands.servers other)));
+            homes = homes_now;
+            lawful = lawful_as statement so.is;
+          })
+
+    module _ (others : OthersStay) (coming : ComingStays) (sends_so : SentStands) (outlasts_so : OutlastsAsSaid) where
+      asked_by : (p : Purpose) → asking.purpose ≡ p → OfPurpose p g t row begun.question
+          → Stands service (on g tale_now) (begun_for (Some p) l (lasts (Some (begins.Asks asking))) written)
+      asked_by (purposes.Statement name ordinal key) same so = statement_stands others coming sends_so outlasts_so name ordinal key same so
+      asked_by (purposes.Prep name ordinal key) same step =
+          absurd (subst (λ (p : Purpose). IsNextFor p g t row (link_in g.setup g.tale l) asking) same
+          (subst (λ (n : Option Begins). IsNextOf n g t row (link_in g.setup g.tale l)) same_next is.next).1)
+      asked_by (purposes.Sync name) same step =
+          steps step (ap (λ (p : Purpose). name_in (lent_for p row.link.state.carries)) same)
+          (ap (λ (p : Purpose). is_lent (lent_for p row.link.state.carries)) same)
+          (subst (λ (p : Purpose). IsPartedFor p (on g (sent g l wire_asked begun.question))) (sym same) tt)
+          (subst (λ (p : Purpose). IsReplyingFor p (on g (sent g l wire_asked begun.question)) written l row_now asking) (sym same) tt)
+      asked_by purposes.Own same step =
+          steps step (ap (λ (p : Purpose). name_in (lent_for p row.link.state.carries)) same)
+          (ap (λ (p : Purpose). is_lent (lent_for p row.link.state.carries)) same)
+          (subst (λ (p : Purpose). IsPartedFor p (on g (sent g l wire_asked begun.question))) (sym same) tt)
+          (subst (λ (p : Purpose). IsReplyingFor p (on g (sent g l wire_asked begun.question)) written l row_now asking) (sym same) tt)
+      asked_by (purposes.End name) same step =
+          steps step (ap (λ (p : Purpose). name_in (lent_for p row.link.state.carries)) same)
+          (ap (λ (p : Purpose). is_lent (lent_for p row.link.state.carries)) same)
+          (subst (λ (p : Purpose). IsPartedFor p (on g (sent g l wire_asked begun.question))) (sym same) tt)
+          (subst (λ (p : Purpose). IsReplyingFor p (on g (sent g l wire_asked begun.question)) written l row_now asking) (sym same) tt)
+      asked_by (purposes.Capture name) same step =
+          steps step (ap (λ (p : Purpose). name_in (lent_for p row.link.state.carries)) same)
+          (ap (λ (p : Purpose). is_lent (lent_for p row.link.state.carries)) same)
+          (subst (λ (p : Purpose). IsPartedFor p (on g (sent g l wire_asked begun.question))) (sym same) tt)
+          (subst (λ (p : Purpose). IsReplyingFor p (on g (sent g l wire_asked begun.question)) written l row_now asking) (sym same) tt)
+
+      pub asks : Stands service (on g tale_now) (wrote_by (Some server) l count now t)
+      asks =
+          kind_asked (λ purpose last. begun_for purpose l last written) (λ (x : Tabled). Stands service (on g tale_now) x)
+          (asked_by asking.purpose refl begun.for)
+
+-- By what stands next.
+
+module _ (may : MayBegin) (says : Says) (writes_on : WritesOn) (begins_there : BeginsThere) (others : OthersStay) (coming : ComingStays) (sends_so : SentStands)
+    (outlasts_so : OutlastsAsSaid) (service : Service) (g : Ground) (t : Tabled) (l : LinkId) (server : Server)
+    (offer : Offer) (count now : ℕ) (stands : Stands service g t) (there : t.links l ≡ Some server) (is : IsServer g t l server.row)
+    (some : 0 < count) (within : count ≤ length offer.bytes) where
+  written_by : (next : Option Begins) → server.row.link.next ≡ next → passes_next next server.row t ≡ true → left_in server.row.link ≡ Some offer
+      → IsPlanned next g l server.row
+      → Stands service (on g (writes g.setup g.plan l offer.tag (take count offer.bytes) (g.tale.wires l) g.tale)) (wrote_by (Some server) l count now t)
+  written_by None same passes left planned =
+      goes may says writes_on begins_there service g t l server offer count now stands there is left some within same
+  written_by (Some (begins.Asks asking)) same passes left planned =
+      asks may says writes_on begins_there service g t l server offer count now stands there is left some within asking same
+      (begun_so may service g t l server.row stands is asking offer same passes left planned) others coming sends_so outlasts_so
+  written_by (Some (begins.Closes number)) same passes left planned = absurd (false≢true passes)
+  written_by (Some (begins.Resets number)) same passes left planned = absurd (false≢true passes)
+  written_by (Some begins.Quits) same passes left planned =
+      quits may says writes_on begins_there service g t l server offer count now stands there is left some within same planned
+
+  pub written_so : IsLent t server.row offer → IsPlanned server.row.link.next g l server.row
+      → Stands service (on g (told g.setup g.plan g.tale (WroteBytes l offer.tag (take count offer.bytes)))) (wrote_on_tables l count now t)
+  written_so lent planned =
+      let tale = writes g.setup g.plan l offer.tag (take count offer.bytes) (g.tale.wires l) g.tale in
+      let aside = record g.tale { clients = map (client_gets l (length (take count offer.bytes))) g.tale.clients } in
+      subst (λ (b : Bool). Stands service (on g (if b then tale else aside)) (wrote_on_tables l count now t)) (sym (is_servers service g t l server stands there))
+      (subst (λ (s : Option Server). Stands service (on g tale) (wrote_by s l count now t)) (sym there)
+      (written_by server.row.link.next refl lent.passes lent.left planned))

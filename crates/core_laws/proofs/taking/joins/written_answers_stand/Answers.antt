@@ -1,0 +1,6 @@
+use Rattle.core_laws.proofs.taking.joins.written_answers_stand.Goals as goal
+
+pub returns : goal.returns
+returns c = λ service g t other client row stands is flag payloads before packets unrouted own none written plain taken.
+    c.own_answers_stand.ensures service g t other client row stands is flag payloads packets taken.statements unrouted own
+    (c.own_answers_are_spelt.ensures row before packets payloads none written) plain taken.same

@@ -1,0 +1,7 @@
+pub mod Turns
+pub mod Chosen
+pub mod Speaks
+pub mod Follows
+pub mod Going
+pub mod Following
+pub mod Keeps

@@ -1,0 +1,5 @@
+pub mod Alike
+pub mod Growing
+pub mod Past
+pub mod Who
+pub mod Apart

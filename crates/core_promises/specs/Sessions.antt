@@ -1,0 +1,32 @@
+-- What the router promises of its clients' sessions: no client sees another's.
+use Rattle.std.specs.Prelude.{ℕ, List}
+use Rattle.mx_config.specs.declared.config.Config.{Config}
+use Rattle.mx_wire.specs.Log.{Log}
+use Rattle.mx_wire.specs.Moments.{AllLawful, AtEachMoment}
+use Rattle.mx_wire.specs.Tells.{Fits}
+use Rattle.private_model.specs.Names.{ServerId}
+use Rattle.router_promises.specs.Due.{DueSo}
+use Rattle.router_promises.specs.Headline.{IsLawfulSo, SaysSo}
+use Rattle.router_promises.specs.Router.{IsConfiguredBy, Router}
+use Rattle.router_promises.specs.Terms.{AreWhoTheySay, Decided, IsRouters, Terms}
+
+-- The log is one of a wire. Of each moment: clients are who they say, and begin where they say; each question's bytes are a front of its
+-- spelling; the story is lawful, so that no session is lent that another's is in; and each client's bytes are a front of what it is due.
+pub record KeepsApart (terms : Terms) (log : Log) : Type 0 where
+  pub router : IsRouters terms
+  pub fits : AllLawful Fits log
+  pub who : AtEachMoment (AreWhoTheySay terms) log
+  pub said : AtEachMoment (SaysSo terms) log
+  pub lawful : AtEachMoment (IsLawfulSo terms) log
+  pub due : AtEachMoment (DueSo terms) log
+
+-- All by one decision for the whole log, whatever servers have stored.
+pub record Separates (router : Router) (log : Log) : Type 0 where
+  pub decided : Decided
+  pub keeps : (stored : (server : ServerId) → List ℕ) → KeepsApart (record { router = router; decided = decided; stored = stored }) log
+
+-- and the router is the one of the configuration
+pub record ServesApart (config : Config) (log : Log) : Type 0 where
+  pub router : Router
+  pub configured : IsConfiguredBy config router
+  pub separates : Separates router log

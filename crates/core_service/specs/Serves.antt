@@ -1,0 +1,38 @@
+-- What a configuration has the core serve by.
+use Rattle.std.specs.Prelude.{◌≡◌, All, List, None, map}
+use Rattle.client_session.specs.Setups.{Setup, User}
+use Rattle.core_service.specs.declared.service.Service.{Service}
+use Rattle.handshake.specs.Spelling.{IsText}
+use Rattle.mx_config.specs.declared.config.Config.{Config}
+use Rattle.mx_config.specs.declared.config.UserRow.{UserRow}
+use Rattle.query_rules.specs.Building.{IsCompiled, IsInOrder}
+use Rattle.query_rules.specs.Passing.{rows_of, rules_of}
+
+-- who may log in
+
+abbrev pub user_of : UserRow → User
+user_of row = record { name = row.name; password = row.password }
+
+abbrev pub users_of : List UserRow → List User
+users_of rows = map user_of rows
+
+-- no name has a NUL
+abbrev pub AreTexts : List UserRow → Type 0
+AreTexts rows = All (λ (row : UserRow). IsText row.name) rows
+
+abbrev pub setup_of : Config → Setup
+setup_of config = record {
+  version = config.proxy.server_version;
+  users = users_of config.users;
+  limit = config.proxy.max_packet;
+  max_clients = config.proxy.max_clients;
+  target = None;
+}
+
+pub record ServesBy (config : Config) (service : Service) : Type 0 where
+  pub listen : service.listen ≡ config.proxy.listen
+  pub admin_listen : service.admin_listen ≡ config.proxy.admin_listen
+  pub setup : service.setup ≡ setup_of config
+  pub default_schema : service.default_schema ≡ config.proxy.default_schema
+  pub rules : IsInOrder config.rules (rows_of service.rules)
+  pub patterns : All IsCompiled (rules_of service.rules)

@@ -1,0 +1,174 @@
+// What the core serves by.
+ghost use Rattle.std.specs.Prelude.{◌≡◌, ◌≤◌, All, IfOk, length};
+ghost use Rattle.client_session.specs.Setups.{most_message};
+ghost use Rattle.core_service.specs.Serves.{AreTexts, ServesBy, setup_of, user_of, users_of};
+ghost use Rattle.handshake.specs.Spelling.{IsText};
+ghost use Rattle.mx_config.specs.Lawful.{IsLawful};
+ghost use Rattle.query_rules.specs.Building.{IsCompiled, IsInOrder};
+ghost use Rattle.query_rules.specs.Passing.{rows_of, rules_of};
+
+use client_session::{Setup, User};
+use hostgroups::ServerRow;
+use mx_base::{Address, Bytes, Hostgroup, OutOfMemory};
+use mx_config::{Config, UserRow};
+use query_rules::{RuleFault, Rules};
+use std::alloc::Global;
+use std::collections::HashMap;
+
+/// A user's own hostgroup and password.
+#[derive(Drop)]
+pub struct UserAt {
+    pub home: Hostgroup,
+    pub password: Bytes,
+}
+
+/// What the core serves by, which nothing changes: where it listens, how clients log in, who may, the rules, and its limits.
+#[derive(Drop)]
+pub struct Service {
+    pub listen: Address,
+    pub admin_listen: Address,
+    pub setup: Setup,
+    pub users: HashMap<Bytes, UserAt>,
+    pub rules: Rules,
+    /// The schema of a client that names none.
+    pub default_schema: Bytes,
+    /// The place of each hostgroup by its first row in the table of servers, by its number.
+    pub ranks: Vec<Option<u32>>,
+    pub wait_ms: u64,
+    pub idle_ms: u64,
+    pub buffer_budget: u64,
+}
+
+fn user_of(alloc: Global, row: &UserRow) -> Result<User, OutOfMemory>
+    requires { IsText row.now.name }
+    ensures { IfOk result (λ user. user ≡ user_of row.now) }
+{
+    let name = Bytes::from_slice(alloc, row.name.as_slice())?;
+    let password = Bytes::from_slice(alloc, row.password.as_slice())?;
+    Ok(User::new(name, password))
+}
+
+// Who may log in.
+fn users_of(alloc: Global, rows: &[UserRow]) -> Result<Vec<User>, OutOfMemory>
+    requires { AreTexts rows.now }
+    ensures { IfOk result (λ users. users.items ≡ users_of rows.now) }
+{
+    let mut users = Vec::new(alloc);
+    for row in rows {
+        users.push(user_of(alloc, row)?)?;
+    }
+    Ok(users)
+}
+
+// How clients log in.
+fn setup_of(alloc: Global, config: &Config) -> Result<Setup, OutOfMemory>
+    requires version { IsText config.now.proxy.server_version }
+    requires short { length config.now.proxy.server_version ≤ 255 }
+    requires limit { config.now.proxy.max_packet ≤ most_message }
+    requires names { AreTexts config.now.users }
+    ensures { IfOk result (λ setup. setup ≡ setup_of config.now) }
+{
+    let version = Bytes::from_slice(alloc, config.proxy.server_version.as_slice())?;
+    let users = users_of(alloc, config.users.as_slice())?;
+    Ok(Setup::new(
+        version,
+        users,
+        config.proxy.max_packet,
+        config.proxy.max_clients,
+        None,
+    ))
+}
+
+// Each user's own hostgroup and password.
+fn homes_of(alloc: Global, rows: &[UserRow]) -> Result<HashMap<Bytes, UserAt>, OutOfMemory> {
+    let mut users = HashMap::new(alloc);
+    for row in rows {
+        let name = Bytes::from_slice(alloc, row.name.as_slice())?;
+        let user = UserAt {
+            home: row.default_hostgroup,
+            password: Bytes::from_slice(alloc, row.password.as_slice())?,
+        };
+        users.insert(name, user)?;
+    }
+    Ok(users)
+}
+
+// The greatest of the hostgroups that servers are in.
+fn most_of(rows: &[ServerRow]) -> u16 {
+    let mut most = 0u16;
+    for row in rows {
+        most = most.max(row.hostgroup.0);
+    }
+    most
+}
+
+fn ranks_of(alloc: Global, rows: &[ServerRow]) -> Result<Vec<Option<u32>>, OutOfMemory> {
+    let mut ranks = vec![in alloc; None; usize::from(most_of(rows)) + 1]?;
+    let mut rank = 0u32;
+    for row in rows {
+        if let Some(place) = ranks.get_mut(usize::from(row.hostgroup.0)) {
+            if place.is_none() {
+                *place = Some(rank);
+            }
+        }
+        rank = rank.saturating_add(1);
+    }
+    Ok(ranks)
+}
+
+// The rules of a configuration that was read stand.
+fn rules_of(alloc: Global, config: &Config) -> Result<Rules, OutOfMemory>
+    ensures rows { IfOk result (λ rules. IsInOrder config.now.rules (rows_of rules)) }
+    ensures patterns { IfOk result (λ rules. All IsCompiled (rules_of rules)) }
+{
+    match Rules::build(alloc, config.rules.as_slice()) {
+        Ok(rules) => Ok(rules),
+        Err(_) => Err(OutOfMemory),
+    }
+}
+
+impl Service {
+    /// What a configuration says.
+    #[tactic(auto, using(crate::proofs::Configured::lawful_version, crate::proofs::Configured::lawful_names))]
+    pub fn new(alloc: Global, config: &Config) -> Result<Self, OutOfMemory>
+        requires { IsLawful config.now }
+        ensures { IfOk result (λ service. ServesBy config.now service) }
+    {
+        Ok(Service {
+            listen: config.proxy.listen,
+            admin_listen: config.proxy.admin_listen,
+            setup: setup_of(alloc, config)?,
+            users: homes_of(alloc, config.users.as_slice())?,
+            rules: rules_of(alloc, config)?,
+            default_schema: Bytes::from_slice(alloc, config.proxy.default_schema.as_slice())?,
+            ranks: ranks_of(alloc, config.servers.as_slice())?,
+            wait_ms: config.proxy.wait_ms,
+            idle_ms: config.proxy.idle_ms,
+            buffer_budget: config.proxy.buffer_budget,
+        })
+    }
+
+    /// The hostgroup to which a user's statements go where nothing else says so.
+    pub fn home(&self, user: &Bytes) -> Hostgroup {
+        match self.users.get(user) {
+            Some(user) => user.home,
+            None => Hostgroup(0),
+        }
+    }
+
+    /// A user's password.
+    pub fn password(&self, user: &Bytes) -> &[u8] {
+        match self.users.get(user) {
+            Some(user) => user.password.as_slice(),
+            None => &[],
+        }
+    }
+
+    /// The number of a hostgroup among those that servers are in.
+    pub fn group(&self, hostgroup: Hostgroup) -> u32 {
+        match self.ranks.get(usize::from(hostgroup.0)) {
+            Some(Some(rank)) => *rank,
+            _ => 0,
+        }
+    }
+}

@@ -1,0 +1,6 @@
+pub mod Drafts
+pub mod Forms
+pub mod Able
+pub mod Ups
+pub mod Turning
+pub mod Partings

@@ -1,0 +1,124 @@
+-- A message that came up, by the row of its client.
+use Rattle.std.specs.Prelude.{◌≡◌, ℕ, Bool, true, false, nat_eq, slice_index_or, IfSome, List, Option, Some, None, if◌then◌else◌}
+use Rattle.std.specs.Option.{option_and_then, option_map}
+use Rattle.std.proofs.Common.{refl, sym, ap, subst, ◌∙◌}
+use Rattle.mx_base.specs.Fields.{number_at}
+use Rattle.mx_base.specs.declared.names.ClientNo.{ClientNo}
+use Rattle.mx_base.specs.declared.names.Hostgroup.{Hostgroup}
+use Rattle.packet_frame.specs.Packets.{Framed, spelling, spellings}
+use Rattle.server_rule.specs.Classes.{Reads}
+use Rattle.private_model.specs.Commands.{Command, is_marked}
+use Rattle.log_story.specs.Plan.{Route, com_execute, text_payload}
+use Rattle.link_state.specs.Asks.{marks}
+use Rattle.link_state.specs.declared.asking.Form.{Form}
+use Rattle.link_state.specs.declared.wish.Command.TheVariants.{Plain}
+use Rattle.link_laws.specs.Stands.{IsForm}
+use Rattle.desk_laws.specs.Stands.{is_text, kind_of}
+use Rattle.row_laws.specs.Readied.{AreClasses}
+use Rattle.client_seat.specs.Numbers.{Numbered, number_in}
+use Rattle.client_seat.specs.Requests.{Asked, Runs, Says, args_by, asked_in, run_in, text_in}
+use Rattle.stmt_map.specs.declared.client.ClientStatements.{ClientStatements}
+use Rattle.core_tables.specs.Tables.{IsSame, Tabled}
+use Rattle.core_tables.specs.Taking.{IsDue, asked_of, found_of, text_work}
+use Rattle.core_tables.specs.declared.client.Client.{Client}
+use Rattle.core_turns.specs.Judged.{IsSendable}
+use Rattle.core_turns.specs.Taken.{IsAnswered, IsDueThere, OnUp, answered_so}
+
+-- the row is the one that is there
+pub on-up : (t : Tabled) (c : ClientNo) (row : Client) (fact : Client → Framed → Type 0) → t.clients c ≡ Some row
+    → ((message : Framed) → found_of row ≡ Some message → fact row message) → OnUp c t fact
+on-up t c row fact there given = λ other at message found.
+    let some : Some row ≡ Some other = sym there ∙ at in
+    let same : row ≡ other = cc in
+    subst (λ (r : Client). fact r message) same (given message (ap found_of same ∙ found))
+
+pub payload-at : (payload : List ℕ) (found : Option Framed) (message : Framed) → found ≡ Some message
+    → IfSome found (λ (m : Framed). payload ≡ m.payload) → payload ≡ message.payload
+payload-at payload found message at is = subst (λ (o : Option Framed). IfSome o (λ (m : Framed). payload ≡ m.payload)) at is
+
+-- The router answers it.
+pub answer-so : (anew : Bool) (c : ClientNo) (flag : ℕ) (said packets : List ℕ) (statements : ClientStatements) (payloads : List (List ℕ)) (old new : Tabled)
+    → OnUp c old (λ row message. packets ≡ spellings row.desk.seat.first payloads) → said ≡ packets
+    → OnUp c old (λ row message. anew ≡ nat_eq (slice_index_or message.payload 0 0) 0x1F)
+    → IsSame new (answered_so anew c flag said statements old) → OnUp c old (λ row message. IsAnswered c row message old new)
+answer-so anew c flag said packets statements payloads old new spelt same is made = λ row there message found. record {
+  payloads = payloads;
+  flag = flag;
+  packets = said;
+  statements = statements;
+  spelt = same ∙ spelt row there message found;
+  makes = subst (λ (b : Bool). IsSame new (answered_so b c flag said statements old)) (is row there message found) made;
+}
+
+-- It goes to a server.
+
+no-run : (run : Option Numbered) (f : Numbered → Asked) (command : Command) → ((one : Numbered) → f one ≡ Says command → ⊥)
+    → option_map f run ≡ Some (Says command) → ⊥
+no-run None f command none is = let e = is in cc
+no-run (Some one) f command none is =
+    let same : f one ≡ Says command = cc in
+    none one same
+
+said-in : (statements : ClientStatements) (payload : List ℕ) (text : Option (List ℕ)) (command : Command)
+    → asked_in statements payload text ≡ Some (Says command) → text_in payload text ≡ Some (Says command)
+said-in statements payload text command is = by (nat_eq (slice_index_or payload 0 0) com_execute) refl where
+  by : (execute : Bool) → nat_eq (slice_index_or payload 0 0) com_execute ≡ execute → text_in payload text ≡ Some (Says command)
+  by true at =
+      let run : run_in statements payload ≡ Some (Says command) =
+      subst (λ (b : Bool). (if b then run_in statements payload else text_in payload text) ≡ Some (Says command)) at is in
+      absurd (no-run (option_and_then (number_in statements) (number_at 4 1 payload)) (λ (one : Numbered). Runs one.prepared.key (args_by one payload)) command
+      (λ one e. let f = e in cc) run)
+  by false at = subst (λ (b : Bool). (if b then run_in statements payload else text_in payload text) ≡ Some (Says command)) at is
+
+asked-there : (row : Client) (message : Framed) (text : Option (List ℕ)) (command : Command) → found_of row ≡ Some message
+    → asked_of row text ≡ Some (Says command) → text_in message.payload text ≡ Some (Says command)
+asked-there row message text command found is =
+    said-in row.desk.seat.statements message.payload text command
+    (subst (λ (o : Option Framed). option_and_then (λ (m : Framed). asked_in row.desk.seat.statements m.payload text) o ≡ Some (Says command)) found is)
+
+-- by its command
+record IsSendsAs (form : Form) (command : Command) : Type 0 where
+  kind : kind_of command ≡ Plain
+  says : is_text command ≡ true
+  formed : (reads : Reads) → AreClasses reads → IsForm reads form command
+  marked : (reads : Reads) → AreClasses reads → is_marked reads command ≡ marks form
+
+abbrev route-by : Hostgroup → (text : Option (List ℕ)) → Option Bool → Route
+route-by hostgroup text multiplex = record { hostgroup = hostgroup; text = text; key = 0; number = 0; multiplex = multiplex; mirror = None }
+
+pub due-there : (hostgroup : Hostgroup) (ordinal flag since : ℕ) (text : Option (List ℕ)) (multiplex : Option Bool) (form : Form) (c : ClientNo) (old new : Tabled)
+    → OnUp c old (λ row message. IsSendable message.payload text form)
+    → IsDue flag text (text_work ordinal hostgroup since multiplex form) c old new
+    → OnUp c old (λ row message. IsDueThere hostgroup ordinal c message old new)
+due-there hostgroup ordinal flag since text multiplex form c old new sendable due =
+    on-up old c due.row (λ row message. IsDueThere hostgroup ordinal c message old new) due.there
+    (λ message found.
+    let sends : IsSendable message.payload text form = sendable due.row due.there message found in
+    let asked : text_in message.payload text ≡ Some (Says due.command) = asked-there due.row message text due.command found due.asked in
+    let some : Some (Says sends.command) ≡ Some (Says due.command) = sym sends.asks ∙ asked in
+    let says : Says sends.command ≡ Says due.command = cc in
+    let same : sends.command ≡ due.command = cc in
+    let at : IsSendsAs form due.command =
+    subst (IsSendsAs form) same (record { kind = sends.kind; says = sends.says; formed = sends.formed; marked = sends.marked }) in
+    record {
+      route = route-by hostgroup text multiplex;
+      there = refl;
+      single = refl;
+      flag = flag;
+      command = due.command;
+      work = text_work ordinal hostgroup since multiplex form (spelling 0 (text_payload due.command));
+      statements = due.taken.statements;
+      asked = asked;
+      request = λ reads classes. record {
+        ordinal_is = refl;
+        key_is = refl;
+        multiplex_is = refl;
+        kind = at.kind;
+        marks = at.marked reads classes;
+        form = at.formed reads classes;
+        body = (at.says, refl);
+      };
+      kind = refl;
+      at = refl;
+      same = due.taken.same;
+    })

@@ -1,0 +1,70 @@
+-- What code makes of the tables with a message that came up.
+use Rattle.std.specs.Prelude.{◌≡◌, ℕ, Bool, true, false, List, None, Some}
+use Rattle.mx_base.specs.declared.names.ClientNo.{ClientNo}
+use Rattle.mx_base.specs.declared.names.Hostgroup.{Hostgroup}
+use Rattle.packet_frame.specs.Packets.{Framed, spellings}
+use Rattle.server_rule.specs.Classes.{Reads}
+use Rattle.private_model.specs.Commands.{Command}
+use Rattle.log_story.specs.Plan.{Route}
+use Rattle.link_state.specs.declared.wish.Command.TheVariants.{Plain}
+use Rattle.client_seat.specs.Requests.{Says, text_in}
+use Rattle.client_desk.specs.declared.work.Work.{Work}
+use Rattle.stmt_map.specs.declared.client.ClientStatements.{ClientStatements}
+use Rattle.desk_laws.specs.Stands.{IsRequest}
+use Rattle.row_laws.specs.Readied.{AreClasses}
+use Rattle.core_laws.specs.taking.Takes.{is_reset}
+use Rattle.core_tables.specs.Tables.{IsSame, Tabled, client_changed}
+use Rattle.core_tables.specs.Taking.{answers, begins_anew, found_of, goes}
+use Rattle.core_tables.specs.declared.client.Client.{Client}
+use Rattle.core_turns.specs.declared.turn.Stop.{Stop}
+use Rattle.core_turns.specs.declared.turn.Stop.TheVariants as stops
+use Rattle.core_turns.specs.declared.turn.Turn.{Turn}
+use Rattle.core_turns.specs.declared.turn.Turn.TheVariants as turns
+
+-- a fact of the client's row, and of the message that came up there
+abbrev pub OnUp : ClientNo → Tabled → (Client → Framed → Type 0) → Type 0
+OnUp c t fact = (row : Client) → t.clients c ≡ Some row → (message : Framed) → found_of row ≡ Some message → fact row message
+
+-- The router answers it; a COM_RESET_CONNECTION begins anew.
+
+abbrev pub answered_so : (anew : Bool) → ClientNo → (flag : ℕ) → (packets : List ℕ) → ClientStatements → Tabled → Tabled
+answered_so true c flag packets statements t = begins_anew c flag packets statements t
+answered_so false c flag packets statements t = client_changed c (answers flag packets statements) t
+
+pub record IsAnswered (c : ClientNo) (row : Client) (message : Framed) (old new : Tabled) : Type 0 where
+  pub payloads : List (List ℕ)
+  pub flag : ℕ
+  pub packets : List ℕ
+  pub statements : ClientStatements
+  pub spelt : packets ≡ spellings row.desk.seat.first payloads
+  pub makes : IsSame new (answered_so (is_reset message) c flag packets statements old)
+
+-- It goes to a server in this hostgroup alone: a statement of it is due.
+pub record IsDueThere (hostgroup : Hostgroup) (ordinal : ℕ) (c : ClientNo) (message : Framed) (old new : Tabled) : Type 0 where
+  pub route : Route
+  pub there : route.hostgroup ≡ hostgroup
+  pub single : route.mirror ≡ None
+  pub flag : ℕ
+  pub command : Command
+  pub work : Work
+  pub statements : ClientStatements
+  pub asked : text_in message.payload route.text ≡ Some (Says command)
+  pub request : (reads : Reads) → AreClasses reads → IsRequest reads ordinal route.key command route.multiplex work
+  pub kind : work.command ≡ Plain
+  pub at : work.hostgroup ≡ route.hostgroup
+  pub same : IsSame new (client_changed c (goes flag work statements) old)
+
+-- The client says that it quits, which changes nothing yet.
+
+pub record IsQuit (message : Framed) (old new : Tabled) : Type 0 where
+  pub quits_only : is_reset message ≡ false
+  pub same : IsSame new old
+
+abbrev pub IsStopped : Stop → Framed → (old new : Tabled) → Type 0
+IsStopped (stops.Quits flag) message old new = IsQuit message old new
+IsStopped _ message old new = ⊥
+
+abbrev pub IsTakenUp : Turn → (ordinal : ℕ) → ClientNo → Client → Framed → (old new : Tabled) → Type 0
+IsTakenUp (turns.Stops stop) ordinal c row message old new = IsStopped stop message old new
+IsTakenUp turns.Answered ordinal c row message old new = IsAnswered c row message old new
+IsTakenUp (turns.Due hostgroup) ordinal c row message old new = IsDueThere hostgroup ordinal c message old new

@@ -1,0 +1,138 @@
+-- What code makes of the tables as it takes up a client's messages, up to where the client leaves.
+use Rattle.std.specs.Prelude.{◌≡◌, ◌<◌, ◌+◌, ℕ, nat_lt, Bool, true, false, ◌&&◌, All, List, [], ◌∷◌, Option, None, Some}
+use Rattle.std.specs.List.{list_all}
+use Rattle.std.specs.Option.{option_map_or}
+use Rattle.mx_base.specs.declared.names.ClientNo.{ClientNo}
+use Rattle.mx_base.specs.declared.names.Hostgroup.{Hostgroup}
+use Rattle.client_session.specs.Setups.{Setup as Service}
+use Rattle.client_side.specs.declared.stage.Stage.TheVariants.{Commands}
+use Rattle.client_seat.specs.Seats.{is_ended}
+use Rattle.client_seat.specs.declared.next.Next.TheVariants as next
+use Rattle.client_desk.specs.declared.session.Session.{Session}
+use Rattle.log_story.specs.Plan.{Route}
+use Rattle.core_laws.specs.taking.Takes.{is_reset}
+use Rattle.core_tables.specs.Arrivals.{looked, turn}
+use Rattle.core_tables.specs.Tables.{IsSame, Tabled}
+use Rattle.core_tables.specs.Taking.{IsUpOr}
+use Rattle.core_tables.specs.declared.client.Client.{Client}
+use Rattle.core_laws.specs.clients.Turns.{Answers, AnswersBy, Choice, ComesUp, Ends, Goes, GoesBy, Halt, IsLookedAt, IsTurn, MayLeave, Quits, Rests, RestsThere, Waits, WaitsThere, waits_at}
+use Rattle.core_turns.specs.declared.turn.Stop.{Stop}
+use Rattle.core_turns.specs.declared.turn.Stop.TheVariants as stops
+use Rattle.core_turns.specs.declared.turn.Turn.{Turn}
+use Rattle.core_turns.specs.declared.turn.Turn.TheVariants as turns
+use Rattle.core_turns.specs.declared.turn.Went.{Went}
+
+-- nobody is there, or the client ended
+abbrev pub is_away : Option Client → Bool
+is_away row = option_map_or (λ (client : Client). is_ended client.desk.seat.phase) row true
+
+-- Its next message has a number, and so have the lives that it would begin.
+
+abbrev pub has_life : Session → Bool
+has_life s = nat_lt s.life 18446744073709551615
+
+abbrev pub is_able : Client → Bool
+is_able row =
+    nat_lt row.desk.seat.client.arrived 18446744073709551615 && nat_lt row.desk.lefts 18446744073709551615 && list_all has_life row.desk.sessions
+
+pub record IsAble (row : Client) : Type 0 where
+  pub few : row.desk.seat.client.arrived + 1 < 18446744073709551616
+  pub lives : MayLeave row
+
+-- and whether it waits for a capture
+pub record IsLookable (waits : Bool) (row : Client) : Type 0 where
+  pub able : IsAble row
+  pub is : waits_at row ≡ waits
+
+-- Its login is denied, or its bytes are no messages: it is told so, and is to leave.
+pub record IsToEnd (service : Service) (default : List ℕ) (c : ClientNo) (old new : Tabled) : Type 0 where
+  pub row : Client
+  pub looks : IsLookedAt service default c old row next.Ended
+  pub lives : MayLeave row
+  pub same : IsSame new (looked service default c old)
+
+-- It says that it quits, and is to leave.
+pub record IsToQuit (service : Service) (default : List ℕ) (c : ClientNo) (old new : Tabled) : Type 0 where
+  pub up : ComesUp service default c old new
+  pub past_login : (turn service default up.row.desk.seat).client.stage ≡ Commands
+  pub quits_only : is_reset up.message ≡ false
+  pub lives : MayLeave up.row
+
+abbrev pub StopsSo : Halt → Service → (default : List ℕ) → ClientNo → (old new : Tabled) → Type 0
+StopsSo Waits service default c old new = WaitsThere c old new
+StopsSo Rests service default c old new = RestsThere service default c old new
+StopsSo Quits service default c old new = IsToQuit service default c old new
+StopsSo Ends service default c old new = IsToEnd service default c old new
+
+-- Turns by these choices, and then this end, but for the leaving.
+abbrev pub TurnsUntil : List Choice → Halt → Service → (default : List ℕ) → ClientNo → (old new : Tabled) → Type 0
+TurnsUntil [] halt service default c old new = StopsSo halt service default c old new
+TurnsUntil (choice ∷ others) halt service default c old new =
+    (between : Tabled) × IsTurn choice service default c old between × TurnsUntil others halt service default c between new
+
+-- By what code says of it.
+
+abbrev pub halt_of : Stop → Halt
+halt_of stops.Waits = Waits
+halt_of stops.Rests = Rests
+halt_of stops.Ends = Ends
+halt_of (stops.Quits flag) = Quits
+
+-- its statement goes to this hostgroup alone
+pub record IsDueIn (hostgroup : Hostgroup) (service : Service) (default : List ℕ) (c : ClientNo) (old new : Tabled) : Type 0 where
+  pub route : Route
+  pub goes : GoesBy service default route c old new
+  pub there : route.hostgroup ≡ hostgroup
+  pub single : route.mirror ≡ None
+
+abbrev pub IsTurned : Turn → Service → (default : List ℕ) → ClientNo → (old new : Tabled) → Type 0
+IsTurned (turns.Stops stop) service default c old new = StopsSo (halt_of stop) service default c old new
+IsTurned turns.Answered service default c old new = (payloads : List (List ℕ)) × AnswersBy service default payloads c old new
+IsTurned (turns.Due hostgroup) service default c old new = IsDueIn hostgroup service default c old new
+
+-- One turn, and all that it makes as it goes on, up to where it leaves.
+
+abbrev pub IsSingle : Choice → Type 0
+IsSingle (Goes route) = route.mirror ≡ None
+IsSingle (Answers payloads) = Unit {0}
+
+pub record HasChosen (service : Service) (default : List ℕ) (c : ClientNo) (old new : Tabled) : Type 0 where
+  pub choice : Choice
+  pub single : IsSingle choice
+  pub turns : IsTurn choice service default c old new
+
+abbrev pub HasGoneFurther : Option Stop → Service → (default : List ℕ) → ClientNo → (old new : Tabled) → Type 0
+HasGoneFurther None service default c old new = HasChosen service default c old new
+HasGoneFurther (Some stop) service default c old new = StopsSo (halt_of stop) service default c old new
+
+-- by those that end so
+abbrev pub TurnsBy : Type 1
+TurnsBy = List Choice → Halt → Service → (default : List ℕ) → ClientNo → (old new : Tabled) → Type 0
+
+pub record HasGone (turns : TurnsBy) (stop : Stop) (service : Service) (default : List ℕ) (c : ClientNo) (old new : Tabled) : Type 0 where
+  pub going : is_away (old.clients c) ≡ false
+  pub choices : List Choice
+  pub single : All IsSingle choices
+  pub turned : turns choices (halt_of stop) service default c old new
+
+pub record IsAbsent (c : ClientNo) (old new : Tabled) : Type 0 where
+  pub away : is_away (old.clients c) ≡ true
+  pub same : IsSame new old
+
+abbrev pub HasGoneOn : TurnsBy → Option Went → Service → (default : List ℕ) → ClientNo → (old new : Tabled) → Type 0
+HasGoneOn turns None service default c old new = IsAbsent c old new
+HasGoneOn turns (Some went) service default c old new = HasGone turns went.stop service default c old new
+
+-- what a client is by which code has it leave
+abbrev pub MayLeaveBy : Stop → Option Client → Type 0
+MayLeaveBy (stops.Quits flag) row = IsUpOr row
+MayLeaveBy stop row = Unit {0}
+
+abbrev pub MayLeaveIf : Option Went → Option Client → Type 0
+MayLeaveIf None row = Unit {0}
+MayLeaveIf (Some went) row = MayLeaveBy went.stop row
+
+-- where somebody is there
+abbrev pub IsTurnedIf : Option Turn → Service → (default : List ℕ) → ClientNo → (old new : Tabled) → Type 0
+IsTurnedIf None service default c old new = IsAbsent c old new
+IsTurnedIf (Some turn) service default c old new = (is_away (old.clients c) ≡ false) × IsTurned turn service default c old new

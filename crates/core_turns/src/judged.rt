@@ -1,0 +1,244 @@
+// What becomes of a message that came up.
+ghost use Rattle.std.specs.Prelude.{◌≡◌, ℕ, nat_eq, drop, List, None, IfOk, Option};
+ghost use Rattle.log_story.specs.Plan.{com_init_db};
+ghost use Rattle.link_state.specs.Classes as link_classes;
+ghost use Rattle.link_state.specs.declared.asking.Form.TheVariants as forms;
+ghost use Rattle.message_judge.specs.Drafts.{class_in};
+ghost use Rattle.core_turns.specs.Judged.{IsDraftOn, IsSayable, IsSendable, IsVerdictOn, byte_of};
+
+use client_desk::Desk;
+use core_service::Service;
+use hostgroups::Servers;
+use link_state::{Form, use_class};
+use message_judge::{
+    Caller, ClassOf, Draft, Going, Judged, OwnError, Standing, Told, admit, judge,
+};
+use mx_base::{Bytes, Hostgroup, OutOfMemory};
+use pin_classifier::Class;
+use session_state::Place;
+use std::alloc::Global;
+
+const COM_INIT_DB: u8 = 0x02;
+
+const COM_STMT_PREPARE: u8 = 0x16;
+
+const COM_STMT_EXECUTE: u8 = 0x17;
+
+const COM_STMT_SEND_LONG_DATA: u8 = 0x18;
+
+const COM_STMT_CLOSE: u8 = 0x19;
+
+const COM_STMT_RESET: u8 = 0x1a;
+
+const COM_STMT_FETCH: u8 = 0x1c;
+
+/// What becomes of a message.
+#[derive(Drop)]
+pub(crate) enum Verdict {
+    /// The client says that it quits.
+    Quits,
+    Answers(Told),
+    /// It goes to a server in this hostgroup, with this text in place of its own.
+    Sends {
+        hostgroup: Hostgroup,
+        text: Option<Bytes>,
+        multiplex: Option<bool>,
+        form: Form,
+    },
+}
+
+/// What becomes of a message, and the flag by which rules are tried first behind it.
+#[derive(Drop)]
+pub(crate) struct Judgement {
+    pub flag: u16,
+    pub verdict: Verdict,
+}
+
+// The name with which the client logged in.
+fn user_of(alloc: Global, desk: &Desk) -> Result<Bytes, OutOfMemory> {
+    match desk.seat.account() {
+        Some(account) => Bytes::from_slice(alloc, account.user()),
+        None => Ok(Bytes::new(alloc)),
+    }
+}
+
+// What is known of a client as its message comes up.
+fn caller_of(alloc: Global, service: &Service, desk: &Desk) -> Result<Caller, OutOfMemory> {
+    let user = user_of(alloc, desk)?;
+    let home = service.home(&user);
+    Ok(Caller {
+        number: desk.seat.number(),
+        user,
+        home,
+        place: Place {
+            schema: Bytes::from_slice(alloc, desk.seat.place.schema.as_slice())?,
+            settings: desk.seat.place.settings.copy()?,
+        },
+        flag: desk.seat.flag,
+        last: desk.seat.last,
+    })
+}
+
+// What is answered to a command about prepared statements, which this router doesn't have: the two that have no reply get
+// none.
+fn unprepared(payload: &[u8]) -> Option<Told> {
+    let [byte, ..] = payload else {
+        return None;
+    };
+    match *byte {
+        COM_STMT_SEND_LONG_DATA | COM_STMT_CLOSE => Some(Told::Nothing),
+        COM_STMT_PREPARE | COM_STMT_EXECUTE | COM_STMT_RESET | COM_STMT_FETCH => {
+            Some(Told::Error(OwnError::UnknownCommand))
+        }
+        _ => None,
+    }
+}
+
+fn class_of(class: &ClassOf) -> Option<&Class> {
+    match class {
+        ClassOf::Own(class) => Some(class),
+        _ => None,
+    }
+}
+
+// Whether it chooses a schema.
+fn names_schema(payload: &[u8]) -> bool
+    ensures { result ≡ nat_eq (byte_of payload.now) com_init_db }
+{
+    match payload {
+        [byte, ..] => *byte == COM_INIT_DB,
+        _ => false,
+    }
+}
+
+// What stands behind the command byte.
+fn behind_byte(payload: &[u8]) -> &[u8]
+    ensures { result.now ≡ drop 1 payload.now }
+{
+    match payload {
+        [_, rest @ ..] => rest,
+        _ => payload,
+    }
+}
+
+// The choice of a schema has the class of a USE.
+fn schema_form(alloc: Global, payload: &[u8]) -> Result<Form, OutOfMemory>
+    ensures { IfOk result (λ form. form ≡ forms.Text (link_classes.use_class (drop 1 payload.now))) }
+{
+    let schema = Bytes::from_slice(alloc, behind_byte(payload))?;
+    Ok(Form::Text(use_class(schema)))
+}
+
+// How what has no text stands on a link.
+fn plain_form(alloc: Global, payload: &[u8]) -> Result<Form, OutOfMemory>
+    ensures { IfOk result (λ form. IsSayable payload.now None None → IsSendable payload.now None form) }
+{
+    if names_schema(payload) {
+        schema_form(alloc, payload)
+    } else {
+        Ok(Form::Fields)
+    }
+}
+
+// How what a message asks for stands on a link.
+fn form_of(alloc: Global, payload: &[u8], class: ClassOf) -> Result<Form, OutOfMemory>
+    ensures { IfOk result (λ form. (text : Option (List ℕ)) → IsSayable payload.now (class_in None class) text
+        → IsSendable payload.now text form) }
+{
+    match class {
+        ClassOf::Own(class) => Ok(Form::Text(class)),
+        _ => plain_form(alloc, payload),
+    }
+}
+
+// It goes to a server, where it may.
+fn sent(
+    alloc: Global,
+    servers: &Servers,
+    desk: &Desk,
+    payload: &[u8],
+    going: Going,
+) -> Result<Verdict, OutOfMemory>
+    requires { IsSayable payload.now (class_in None going.class) going.text }
+    ensures { IfOk result (λ verdict. IsVerdictOn payload.now verdict) }
+{
+    let session = desk.session(going.hostgroup);
+    let is_there = session.home.is_some() || servers.online(going.hostgroup);
+    if let Some(why) = admit(
+        class_of(&going.class),
+        going.hostgroup,
+        session.pin,
+        is_there,
+    ) {
+        return Ok(Verdict::Answers(Told::Error(why)));
+    }
+    let Going {
+        hostgroup,
+        text,
+        multiplex,
+        class,
+        ..
+    } = going;
+    let form = form_of(alloc, payload, class)?;
+    Ok(Verdict::Sends {
+        hostgroup,
+        text,
+        multiplex,
+        form,
+    })
+}
+
+fn verdict_of(
+    alloc: Global,
+    servers: &Servers,
+    desk: &Desk,
+    payload: &[u8],
+    draft: Draft,
+) -> Result<Verdict, OutOfMemory>
+    requires { IsDraftOn payload.now draft }
+    ensures { IfOk result (λ verdict. IsVerdictOn payload.now verdict) }
+{
+    match draft {
+        Draft::Ends => Ok(Verdict::Quits),
+        Draft::Answers(told) => Ok(Verdict::Answers(told)),
+        Draft::Sends(going) => sent(alloc, servers, desk, payload, going),
+    }
+}
+
+// By the rules, and by what is known of the client.
+fn drafted(
+    alloc: Global,
+    service: &Service,
+    desk: &Desk,
+    payload: &[u8],
+) -> Result<Judged, OutOfMemory>
+    ensures { IfOk result (λ judged. IsDraftOn payload.now judged.draft) }
+{
+    let caller = caller_of(alloc, service, desk)?;
+    let standing = Standing {
+        transaction: desk.transaction(&service.ranks),
+        next_number: None,
+    };
+    judge(alloc, &service.rules, &caller, standing, None, payload)
+}
+
+/// What becomes of a client's message with this payload.
+pub(crate) fn judged(
+    alloc: Global,
+    service: &Service,
+    servers: &Servers,
+    desk: &Desk,
+    payload: &[u8],
+) -> Result<Judgement, OutOfMemory>
+    ensures { IfOk result (λ judgement. IsVerdictOn payload.now judgement.verdict) }
+{
+    if let Some(told) = unprepared(payload) {
+        return Ok(Judgement {
+            flag: desk.seat.flag,
+            verdict: Verdict::Answers(told),
+        });
+    }
+    let Judged { draft, flag } = drafted(alloc, service, desk, payload)?;
+    let verdict = verdict_of(alloc, servers, desk, payload, draft)?;
+    Ok(Judgement { flag, verdict })
+}

@@ -1,0 +1,62 @@
+// A client's next message is taken up.
+ghost use Rattle.std.specs.Prelude.{IfOk, IsSome, OnOk};
+ghost use Rattle.core_tables.specs.Tables.{tables_of};
+ghost use Rattle.marked_tables.specs.Goes.{GoesOn};
+ghost use Rattle.core_turns.specs.Turned.{IsTurned, IsTurnedIf};
+
+use crate::looking::{is_away, waits};
+use crate::sending::take_up;
+use crate::turn::{Stop, Turn};
+use client_seat::Next;
+use core_service::Service;
+use hostgroups::Servers;
+use marked_tables::MarkedTables;
+use mx_base::{ClientNo, OutOfMemory};
+use std::alloc::Global;
+
+/// A client that is there is looked at, and its message taken up that is up.
+pub(crate) fn take_there(
+    marked: &mut MarkedTables,
+    service: &Service,
+    servers: &Servers,
+    clock: u64,
+    alloc: Global,
+    client: ClientNo,
+) -> Result<Turn, OutOfMemory>
+    requires { IsSome ((tables_of marked.old.tables).clients client) }
+    ensures is { IfOk result (λ turn. IsTurned turn service.now.setup service.now.default_schema client
+        (tables_of marked.old.tables) (tables_of marked.new.tables)) }
+    ensures goes { OnOk result (GoesOn marked.old marked.new) }
+{
+    if waits(&marked.tables, client)? {
+        return Ok(Turn::Stops(Stop::Waits));
+    }
+    match marked.look(client, &service.setup, service.default_schema.as_slice())? {
+        Next::Nothing => Ok(Turn::Stops(Stop::Rests)),
+        Next::Ended => Ok(Turn::Stops(Stop::Ends)),
+        Next::Message { ordinal } => {
+            take_up(marked, service, servers, clock, alloc, client, ordinal)
+        }
+    }
+}
+
+/// A client is looked at, and its message taken up that is up: judged by the rules and by what is known of the client, and answered by the
+/// router, or due to a server. None where nobody has this number, or the client ended.
+pub fn take_next(
+    marked: &mut MarkedTables,
+    service: &Service,
+    servers: &Servers,
+    clock: u64,
+    alloc: Global,
+    client: ClientNo,
+) -> Result<Option<Turn>, OutOfMemory>
+    ensures is { IfOk result (λ turn. IsTurnedIf turn service.now.setup service.now.default_schema
+        client (tables_of marked.old.tables) (tables_of marked.new.tables)) }
+    ensures goes { OnOk result (GoesOn marked.old marked.new) }
+{
+    if is_away(&marked.tables, client) {
+        return Ok(None);
+    }
+    let turn = take_there(marked, service, servers, clock, alloc, client)?;
+    Ok(Some(turn))
+}

@@ -1,6 +1,0 @@
-use Rattle.entry_laws.proofs.Resting.{entry_rests}
-use Rattle.entry_laws.proofs.entries.entries_rest.Goals as goal
-
-pub returns : goal.returns
-returns c = λ service g t now roomy room e over whose rests stands ends seated idle rooms own.
-    entry_rests service g t now roomy room e over whose rests stands ends seated idle rooms own

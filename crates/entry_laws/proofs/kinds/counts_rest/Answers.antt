@@ -1,6 +1,0 @@
-use Rattle.entry_laws.proofs.Uneventful.{counted_rests}
-use Rattle.entry_laws.proofs.kinds.counts_rest.Goals as goal
-
-pub returns : goal.returns
-returns c = λ service g t stands still rested.
-    counted_rests service (c.freed_stands.ensures.test service) g t stands (c.counts_alone.ensures service g t stands still) rested

@@ -1,5 +1,0 @@
-use Rattle.entry_laws.proofs.Freeing.{frees_all}
-use Rattle.entry_laws.proofs.kinds.links_are_given_back.Goals as goal
-
-pub returns : goal.returns
-returns c = λ service g t links stands there. frees_all service (c.freed_stands.ensures.stands service) links g t stands there

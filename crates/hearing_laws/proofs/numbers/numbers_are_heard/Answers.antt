@@ -1,6 +1,0 @@
-use Rattle.hearing_laws.proofs.Numbered.{numbered_so}
-use Rattle.hearing_laws.proofs.numbers.numbers_are_heard.Goals as goal
-
-pub returns : goal.returns
-returns c = λ setup codes plan tale l row bytes stands entered fine are.
-    numbered_so setup codes plan tale l row bytes stands entered fine are c.numbers_are_read.ensures

@@ -1,8 +1,0 @@
-//! Bytes are read on links to servers: the tables stand for the tale.
-#![tactic(auto)]
-
-mod hearing;
-mod numbers;
-
-pub use hearing::bytes_are_heard;
-pub use numbers::numbers_are_heard;

@@ -1,0 +1,4 @@
+pub mod Goes
+pub mod Marking
+pub mod Homes
+pub mod Readying

@@ -1,5 +1,0 @@
-use Rattle.parting_laws.proofs.Standing.{stand_so, standing_at}
-use Rattle.parting_laws.proofs.frames.lawful_statements.Goals as goal
-
-pub returns : goal.returns
-returns c = λ g l lawful. standing_at g l (stand_so g.setup g.tale.story lawful)

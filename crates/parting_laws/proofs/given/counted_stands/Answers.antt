@@ -1,5 +1,0 @@
-use Rattle.parting_laws.proofs.Counting.{counted_so}
-use Rattle.parting_laws.proofs.given.counted_stands.Goals as goal
-
-pub returns : goal.returns
-returns c = counted_so c.given_up_stands.ensures c.seats_owe.ensures.answered

@@ -1,0 +1,16 @@
+pub mod Continuing
+pub mod Duing
+pub mod Entering
+pub mod Linking
+pub mod Closing
+pub mod Wroting
+pub mod LetIn
+pub mod Saying
+pub mod Leaving
+pub mod Losing
+pub mod Departing
+pub mod Renewing
+pub mod Walking
+pub mod Unseen
+pub mod Coming
+pub mod Counting

@@ -1,0 +1,10 @@
+pub mod Fates
+pub mod Recording
+pub mod Keeping
+pub mod Planning
+pub mod Listing
+pub mod Gathering
+pub mod Working
+pub mod Tallying
+pub mod Router
+pub mod Staying

@@ -1,0 +1,198 @@
+-- The core goes on with an entry by its deeds.
+use Rattle.std.specs.Prelude.{true, false, ◌≡◌, ◌<◌, ℕ, zero, suc, Bool, All, length, take, List, [], Option, Some, None}
+use Rattle.std.proofs.Common.{refl, sym, ◌∙◌, subst, arith}
+use Rattle.std.proofs.lemmas.List.Elements.{All-nil, All-weaker}
+use Rattle.mx_wire.specs.Log.{Log}
+use Rattle.mx_wire.specs.Moments.{lawful-more}
+use Rattle.mx_wire.specs.Tells.{MayFollow}
+use Rattle.mx_wire.specs.declared.entry.Entry.{Entry}
+use Rattle.client_session.specs.Setups.{Setup as Service}
+use Rattle.private_model.specs.Names.{ClientNo}
+use Rattle.private_model.specs.View.{Setup}
+use Rattle.link_laws.specs.Stands.{Codes}
+use Rattle.log_story.specs.Headline.{WritesDue, tale_of}
+use Rattle.log_story.specs.Plan.{Plan, is_by_now}
+use Rattle.log_story.specs.Tale.{Client}
+use Rattle.tale_world.specs.Decided.{Decided}
+use Rattle.core_tables.specs.Tables.{Tabled, no_tables}
+use Rattle.core_stands.specs.Grounds.{Ground, first_ground}
+use Rattle.core_stands.specs.Stands.{IsCalm, Rests}
+use Rattle.core_laws.proofs.OfEntry.Deciding.{all_before, of_before}
+use Rattle.core_laws.specs.entry.Cores.{with_entry}
+use Rattle.core_laws.specs.entry.Dues.{AreWrittenTo, IsWrittenTo}
+use Rattle.core_laws.specs.entry.Grows.{IsHeardMore, IsMoreBy}
+use Rattle.core_laws.specs.entry.Safe.{IsSafe}
+use Rattle.core_laws.specs.entry.Tells.{Fits, IsOf, ground}
+use Rattle.router_laws.proofs.OfDecisions.Fates.{false_true}
+use Rattle.router_laws.proofs.OfDecisions.Gathering.{plans_so}
+use Rattle.router_laws.proofs.OfDecisions.Keeping.{first_so, recorded_then}
+use Rattle.router_laws.proofs.OfDecisions.Recording.{is_more, one_more}
+use Rattle.router_laws.specs.decisions.Deeds.{AreAlone, Counts, Deeds, among, counts_with, decided_with, known_with, no_counts}
+use Rattle.router_laws.specs.decisions.Records.{AreCountsOf, IsRecorded, first_deciding}
+use Rattle.router_laws.specs.decisions.Routers.{AreOpenJust, IsBefore, GoesSo, GoesSoBy, IsRouter}
+
+pub more_with : (d : Decided) (n : Counts) (log : Log) (e : Entry) (deeds : Deeds) → IsRecorded d n log
+    → IsMoreBy (length log) d (decided_with deeds n log e d)
+more_with d n log e deeds recorded = is_more d n log e (among (known_with log e) deeds) (length (with_entry log e)) recorded (sym (one_more log e))
+
+pub plan_before : (d : Decided) (n : Counts) (log : Log) (e : Entry) (deeds : Deeds) (plan : Plan) → IsRecorded d n log
+    → IsOf (decided_with deeds n log e d) (length (with_entry log e)) plan → IsOf d (length log) plan
+plan_before d n log e deeds plan recorded of =
+    of_before d (decided_with deeds n log e d) (length log) plan (more_with d n log e deeds recorded)
+    (subst (λ (k : ℕ). IsOf (decided_with deeds n log e d) k plan) (one_more log e) of)
+
+pub fits_before : (setup : Setup) (codes : Codes) (plan : Plan) (default : List ℕ) (log : Log) (e : Entry)
+    → All (λ (client : Client). IsHeardMore (tale_of setup plan (with_entry log e)) client) (tale_of setup plan log).clients
+    → Fits setup codes plan default (tale_of setup plan (with_entry log e)) → Fits setup codes plan default (tale_of setup plan log)
+fits_before setup codes plan default log e heard fits = record {
+  classes = fits.classes;
+  apart = fits.apart;
+  who = all_before setup plan default (tale_of setup plan log) (tale_of setup plan (with_entry log e)) heard fits.who;
+  single = fits.single;
+}
+
+module _ (service : Service) (default : List ℕ) (log : Log) (e : Entry) (deeds : Deeds) (t now : Tabled) (roomy room : ClientNo → Bool)
+    (router : IsRouter service default log t roomy) (may : MayFollow log e) (alone : AreAlone deeds)
+    (goes : GoesSoBy service default log e router.core.decided router.counts deeds t now roomy room) where
+  abbrev new : Decided
+  new = decided_with deeds router.counts log e router.core.decided
+
+  module _ (setup : Setup) (codes : Codes) (plan : Plan) (of : IsOf new (length (with_entry log e)) plan)
+      (fits : Fits setup codes plan default (tale_of setup plan (with_entry log e))) where
+    so : GoesSo service setup codes plan log e router.core.decided router.counts deeds t now roomy room
+    so = goes setup codes plan of fits
+
+    of_then : IsOf router.core.decided (length log) plan
+    of_then = plan_before router.core.decided router.counts log e deeds plan router.recorded of
+
+    fits_then : Fits setup codes plan default (tale_of setup plan log)
+    fits_then = fits_before setup codes plan default log e so.goes.heard fits
+
+    rests_then : Rests service (ground setup codes plan router.core.decided log) t roomy
+    rests_then = router.core.rests setup codes plan of_then fits_then
+
+    rests_now : Rests service (ground setup codes plan new (with_entry log e)) now room
+    rests_now = so.goes.rests rests_then
+
+    written_now : AreWrittenTo (ground setup codes plan new (with_entry log e)) (with_entry log e)
+    written_now = so.goes.written rests_then rests_now (router.core.written setup codes plan of_then fits_then)
+
+    safe_now : IsSafe setup plan (with_entry log e)
+    safe_now = so.goes.safe rests_then rests_now written_now (router.core.safe setup codes plan of_then fits_then)
+
+    counts_now : AreCountsOf (counts_with deeds router.counts log e) (tale_of setup plan (with_entry log e))
+    counts_now = so.counts
+
+  pub router_goes_on : AreOpenJust (with_entry log e) now → IsRouter service default (with_entry log e) now room
+  router_goes_on open_just = record {
+    core = record { decided = new; rests = rests_now; safe = safe_now; written = written_now; opened = λ l there. sym (open_just l) ∙ there };
+    counts = counts_with deeds router.counts log e;
+    recorded = recorded_then router.core.decided router.counts log e deeds router.recorded alone;
+    counted = counts_now;
+    lawful = lawful-more MayFollow log e router.lawful may;
+    open_just = open_just;
+  }
+
+module _ (service : Service) (default : List ℕ) (log : Log) (e : Entry) (t : Tabled) (roomy : ClientNo → Bool) (deeds : Deeds) (setup : Setup)
+    (codes : Codes) (plan : Plan) (router : IsRouter service default log t roomy) (may : MayFollow log e)
+    (of : IsOf (decided_with deeds router.counts log e router.core.decided) (length (with_entry log e)) plan)
+    (fits : Fits setup codes plan default (tale_of setup plan (with_entry log e)))
+    (heard : All (λ (client : Client). IsHeardMore (tale_of setup plan (with_entry log e)) client) (tale_of setup plan log).clients) where
+  of_old : IsOf router.core.decided (length log) plan
+  of_old = plan_before router.core.decided router.counts log e deeds plan router.recorded of
+
+  fits_old : Fits setup codes plan default (tale_of setup plan log)
+  fits_old = fits_before setup codes plan default log e heard fits
+
+  pub stood_before : IsBefore service default log e t roomy router deeds setup codes plan
+  stood_before = record {
+    of = of_old;
+    fits = fits_old;
+    rests = router.core.rests setup codes plan of_old fits_old;
+    written = router.core.written setup codes plan of_old fits_old;
+    safe = router.core.safe setup codes plan of_old fits_old;
+    counts = router.counted setup codes plan of_old fits_old;
+    so = plans_so default router.core.decided router.counts log e deeds setup codes plan router.recorded may of fits_old
+        (router.counted setup codes plan of_old fits_old);
+  }
+
+pub changed : (service : Service) (default : List ℕ) (log : Log) (t now : Tabled) (roomy room : ClientNo → Bool)
+    → IsRouter service default log t roomy → ((g : Ground) → Rests service g t roomy → Rests service g now room) → AreOpenJust log now
+    → IsRouter service default log now room
+changed service default log t now roomy room router rests open_just = record {
+  core = record {
+    decided = router.core.decided;
+    rests = λ setup codes plan of fits.
+        rests (ground setup codes plan router.core.decided log) (router.core.rests setup codes plan of fits);
+    safe = router.core.safe;
+    written = router.core.written;
+    opened = λ l there. sym (open_just l) ∙ there;
+  };
+  counts = router.counts;
+  recorded = router.recorded;
+  counted = router.counted;
+  lawful = router.lawful;
+  open_just = open_just;
+}
+
+roomier : (service : Service) (g : Ground) (t : Tabled) (roomy room : ClientNo → Bool) → ((c : ClientNo) → roomy c ≡ true → room c ≡ true)
+    → Rests service g t roomy → Rests service g t room
+roomier service g t roomy room more rests = record {
+  stands = rests.stands;
+  over = rests.over;
+  looked = rests.looked;
+  rested = rests.rested;
+  calm = All-weaker (IsCalm g roomy) (IsCalm g room)
+      (λ client calm going full. calm going (by client.number full (roomy client.number) refl)) g.tale.clients rests.calm;
+} where
+  by : (c : ClientNo) → room c ≡ false → (b : Bool) → roomy c ≡ b → roomy c ≡ false
+  by c full true is = false_true (room c) full (more c is)
+  by c full false is = is
+
+pub grows_roomier : (service : Service) (default : List ℕ) (log : Log) (t : Tabled) (roomy room : ClientNo → Bool)
+    → IsRouter service default log t roomy → ((c : ClientNo) → roomy c ≡ true → room c ≡ true) → IsRouter service default log t room
+grows_roomier service default log t roomy room router more =
+    changed service default log t t roomy room router (λ g rests. roomier service g t roomy room more rests) router.open_just
+
+-- The empty log.
+
+none_taken : (P : Log → Type 0) → P [] → (n : ℕ) → P (take n [])
+none_taken P is zero = is
+none_taken P is (suc n) = is
+
+none_due : (setup : Setup) (plan : Plan) → WritesDue setup plan []
+none_due setup plan = λ k d within. absurd (omega (arith, within))
+
+first_safe : (setup : Setup) (plan : Plan) → IsSafe setup plan []
+first_safe setup plan = record {
+  tested = tt;
+  unbroken = refl;
+  runless = refl;
+  said = λ l there. false_true false refl there;
+  written = none_taken (WritesDue setup plan) (none_due setup plan);
+}
+
+not_by_now : (at : Option ℕ) → ((n : ℕ) → at ≡ Some n → 0 < n) → is_by_now 0 at ≡ false
+not_by_now None later = refl
+not_by_now (Some n) later = let more : 0 < n = later n refl in grind arith
+
+pub router_of_none : (service : Service) (default : List ℕ) (roomy : ClientNo → Bool)
+    → ((setup : Setup) (codes : Codes) (plan : Plan) → plan.service ≡ service → plan.room ≡ 1048576
+    → ((c : ClientNo) → is_by_now 0 (plan.ends c) ≡ false) → Rests service (first_ground setup codes plan) no_tables roomy)
+    → IsRouter service default [] no_tables roomy
+router_of_none service default roomy stands = record {
+  core = record {
+    decided = first_deciding service;
+    rests = λ setup codes plan of fits.
+        stands setup codes plan of.agrees.service of.agrees.room (λ c. not_by_now (plan.ends c) (λ n is. of.agrees.going c n refl is));
+    safe = λ setup codes plan of fits. first_safe setup plan;
+    written = λ setup codes plan of fits. All-nil (IsWrittenTo (ground setup codes plan (first_deciding service) []) []);
+    opened = λ l there. false_true false refl there;
+  };
+  counts = no_counts;
+  recorded = first_so service;
+  counted = λ setup codes plan of fits.
+      record { taken = All-nil (λ (client : Client). client.taken ≡ 0); begun = λ l. refl };
+  lawful = tt;
+  open_just = λ l. refl;
+}

@@ -1,0 +1,4 @@
+pub mod Deciding
+pub mod Opening
+pub mod Losing
+pub mod Coming

@@ -1,0 +1,12 @@
+pub mod Unsound
+pub mod Lawfully
+pub mod Untouched
+pub mod Hearing
+pub mod Somebody
+pub mod Nobody
+pub mod Rested
+pub mod Spoken
+pub mod Rows
+pub mod Onward
+pub mod Router
+pub mod Made

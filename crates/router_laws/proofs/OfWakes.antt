@@ -1,0 +1,16 @@
+pub mod Aside
+pub mod Settled
+pub mod Reordered
+pub mod Later
+pub mod Going
+pub mod Callers
+pub mod Aligned
+pub mod Stepped
+pub mod Homed
+pub mod Called
+pub mod Given
+pub mod Fated
+pub mod Entered
+pub mod Woken
+pub mod Known
+pub mod Told

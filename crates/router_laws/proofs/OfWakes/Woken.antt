@@ -1,0 +1,201 @@
+-- A wake, and an open that failed.
+use Rattle.std.specs.Prelude.{◌≡◌, ◌&&◌, not, ℕ, suc, Bool, true, false, All, is_some, List, Option, Some, None}
+use Rattle.std.specs.Option.{option_map}
+use Rattle.std.proofs.Common.{refl, sym, ap, ◌∙◌, arith, inl, inr}
+use Rattle.std.proofs.lemmas.Bool.{and_left, true≢false}
+use Rattle.std.proofs.lemmas.List.Elements.{All-weaker}
+use Rattle.mx_base.specs.declared.names.Address.{Address}
+use Rattle.mx_base.specs.declared.names.ServerId.{ServerId}
+use Rattle.mx_wire.specs.Log.{Log}
+use Rattle.mx_wire.specs.Tells.{MayFollow}
+use Rattle.mx_wire.specs.declared.entry.Entry.{Entry}
+use Rattle.mx_wire.specs.declared.entry.Entry.TheVariants.{OpenFailed, Woke}
+use Rattle.client_session.specs.Setups.{Setup as Service}
+use Rattle.private_model.specs.Names.{ClientNo, LinkId}
+use Rattle.log_story.specs.Owed.{name_of}
+use Rattle.log_story.specs.Plan.{gives_up, is_before}
+use Rattle.log_story.specs.Tale as tales
+use Rattle.log_story.specs.Tale.{Tale, counted}
+use Rattle.client_seat.specs.Seats.{is_ended}
+use Rattle.step_laws.proofs.Apart.{counted_apart}
+use Rattle.step_laws.proofs.Others.{idle_by}
+use Rattle.step_laws.specs.Taken.{GivesUpNone, IsPassed, is_called as is_called_by}
+use Rattle.core_tables.specs.Parting.{given_row}
+use Rattle.core_tables.specs.Tables.{Tabled}
+use Rattle.core_tables.specs.declared.client.Client.{Client}
+use Rattle.core_stands.specs.Clients.{IsClientOr, IsPhase}
+use Rattle.core_stands.specs.Grounds.{Ground, view_on}
+use Rattle.core_stands.specs.Stands.{IsAt, IsCalm, Rests}
+use Rattle.core_laws.specs.entry.Cores.{with_entry}
+use Rattle.core_laws.specs.clients.Going.{GivenUp}
+use Rattle.router_laws.specs.decisions.Plans.{HasDeeds, PlansSo}
+use Rattle.router_laws.specs.decisions.Routers.{IsRouter}
+use Rattle.router_laws.specs.reading.Hearing.{TellsFor}
+use Rattle.router_laws.proofs.OfWakes.Entered.{AreCalled, IsOfNoLink, Knows, before_by, calls_router}
+use Rattle.router_laws.proofs.OfWakes.Given.{all_given, some_given}
+use Rattle.router_laws.specs.wakes.Calling.{Caller, is_called, is_given}
+use Rattle.router_laws.specs.wakes.Deciding.{AreAloneAll, calls_deeds, payload_in}
+use Rattle.router_laws.specs.wakes.Waking.{FailsSo, WakesSo}
+
+woke_tells : (until_ms now_ms : ℕ) → IsOfNoLink (Woke until_ms now_ms)
+woke_tells until_ms now_ms = record {
+  told_same = λ setup plan tale. refl;
+  unread = λ l. refl;
+  unwritten = refl;
+  uncome = λ tale client come. come;
+  off = λ tale. tt;
+  passes = λ setup plan tale. tt;
+  closes = λ setup tale. tt;
+  begins = λ setup tale made. tt;
+  opens = λ was. refl;
+}
+
+fails_tells : (server : ServerId) (address : Address) → IsOfNoLink (OpenFailed server address)
+fails_tells server address = record {
+  told_same = λ setup plan tale. refl;
+  unread = λ l. refl;
+  unwritten = refl;
+  uncome = λ tale client come. come;
+  off = λ tale. tt;
+  passes = λ setup plan tale. tt;
+  closes = λ setup tale. tt;
+  begins = λ setup tale made. tt;
+  opens = λ was. refl;
+}
+
+module _ (service : Service) (given : List GivenUp) (callers : List Caller) (log : Log) (e : Entry) (t : Tabled) (roomy : ClientNo → Bool)
+    (theirs : (c : ClientNo) → is_given given c ≡ true → is_called callers c ≡ true) (g : Ground) (rests : Rests service g t roomy)
+    (so : PlansSo g log e (calls_deeds given callers)) where
+  abbrev called : ClientNo → Bool
+  called = is_called callers
+
+  abbrev heard : Tale
+  heard = counted g.tale
+
+  none_given : (c : ClientNo) → called c ≡ false → is_some (payload_in given c) ≡ false
+  none_given c other = some_given given c ∙ by (is_given given c) refl where
+    by : (b : Bool) → is_given given c ≡ b → is_given given c ≡ false
+    by false is = is
+    by true is = absurd (true≢false (sym (theirs c is) ∙ other))
+
+  keeps_of : (x : tales.Client) → HasDeeds g (calls_deeds given callers) x → called x.number ≡ false → GivesUpNone g.plan (suc g.tale.moment) x
+  keeps_of x has other = has.keeps (none_given x.number other)
+
+  going_on : (x : tales.Client) → g.over x.number ≡ false → not (is_before (suc g.tale.moment) (g.plan.ends x.number)) ≡ true
+  going_on x going = ap not (before_by g.tale.moment (g.plan.ends x.number) ∙ sym (rests.over x.number) ∙ going)
+
+-- A wake.
+
+module _ (service : Service) (default : List ℕ) (given : List GivenUp) (callers : List Caller) (links : List LinkId) (log : Log) (until_ms now_ms : ℕ)
+    (t now : Tabled) (roomy room : ClientNo → Bool) (wakes : WakesSo service default given callers links roomy t now) where
+  abbrev e : Entry
+  e = Woke until_ms now_ms
+
+  abbrev those : ClientNo → Bool
+  those = is_called callers
+
+  module _ (g : Ground) (rests : Rests service g t roomy) (so : PlansSo g log e (calls_deeds given callers)) where
+    same_row : (c : ClientNo) → those c ≡ false → wakes.late.clients c ≡ t.clients c
+    same_row c other =
+        (all_given given t wakes.late wakes.gives).clients c
+        ∙ ap (λ (payload : Option (List ℕ)). option_map (given_row payload) (t.clients c))
+        (none_of (payload_in given c) (none_given service given callers log e t roomy wakes.all_given g rests so c other))
+        ∙ nothing (t.clients c)
+      where
+        none_of : (found : Option (List ℕ)) → is_some found ≡ false → found ≡ None
+        none_of None is = refl
+        none_of (Some payload) is = absurd (true≢false is)
+
+        nothing : (found : Option Client) → option_map (given_row None) found ≡ found
+        nothing None = refl
+        nothing (Some row) = refl
+
+    unended : (x : tales.Client) (row : Client) → (b : Bool) → IsPhase b g x row → g.over x.number ≡ false → b ≡ false
+    unended x row false phase going = refl
+    unended x row true phase going = absurd (true≢false (sym phase.over ∙ going))
+
+    full_by : (x : tales.Client) → those x.number ≡ false → g.over x.number ≡ false → (found : Option Client) → t.clients x.number ≡ found → IsClientOr g x found
+        → (b : Bool) → roomy x.number ≡ b → roomy x.number ≡ false
+    full_by x other going found there is false none = none
+    full_by x other going None there is true some = absurd (true≢false (sym is.over ∙ going))
+    full_by x other going (Some row) there is true some =
+        absurd (true≢false (sym (wakes.all_roomy x.number row some (same_row x.number other ∙ there)
+        (unended x row (is_ended row.desk.seat.phase) is.phase going)) ∙ other))
+
+    full : (x : tales.Client) → IsAt g t x → those x.number ≡ false → g.over x.number ≡ false → roomy x.number ≡ false
+    full x at other going = full_by x other going (t.clients x.number) refl at.row (roomy x.number) refl
+
+    abbrev IsThere : tales.Client → Type 0
+    IsThere x = IsAt g t x × IsCalm g roomy x × HasDeeds g (calls_deeds given callers) x
+
+    woke_idle : (x : tales.Client) → IsThere x → those x.number ≡ false → g.over x.number ≡ false
+        → IsPassed g.setup g.plan (view_on g) e (counted g.tale) x
+    woke_idle x is other going =
+        inr (idle_by g.setup g.plan x g.tale (counted g.tale)
+        (counted_apart g.setup g.plan x g.tale (keeps_of service given callers log e t roomy wakes.all_given g rests so x is.2 other)).up
+        (is.1 going (full x is.0 other going)))
+
+    woke_called : AreCalled g e those roomy room
+    woke_called = record {
+      calls = All-weaker (HasDeeds g (calls_deeds given callers))
+          (λ (x : tales.Client). g.over x.number ≡ false → those x.number ≡ true → is_called_by g.plan (suc g.tale.moment) (view_on g) e x ≡ true)
+          (λ x has going its. going_on service given callers log e t roomy wakes.all_given g rests so x going) g.tale.clients so.each;
+      passes = All-weaker IsThere
+          (λ (x : tales.Client). those x.number ≡ false → g.over x.number ≡ false → IsPassed g.setup g.plan (view_on g) e (counted g.tale) x) woke_idle
+          g.tale.clients (λ i x within. (rests.stands.clients.each i x within, rests.calm i x within, so.each i x within));
+      rooms = All-weaker (IsAt g t)
+          (λ (x : tales.Client). those x.number ≡ false → g.over x.number ≡ false → room x.number ≡ false → roomy x.number ≡ false)
+          (λ x at other going none. full x at other going) g.tale.clients rests.stands.clients.each;
+    }
+
+  pub woke_router : Knows service → IsRouter service default log t roomy → MayFollow log e → AreAloneAll callers
+      → All (λ (k : Caller). TellsFor k.parting service k.client) callers → IsRouter service default (with_entry log e) now room
+  woke_router knows router may alone tells =
+      calls_router service knows default log e (woke_tells until_ms now_ms) t wakes.late now roomy room given callers links router may wakes.gives wakes.all_given
+      wakes.calls alone tells woke_called
+
+-- An open that failed.
+
+module _ (service : Service) (default : List ℕ) (given : List GivenUp) (callers : List Caller) (links : List LinkId) (log : Log) (server : ServerId)
+    (address : Address) (t now : Tabled) (roomy : ClientNo → Bool) (fails : FailsSo service default given callers links t now) where
+  abbrev failed : Entry
+  failed = OpenFailed server address
+
+  abbrev ones : ClientNo → Bool
+  ones = is_called callers
+
+  module _ (g : Ground) (rests : Rests service g t roomy) (so : PlansSo g log failed (calls_deeds given callers)) where
+    abbrev instant : ℕ
+    instant = suc g.tale.moment
+
+    abbrev given_up : tales.Client → Bool
+    given_up x = gives_up g.plan instant (name_of x x.taken)
+
+    calls_by : (x : tales.Client) → HasDeeds g (calls_deeds given callers) x → g.over x.number ≡ false → ones x.number ≡ true
+        → is_called_by g.plan instant (view_on g) failed x ≡ true
+    calls_by x has going its =
+        ap (λ (b : Bool). b && not (is_before instant (g.plan.ends x.number))) (has.gives (some_given given x.number ∙ fails.none_else x.number its))
+        ∙ going_on service given callers log failed t roomy fails.all_given g rests so x going
+
+    passes_by : (x : tales.Client) → HasDeeds g (calls_deeds given callers) x → ones x.number ≡ false
+        → IsPassed g.setup g.plan (view_on g) failed (counted g.tale) x
+    passes_by x has other =
+        inl (and_left (given_up x) (not (is_before instant (g.plan.ends x.number)))
+        (keeps_of service given callers log failed t roomy fails.all_given g rests so x has other x.taken (omega arith)))
+
+    fails_called : AreCalled g failed ones roomy roomy
+    fails_called = record {
+      calls = All-weaker (HasDeeds g (calls_deeds given callers))
+          (λ (x : tales.Client). g.over x.number ≡ false → ones x.number ≡ true → is_called_by g.plan instant (view_on g) failed x ≡ true) calls_by g.tale.clients
+          so.each;
+      passes = All-weaker (HasDeeds g (calls_deeds given callers))
+          (λ (x : tales.Client). ones x.number ≡ false → g.over x.number ≡ false → IsPassed g.setup g.plan (view_on g) failed (counted g.tale) x)
+          (λ x has other going. passes_by x has other) g.tale.clients so.each;
+      rooms = λ i x within. λ other going none. none;
+    }
+
+  pub fails_router : Knows service → IsRouter service default log t roomy → MayFollow log failed → AreAloneAll callers
+      → All (λ (k : Caller). TellsFor k.parting service k.client) callers → IsRouter service default (with_entry log failed) now roomy
+  fails_router knows router may alone tells =
+      calls_router service knows default log failed (fails_tells server address) t fails.late now roomy roomy given callers links router may fails.gives
+      fails.all_given fails.calls alone tells fails_called

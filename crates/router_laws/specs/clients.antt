@@ -1,0 +1,9 @@
+pub mod Continues
+pub mod Behind
+pub mod Plans
+pub mod Comes
+pub mod Speaks
+pub mod Leaves
+pub mod Writes
+pub mod Parts
+pub mod Counted

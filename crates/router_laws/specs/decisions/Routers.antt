@@ -1,0 +1,59 @@
+-- The core with all that is carried from entry to entry.
+use Rattle.std.specs.Prelude.{◌≡◌, ◌||◌, ℕ, Bool, is_some, length, List}
+use Rattle.mx_wire.specs.Log.{Log, is_open}
+use Rattle.mx_wire.specs.Moments.{AllLawful}
+use Rattle.mx_wire.specs.Tells.{MayFollow}
+use Rattle.mx_wire.specs.declared.entry.Entry.{Entry}
+use Rattle.client_session.specs.Setups.{Setup as Service}
+use Rattle.private_model.specs.Names.{ClientNo, LinkId}
+use Rattle.private_model.specs.View.{Setup}
+use Rattle.link_laws.specs.Stands.{Codes}
+use Rattle.log_story.specs.Headline.{tale_of}
+use Rattle.log_story.specs.Plan.{Plan}
+use Rattle.tale_world.specs.Decided.{Decided}
+use Rattle.core_tables.specs.Tables.{Tabled}
+use Rattle.core_stands.specs.Stands.{Rests}
+use Rattle.core_laws.specs.entry.Cores.{GoesOn, with_entry}
+use Rattle.core_laws.specs.entry.Dues.{AreWrittenTo}
+use Rattle.core_laws.specs.entry.Safe.{IsSafe}
+use Rattle.core_laws.specs.entry.Tells.{Fits, IsCore, IsOf, ground}
+use Rattle.router_laws.specs.decisions.Deeds.{Counts, Deeds, counts_with, decided_with}
+use Rattle.router_laws.specs.decisions.Plans.{AreUngiven, PlansSo}
+use Rattle.router_laws.specs.decisions.Records.{AreCountsBy, AreCountsOf, IsRecorded}
+
+-- just the links that are open have a row
+abbrev pub AreOpenJust : Log → Tabled → Type 0
+AreOpenJust log t = (l : LinkId) → is_open l log ≡ (is_some (t.links l) || is_some (t.numbers l))
+
+pub record IsRouter (service : Service) (default : List ℕ) (log : Log) (t : Tabled) (roomy : ClientNo → Bool) : Type 0 where
+  pub core : IsCore service default log t roomy
+  pub counts : Counts
+  pub recorded : IsRecorded core.decided counts log
+  pub counted : AreCountsBy default core.decided counts log
+  pub lawful : AllLawful MayFollow log
+  pub open_just : AreOpenJust log t
+
+-- By one setup and plan the core goes on with an entry, and the counts of its deeds are those of the tale.
+pub record GoesSo (service : Service) (setup : Setup) (codes : Codes) (plan : Plan) (log : Log) (e : Entry) (d : Decided) (n : Counts) (deeds : Deeds)
+    (t now : Tabled) (roomy room : ClientNo → Bool) : Type 0 where
+  pub goes : GoesOn service setup codes plan log e d (decided_with deeds n log e d) t now roomy room
+  pub counts : AreCountsOf (counts_with deeds n log e) (tale_of setup plan (with_entry log e))
+
+-- by each that has what is decided then, and fits
+abbrev pub GoesSoBy : Service → (default : List ℕ) → Log → Entry → Decided → Counts → Deeds → (t now : Tabled) → (roomy room : ClientNo → Bool) → Type 0
+GoesSoBy service default log e d n deeds t now roomy room =
+    (setup : Setup) (codes : Codes) (plan : Plan) → IsOf (decided_with deeds n log e d) (length (with_entry log e)) plan
+    → Fits setup codes plan default (tale_of setup plan (with_entry log e))
+    → GoesSo service setup codes plan log e d n deeds t now roomy room
+
+-- What there was before an entry, by one setup and plan of what is decided behind it; and the plan has its deeds.
+pub record IsBefore (service : Service) (default : List ℕ) (log : Log) (e : Entry) (t : Tabled) (roomy : ClientNo → Bool)
+    (router : IsRouter service default log t roomy) (deeds : Deeds) (setup : Setup) (codes : Codes) (plan : Plan) : Type 0 where
+  pub of : IsOf router.core.decided (length log) plan
+  pub fits : Fits setup codes plan default (tale_of setup plan log)
+  pub rests : Rests service (ground setup codes plan router.core.decided log) t roomy
+  pub written : AreWrittenTo (ground setup codes plan router.core.decided log) log
+  pub safe : IsSafe setup plan log
+  pub counts : AreCountsOf router.counts (tale_of setup plan log)
+  pub so : AreUngiven (ground setup codes plan router.core.decided log) (λ c. is_some (deeds.given c))
+      → PlansSo (ground setup codes plan router.core.decided log) log e deeds

@@ -1,0 +1,5 @@
+pub mod Steps
+pub mod Opens
+pub mod Writes
+pub mod Loses
+pub mod Closes

@@ -1,0 +1,3 @@
+pub mod Givings
+pub mod Hears
+pub mod Hearing

@@ -1,0 +1,4 @@
+pub mod Settling
+pub mod Calling
+pub mod Waking
+pub mod Deciding

@@ -1,0 +1,48 @@
+// Links to servers are lost.
+ghost use Rattle.std.specs.Prelude.{◌≡◌, Some, true};
+ghost use Rattle.client_session.specs.Setups.{Setup as Service};
+ghost use Rattle.private_model.specs.Names.{LinkId};
+ghost use Rattle.private_model.specs.Story.{is_link_id};
+ghost use Rattle.core_tables.specs.Tables.{Tabled};
+ghost use Rattle.core_stands.specs.Grounds.{Ground};
+ghost use Rattle.core_stands.specs.Stands.{Stands};
+ghost use Rattle.core_laws.specs.parting.Partings.{AreGivenUp};
+ghost use Rattle.core_laws.specs.clients.Going.{GivenUp, told_to};
+ghost use Rattle.std.specs.Prelude.{Option};
+ghost use Rattle.std.specs.Prelude.{Bool, List, ℕ};
+ghost use Rattle.mx_wire.specs.Log.{Log};
+ghost use Rattle.mx_wire.specs.Tells.{MayFollow};
+ghost use Rattle.private_model.specs.Names.{ClientNo};
+ghost use Rattle.core_laws.specs.entry.Cores.{with_entry};
+ghost use Rattle.core_laws.specs.clients.Going.{Going};
+ghost use Rattle.router_laws.specs.decisions.Deeds.{AreAlone};
+ghost use Rattle.router_laws.specs.decisions.Goings.{deeds_of};
+ghost use Rattle.router_laws.specs.decisions.Routers.{IsRouter};
+ghost use Rattle.router_laws.specs.reading.Hearing.{TellsSo};
+ghost use Rattle.router_laws.specs.links.Loses.{Break, LosesSo, MayGiveUpWith, entry_by};
+
+/// What is given up as a link is lost stands on no other sound link.
+pub fn given_up_with_it()
+    ensures { (service : Service) (g : Ground) (t : Tabled) (l : LinkId) (given : Option GivenUp) → Stands service g t → MayGiveUpWith l given t
+        → AreGivenUp (told_to given) (λ (other : LinkId). is_link_id other l) t }
+{}
+
+/// A link to a server is lost, and whoever is called goes on.
+pub fn loses_router()
+    ensures { (service : Service) (default : List ℕ) (log : Log) (t now : Tabled) (roomy : ClientNo → Bool) (l : LinkId) (how : Break)
+        (given : Option GivenUp) (going : Option Going) → IsRouter service default log t roomy → MayFollow log (entry_by how l)
+        → AreAlone (deeds_of given going) → LosesSo service default l given going t now → TellsSo going service
+        → IsRouter service default (with_entry log (entry_by how l)) now roomy }
+{
+    core_laws::parting::lost_stands();
+    core_laws::parting::freed_stands();
+    core_laws::parting::same_stands();
+    core_laws::clients::follows_rest();
+    crate::decisions::ungiven_are_in_work();
+    crate::decisions::answers_are_kept();
+    crate::decisions::ends_go_on();
+    crate::decisions::counts_go_on();
+    crate::decisions::routers_stood();
+    crate::decisions::links_rise();
+    crate::decisions::routers_go_on();
+}

@@ -1,5 +1,0 @@
-use Rattle.taking_laws.proofs.Standing.{next_so}
-use Rattle.taking_laws.proofs.taken.next_is_taken.Goals as goal
-
-pub returns : goal.returns
-returns c = λ g t client row is. next_so g client is.up.message is.up.next.next is.up.up

@@ -1,8 +1,0 @@
-use Rattle.writing_laws.proofs.Openings.{opens}
-use Rattle.core_tables.specs.Writing.{opened}
-use Rattle.writing_laws.proofs.opening.links_open.Goals as goal
-
-pub returns : goal.returns
-returns c = λ service g t after server address l slot opening now stands new unborn apart of_server same.
-    c.same_stands.ensures service _ (opened l slot opening (g.plan.logins l) now t) after
-    (opens c.rows_open.ensures service g t server address l slot opening now stands new unborn apart of_server) same

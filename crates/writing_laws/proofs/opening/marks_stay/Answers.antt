@@ -1,8 +1,0 @@
-use Rattle.writing_laws.proofs.Marks.{drops, marks_so}
-use Rattle.writing_laws.proofs.opening.marks_stay.Goals as goal
-
-pub returns-clause-runs : goal.returns-clause-runs
-returns-clause-runs c = λ service g t l stands to_server. marks_so c.clients_at_stay.ensures c.rows_run_unseen.ensures service g t l stands
-
-pub returns-clause-drops : goal.returns-clause-drops
-returns-clause-drops c = λ service g t l stands. drops c.clients_at_stay.ensures c.rows_run_unseen.ensures service g t l stands
