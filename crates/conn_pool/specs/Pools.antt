@@ -1,6 +1,6 @@
 -- The pool. A link is open; it may be logging in, or have a step under way while it carries nobody; where nothing is under way there, it was
 -- given back, and may be lent or stands aside while its server takes none. A client waits for a link of its key.
-use Rattle.std.specs.Prelude.{◌≡◌, ℕ, ◌+◌, Bool, nat_le, nat_lt, if◌then◌else◌, length, slice_index, Option, Some, None}
+use Rattle.std.specs.Prelude.{◌≡◌, ℕ, ◌+◌, Bool, nat_le, nat_lt, if◌then◌else◌, length, slice_index, Option, Some, None, option_map}
 use Rattle.slot_lists.specs.Orders.{last}
 use Rattle.slots_by_age.specs.Aged.{Aged, of_kind, put, taken}
 use Rattle.conn_pool.specs.declared.shelf.Shelf.{Shelf}
@@ -56,9 +56,17 @@ old_enough i now_ms idle_ms (Some link) = if nat_le (slice_index i.resting.since
 abbrev pub expiring : Idle → (now_ms idle_ms : ℕ) → Option ℕ
 expiring i now_ms idle_ms = old_enough i now_ms idle_ms (last i.resting.order)
 
--- more clients of a key wait than links may be lent to them, log in or have a step under way
+-- since when the link rests that was given back longest ago
+abbrev pub rests_since : Idle → Option ℕ
+rests_since i = option_map (slice_index i.resting.since) (last i.resting.order)
+
+-- how many links of a key may be lent, log in or have a step under way
+abbrev pub coming : Links → (key : ℕ) → ℕ
+coming p key = length (of_key p.idle.lendable key) + length (of_kind p.entering key)
+
+-- more clients of a key wait than that
 abbrev pub wants_link : Links → (key : ℕ) → Bool
-wants_link p key = nat_lt (length (of_key p.idle.lendable key) + length (of_kind p.entering key)) (length (of_kind p.waiting key))
+wants_link p key = nat_lt (coming p key) (length (of_kind p.waiting key))
 
 -- each table has room for the same links, keys and servers
 

@@ -4,7 +4,7 @@ ghost use Rattle.slot_lists.specs.Orders.{last};
 ghost use Rattle.slots_by_age.specs.Aged.{IsNone, of_kind};
 ghost use Rattle.conn_pool.specs.Shelves.{Fits, best_for, longest_in, of_key, of_server, shelf_of};
 ghost use Rattle.conn_pool.specs.Sized.{IsSmall, NoneIdle};
-ghost use Rattle.conn_pool.specs.Pools.{brought_back, busy, busy_if, expiring, given_back, put_aside};
+ghost use Rattle.conn_pool.specs.Pools.{brought_back, busy, busy_if, expiring, given_back, put_aside, rests_since};
 
 use crate::lendable::Lendable;
 use crate::shelf::Shelf;
@@ -106,7 +106,9 @@ impl IdleLinks {
     }
 
     /// Since when the link rests that was given back longest ago.
-    pub fn rests_since(&self) -> Option<u64> {
+    pub fn rests_since(&self) -> Option<u64>
+        ensures { result ≡ rests_since self.now }
+    {
         let link = self.rests.resting.oldest_of_all()?;
         Some(self.rests.resting.since(link))
     }

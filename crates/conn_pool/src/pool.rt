@@ -4,7 +4,7 @@ ghost use Rattle.slot_lists.specs.Orders.{before, last};
 ghost use Rattle.slots_by_age.specs.Aged.{IsNone, of_kind, put, taken};
 ghost use Rattle.conn_pool.specs.Shelves.{Fits, best_for, longest_in, of_server, shelf_of};
 ghost use Rattle.conn_pool.specs.Sized.{IsFor, IsSmall};
-ghost use Rattle.conn_pool.specs.Pools.{brought_back, busy_if, closed, expiring, given_back, opened, put_aside, wants_link};
+ghost use Rattle.conn_pool.specs.Pools.{brought_back, busy_if, closed, coming, expiring, given_back, opened, put_aside, rests_since, wants_link};
 
 use crate::idle::IdleLinks;
 use crate::shelf::Shelf;
@@ -145,7 +145,9 @@ impl Pool {
     }
 
     /// Since when the link rests that was given back longest ago.
-    pub fn rests_since(&self) -> Option<u64> {
+    pub fn rests_since(&self) -> Option<u64>
+        ensures { result ≡ rests_since self.now.idle }
+    {
         self.idle.rests_since()
     }
 
@@ -225,9 +227,10 @@ impl Pool {
         self.waiting.since(client)
     }
 
-    /// How many links of a key may be lent, or log in.
+    /// How many links of a key may be lent, log in, or have a step under way.
     pub fn coming(&self, key: u32) -> u64
         requires { key < self.now.idle.lendable.keys }
+        ensures { result ≡ coming self.now key }
     {
         u64::from(self.idle.count(key)) + u64::from(self.logins.entering.count(key))
     }
@@ -237,9 +240,7 @@ impl Pool {
         requires { key < self.now.idle.lendable.keys }
         ensures { result ≡ wants_link self.now key }
     {
-        let lendable = u64::from(self.idle.count(key));
-        let entering = u64::from(self.logins.entering.count(key));
-        lendable + entering < u64::from(self.waiting.count(key))
+        self.coming(key) < u64::from(self.waiting.count(key))
     }
 }
 
