@@ -29,7 +29,7 @@ use Rattle.router_promises.specs.Router as routers
 use Rattle.router_promises.specs.Router.{Router, service_of}
 use Rattle.router_promises.specs.Terms.{AreWhoTheySay, IsWhoItSays, Terms, plan_in, setup_in}
 use Rattle.core_promises.specs.Sessions.{KeepsApart, Separates}
-use Rattle.core_promises.proofs.Past.{lawful_at, said_at}
+use Rattle.core_promises.proofs.Past.{lawful_at}
 use Rattle.core_promises.proofs.Who.{decided_by, terms_by, who_at}
 
 abbrev no_codes : Codes
@@ -106,7 +106,7 @@ module _ (router : Router) (log : Log) (t : Tabled) (roomy : ClientNo → Bool)
           router = record { service = rests.stands.service_is; room = rests.stands.room_is };
           fits = fits;
           who = who_at router plan base log stored;
-          said = λ n. said_at (setup_in terms) plan n log safe.said;
+          said = safe.said;
           lawful = λ n. lawful_at (setup_in terms) plan n log rests.stands.lawful;
           due = safe.written;
         }

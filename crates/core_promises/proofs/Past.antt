@@ -1,5 +1,5 @@
--- What is so of a whole log is so at each moment of it: its story is lawful, and what is written on links is what there is to say there.
-use Rattle.std.specs.Prelude.{◌≡◌, ℕ, zero, suc, drop, fold, take, List, [], ◌∷◌, ◌++◌}
+-- A story that is lawful for a whole log is lawful at each moment of it.
+use Rattle.std.specs.Prelude.{◌≡◌, ℕ, drop, fold, take, List, [], ◌∷◌, ◌++◌}
 use Rattle.std.proofs.Common.{refl, sym, ap, ◌∙◌, subst, append_assoc, take-append-drop}
 use Rattle.std.proofs.lemmas.List.Sums.{fold-append}
 use Rattle.mx_wire.specs.Log.{Log}
@@ -10,7 +10,6 @@ use Rattle.private_model.specs.View.{Setup}
 use Rattle.log_story.proofs.Walking.{Kept, step_keeps}
 use Rattle.log_story.specs.Headline.{tale_of}
 use Rattle.log_story.specs.Plan.{Plan}
-use Rattle.log_story.specs.Said.{SaysFrom, SaysSo}
 use Rattle.log_story.specs.Tale.{Tale, first_tale}
 use Rattle.log_story.specs.Telling.{tale_step}
 
@@ -53,12 +52,3 @@ module _ (setup : Setup) (plan : Plan) where
       let is : IsLater early.story (tale_of setup plan log).story =
       subst (λ (t : Tale). IsLater early.story t.story) whole (later_from early (drop n log)) in
       lawful_before setup is.more early.story (subst (IsLawful setup) is.is lawful)
-
-  said_from : (n : ℕ) (tale : Tale) (log : Log) → SaysFrom setup plan tale log → SaysSo setup plan (fold (tale_step setup plan) tale (take n log))
-  said_from zero tale [] said = said
-  said_from zero tale (e ∷ log) said = said.0
-  said_from (suc n) tale [] said = said
-  said_from (suc n) tale (e ∷ log) said = said_from n (tale_step setup plan tale e) log said.2
-
-  pub said_at : (n : ℕ) (log : Log) → SaysFrom setup plan first_tale log → SaysSo setup plan (tale_of setup plan (take n log))
-  said_at n log said = said_from n first_tale log said

@@ -1,22 +1,24 @@
 -- What the router promises of its clients' sessions: no client sees another's.
 use Rattle.std.specs.Prelude.{ℕ, List}
 use Rattle.mx_config.specs.declared.config.Config.{Config}
+use Rattle.log_story.specs.Said.{IsSaidLog}
 use Rattle.mx_wire.specs.Log.{Log}
 use Rattle.mx_wire.specs.Moments.{AllLawful, AtEachMoment}
 use Rattle.mx_wire.specs.Tells.{Fits}
 use Rattle.private_model.specs.Names.{ServerId}
 use Rattle.router_promises.specs.Due.{DueSo}
-use Rattle.router_promises.specs.Headline.{IsLawfulSo, SaysSo}
+use Rattle.router_promises.specs.Headline.{IsLawfulSo}
 use Rattle.router_promises.specs.Router.{IsConfiguredBy, Router}
-use Rattle.router_promises.specs.Terms.{AreWhoTheySay, Decided, IsRouters, Terms}
+use Rattle.router_promises.specs.Terms.{AreWhoTheySay, Decided, IsRouters, Terms, plan_in, setup_in}
 
 -- The log is one of a wire. Of each moment: clients are who they say, and begin where they say; each question's bytes are a front of its
--- spelling; the story is lawful, so that no session is lent that another's is in; and each client's bytes are a front of what it is due.
+-- spelling, and nothing begins on a link before what was begun there is whole; the story is lawful, so that no session is lent that another's
+-- is in; and each client's bytes are a front of what it is due.
 pub record KeepsApart (terms : Terms) (log : Log) : Type 0 where
   pub router : IsRouters terms
   pub fits : AllLawful Fits log
   pub who : AtEachMoment (AreWhoTheySay terms) log
-  pub said : AtEachMoment (SaysSo terms) log
+  pub said : IsSaidLog (setup_in terms) (plan_in terms) log
   pub lawful : AtEachMoment (IsLawfulSo terms) log
   pub due : AtEachMoment (DueSo terms) log
 

@@ -3,4 +3,4 @@
 
 mod sessions;
 
-pub use sessions::cores_keep_apart;
+pub use sessions::{apart_is_private, cores_keep_apart};

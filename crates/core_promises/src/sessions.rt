@@ -1,15 +1,23 @@
 // The core keeps its clients' sessions apart.
 ghost use Rattle.std.specs.Prelude.{◌≡◌, Bool, None, Some};
 ghost use Rattle.core_tables.specs.Tables.{Tabled};
-ghost use Rattle.core_promises.specs.Sessions.{Separates};
+ghost use Rattle.core_promises.specs.Sessions.{KeepsApart, Separates};
 ghost use Rattle.core_laws.specs.entry.Tells.{IsCore};
+ghost use Rattle.log_story.specs.Assumed.{AreHonest};
+ghost use Rattle.log_story.specs.Headline.{WritesPrivate};
 ghost use Rattle.log_story.specs.Plan.{Route};
 ghost use Rattle.mx_wire.specs.Log.{Log};
-ghost use Rattle.mx_wire.specs.Moments.{AllLawful};
+ghost use Rattle.mx_wire.specs.Moments.{AllLawful, AtEachMoment};
 ghost use Rattle.mx_wire.specs.Tells.{Fits};
+ghost use Rattle.private_model.specs.Honest.{IsAccepted};
 ghost use Rattle.private_model.specs.Names.{ClientNo, MessageName};
 ghost use Rattle.router_promises.specs.Router.{Router, service_of};
+ghost use Rattle.router_promises.specs.Terms.{Terms, plan_in, setup_in};
 ghost use Rattle.row_laws.specs.Readied.{AreClasses};
+ghost use Rattle.server_rule.specs.Laws.{IsTame};
+ghost use Rattle.server_rule.specs.Servers.{Step, Tests};
+
+use log_story::written_is_private;
 
 /// Where tables stand for a log of a wire, as a core by what a router serves, and no message goes to two servers, the router keeps its
 /// clients apart in that log.
@@ -19,3 +27,15 @@ pub fn cores_keep_apart()
         → ((m : MessageName) (route : Route) → core.decided.routes m ≡ Some (Some route) → route.mirror ≡ None)
         → AllLawful Fits log → Separates router log }
 {}
+
+/// Where servers are tame and answer honestly, what was written to each client of a router that keeps its clients apart, but for a last word
+/// to it, is at each moment a front of what sessions of its own would have answered it.
+pub fn apart_is_private()
+    ensures { (terms : Terms) (tests : Tests) (server : Step) (log : Log)
+        → IsTame terms.router.reads tests server
+        → IsAccepted (setup_in terms) tests → KeepsApart terms log
+        → AreHonest (setup_in terms) (plan_in terms) server log
+        → AtEachMoment (WritesPrivate (setup_in terms) (plan_in terms) server) log }
+{
+    written_is_private();
+}
