@@ -18,3 +18,8 @@ pub mod LossRests
 pub mod LossOnward
 pub mod Saying
 pub mod Farewells
+pub mod Supposing
+pub mod Answering
+pub mod Ended
+pub mod EndedRests
+pub mod EndedRouted

@@ -24,7 +24,6 @@ use Rattle.router_laws.specs.decisions.Routers.{IsRouter}
 use Rattle.core_laws.specs.entry.Cores.{with_entry}
 use Rattle.core_laws.specs.clients.Going.{GivenUp, Going, IsCalled, is_going, told_to}
 use Rattle.router_laws.specs.quiet.Quiet.{is_quiet}
-use Rattle.router_laws.specs.reading.Hearing.{TellsSo}
 use Rattle.ready_loop.specs.Machine.{IsFarewell, IsPartOf}
 use Rattle.router_laws.proofs.OfLinks.Routing.{none_idle}
 use Rattle.router_laws.proofs.OfLinks.Saying.{closes_lost, closes_then, wrote_before}
@@ -43,7 +42,7 @@ pub record Laws : Type 0 where
       → IsRouter service default (with_entry log (entry.Wrote l offer.tag (take count offer.bytes))) now roomy
   pub loses : (service : Service) (default : List ℕ) (log : Log) (t now : Tabled) (roomy : ClientNo → Bool) (l : LinkId) (how : Break)
       (given : Option GivenUp) (going : Option Going) → IsRouter service default log t roomy → MayFollow log (entry_by how l)
-      → AreAlone (deeds_of given going) → LosesSo service default l given going t now → TellsSo going service
+      → AreAlone (deeds_of given going) → LosesSo service default l given going t now
       → IsRouter service default (with_entry log (entry_by how l)) now roomy
   pub closes : (service : Service) (default : List ℕ) (log : Log) (t now : Tabled) (roomy room : ClientNo → Bool) (l : LinkId)
       → IsRouter service default log t roomy → MayFollow log (entry.Closed l) → ((c : ClientNo) → room c ≡ false → roomy c ≡ false)
@@ -144,7 +143,7 @@ module _ (laws : Laws) (service : Service) (default : List ℕ) (log marks : Log
         loses = given_nobody x;
         called = none_called (name_in says.server.row.link.state.carries) refl;
         goes = same_itself x;
-      }) tt)
+      }))
       (closes_lost l room t x may (same_itself x))
 
   part_of : (to : LinkId) (tag : Tag) (bytes : List ℕ) → to ≡ l → IsPartOf lent tag bytes → Goes (entry.Wrote to tag bytes)

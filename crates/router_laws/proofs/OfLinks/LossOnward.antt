@@ -112,14 +112,14 @@ lost_closes setup tale ReadEnds l = tt
 lost_closes setup tale ReadFails l = tt
 lost_closes setup tale WriteFails l = tt
 
-lost_begins : (setup : Setup) (tale : Tale) (how : Break) (l : LinkId) (decided : Deeds) → BeginsSo setup tale (entry_by how l) decided
+pub lost_begins : (setup : Setup) (tale : Tale) (how : Break) (l : LinkId) (decided : Deeds) → BeginsSo setup tale (entry_by how l) decided
 lost_begins setup tale ReadEnds l decided = tt
 lost_begins setup tale ReadFails l decided = tt
 lost_begins setup tale WriteFails l decided = tt
 
 -- No client and no link comes or goes by it.
 
-lost_keeps : (given : ClientNo → Option (List ℕ)) (l : LinkId) (t : Tabled) → KeepsRows t (given_up_in given (lost_in l t))
+pub lost_keeps : (given : ClientNo → Option (List ℕ)) (l : LinkId) (t : Tabled) → KeepsRows t (given_up_in given (lost_in l t))
 lost_keeps given l t =
     let gone : Tabled = changed_at gone_row (present_in l t) t in
     let lost : Tabled = lost_in l t in

@@ -7,6 +7,7 @@ use Rattle.mx_base.specs.declared.names.Hostgroup.{Hostgroup}
 use Rattle.mx_base.specs.declared.names.LinkId.{LinkId}
 use Rattle.mx_wire.specs.declared.entry.Entry.{Entry}
 use Rattle.mx_wire.specs.declared.entry.Entry.TheVariants.{Ended, ReadFailed, WriteFailed}
+use Rattle.private_model.specs.Story.{is_hostgroup}
 use Rattle.session_state.specs.declared.names.SessionName.{SessionName}
 use Rattle.client_session.specs.Setups.{Setup as Service}
 use Rattle.client_seat.specs.Seats.{ended}
@@ -58,9 +59,11 @@ pub record LosesEnded (l : LinkId) (c : ClientNo) (links : List LinkId) (old new
   pub name : SessionName
   pub carries : present_in l old ≡ Some name
   pub its : name.client ≡ c
+  pub lives : suc name.life < 2 ^ 64
   pub row : Client
   pub work : Work
   pub at_work : IsAtWork old c row work
+  pub there : is_hostgroup work.hostgroup name.hostgroup ≡ true
   pub homes : AreHomesOf c links (lost_in l old)
   pub parted : Tabled
   pub parts : LeavesThere c (lost_in l old) parted

@@ -18,8 +18,7 @@ ghost use Rattle.core_laws.specs.clients.Going.{Going};
 ghost use Rattle.router_laws.specs.decisions.Deeds.{AreAlone};
 ghost use Rattle.router_laws.specs.decisions.Goings.{deeds_of};
 ghost use Rattle.router_laws.specs.decisions.Routers.{IsRouter};
-ghost use Rattle.router_laws.specs.reading.Hearing.{TellsSo};
-ghost use Rattle.router_laws.specs.links.Loses.{Break, LosesSo, MayGiveUpWith, entry_by};
+ghost use Rattle.router_laws.specs.links.Loses.{Break, LosesEnded, LosesSo, MayGiveUpWith, entry_by};
 
 /// What is given up as a link is lost stands on no other sound link.
 pub fn given_up_with_it()
@@ -31,13 +30,14 @@ pub fn given_up_with_it()
 pub fn loses_router()
     ensures { (service : Service) (default : List ℕ) (log : Log) (t now : Tabled) (roomy : ClientNo → Bool) (l : LinkId) (how : Break)
         (given : Option GivenUp) (going : Option Going) → IsRouter service default log t roomy → MayFollow log (entry_by how l)
-        → AreAlone (deeds_of given going) → LosesSo service default l given going t now → TellsSo going service
+        → AreAlone (deeds_of given going) → LosesSo service default l given going t now
         → IsRouter service default (with_entry log (entry_by how l)) now roomy }
 {
     core_laws::parting::lost_stands();
     core_laws::parting::freed_stands();
     core_laws::parting::same_stands();
     core_laws::clients::follows_rest();
+    core_laws::clients::told_stands();
     crate::decisions::ungiven_are_in_work();
     crate::decisions::answers_are_kept();
     crate::decisions::ends_go_on();
@@ -45,4 +45,18 @@ pub fn loses_router()
     crate::decisions::routers_stood();
     crate::decisions::links_rise();
     crate::decisions::routers_go_on();
+}
+
+/// And with it the client ends whose present session it carries.
+pub fn loses_ended_router()
+    ensures { (service : Service) (default : List ℕ) (log : Log) (t now : Tabled) (roomy : ClientNo → Bool) (l : LinkId) (how : Break) (c : ClientNo)
+        (links : List LinkId) → IsRouter service default log t roomy → MayFollow log (entry_by how l) → LosesEnded l c links t now
+        → IsRouter service default (with_entry log (entry_by how l)) now roomy }
+{
+    core_laws::parting::lost_stands();
+    core_laws::parting::left_stands();
+    core_laws::parting::freed_stands();
+    core_laws::parting::same_stands();
+    core_laws::parting::lawful_homes();
+    core_laws::entry::links_are_given_back();
 }

@@ -1,10 +1,11 @@
 use Rattle.router_laws.proofs.OfLinks.LossOnward.{goes_so, loses_keep_rows, loses_open}
+use Rattle.router_laws.proofs.OfWakes.Told.{tells_going}
 use Rattle.router_laws.specs.decisions.Goings.{deeds_of}
 use Rattle.router_laws.specs.links.Loses.{entry_by}
 use Rattle.router_laws.proofs.links.losing.loses_router.Goals as goal
 
 pub returns : goal.returns
-returns c = λ service default log t now roomy l how given going router follow alone so tells.
+returns c = λ service default log t now roomy l how given going router follow alone so.
     c.routers_go_on.ensures service default log (entry_by how l) (deeds_of given going) t now roomy roomy router follow alone
     (λ setup codes plan of fits.
     goes_so (record {
@@ -17,5 +18,5 @@ returns c = λ service default log t now roomy l how given going router follow a
       counts = c.counts_go_on.ensures;
       stood = c.routers_stood.ensures;
       rise = c.links_rise.ensures.tale;
-    }) service default log t now roomy l how given going router follow so tells setup codes plan of fits)
+    }) service default log t now roomy l how given going router follow so (tells_going c.told_stands.ensures going service) setup codes plan of fits)
     (loses_open log t now how l router.open_just (loses_keep_rows service default l given going t now so))
