@@ -1,0 +1,137 @@
+// What is asked for: closes first, and then opens.
+
+use crate::policy::Policy;
+use crate::todo::{MAY_WANT, no_room};
+use core_service::Service;
+use core_tables::Tables;
+use mx_base::{Address, ClientNo, Hostgroup, LinkId, ServerId};
+
+/// The link that is being opened: at which server, where that is, and for which key.
+#[derive(Clone, Copy)]
+pub struct Asked {
+    pub server: ServerId,
+    pub address: Address,
+    pub key: u32,
+}
+
+/// What is asked for next.
+#[derive(Clone, Copy)]
+pub enum Asks {
+    /// The link of this client is closed.
+    Parts { client: ClientNo, link: LinkId },
+    /// This link to a server is closed.
+    Closes { link: LinkId },
+    /// A link is opened.
+    Opens(Asked),
+}
+
+impl Policy {
+    /// What is asked for next. Takes no memory.
+    pub fn asks(&mut self, tables: &Tables, service: &Service) -> Option<Asks> {
+        if let Some(part) = self.next_parting(tables) {
+            return Some(part);
+        }
+        if let Some(close) = self.next_close() {
+            return Some(close);
+        }
+        self.next_open(service)
+    }
+
+    // The next client that parts.
+    fn next_parting(&mut self, tables: &Tables) -> Option<Asks> {
+        let slot = self.todo.clients.parts.pop()?;
+        let client = self.client_at(slot)?;
+        let link = tables.clients.get(&client.0)?.desk.seat.link;
+        Some(Asks::Parts { client, link })
+    }
+
+    // The next link to a server that is closed.
+    fn next_close(&mut self) -> Option<Asks> {
+        let slot = self.todo.links.closes.pop()?;
+        let link = self.link_at(slot)?;
+        Some(Asks::Closes { link })
+    }
+
+    /// A link that is to be closed can't be yet, since a statement is due in the session that it carries: that is given up at the next wake.
+    /// Takes no memory.
+    pub fn holds(&mut self, link: LinkId) {
+        if let Some(part) = self.link(link) {
+            self.todo.links.held.put(part.slot, 0, 0);
+        }
+    }
+
+    /// Whether more of a key wait for whom no link is readied than there are links that may be lent, log in, or end a step.
+    pub(crate) fn wants_link(&self, key: u32) -> bool {
+        self.pool.coming(key) < u64::from(self.unserved.count(key))
+    }
+
+    /// A key may want a link more.
+    pub(crate) fn may_want(&mut self, key: u32) {
+        self.todo.keys.opens.put(key, MAY_WANT, 0);
+    }
+
+    /// There may be room for a link more in a hostgroup. Takes no memory.
+    pub(crate) fn has_room(&mut self, hostgroup: Hostgroup) {
+        self.todo.keys.rooms.put(u32::from(hostgroup.0), 0, 0);
+    }
+
+    /// There may be room for one in the hostgroup of a key. Takes no memory.
+    pub(crate) fn room_for(&mut self, key: u32) {
+        if let Some(row) = self.keys.row(key) {
+            let hostgroup = row.hostgroup;
+            self.has_room(hostgroup);
+        }
+    }
+
+    // The next key that may want a link, or that found no room in a hostgroup in which there may be some now.
+    fn next_key(&mut self) -> Option<u32> {
+        if let Some(key) = self.todo.keys.opens.oldest(MAY_WANT) {
+            return Some(key);
+        }
+        for _ in 0..u32::MAX {
+            let hostgroup = self.todo.keys.rooms.oldest_of_all()?;
+            if let Some(key) = self.todo.keys.opens.oldest(no_room(hostgroup)) {
+                return Some(key);
+            }
+            self.todo.keys.rooms.take(hostgroup);
+        }
+        None
+    }
+
+    // What is opened next, or closed to make room for that.
+    fn next_open(&mut self, service: &Service) -> Option<Asks> {
+        for _ in 0..u32::MAX {
+            let key = self.next_key()?;
+            if let Some(asks) = self.open_for(service, key) {
+                return Some(asks);
+            }
+        }
+        None
+    }
+
+    fn open_for(&mut self, service: &Service, key: u32) -> Option<Asks> {
+        self.todo.keys.opens.take(key);
+        if !self.wants_link(key) {
+            return None;
+        }
+        let hostgroup = self.keys.row(key)?.hostgroup;
+        if let Some(server) = self.servers.pick(hostgroup, self.pool.connections()) {
+            let address = self.servers.row(server)?.address;
+            self.may_want(key);
+            return Some(Asks::Opens(Asked {
+                server,
+                address,
+                key,
+            }));
+        }
+        if let Some(slot) = self.pool.evict(service.group(hostgroup)) {
+            self.todo.links.closes.put(slot, 0, 0);
+            self.may_want(key);
+            return self.next_close();
+        }
+        let group = u32::from(hostgroup.0);
+        self.todo.keys.opens.put(key, no_room(group), 0);
+        self.todo.keys.rooms.take(group);
+        None
+    }
+}

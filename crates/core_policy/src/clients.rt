@@ -1,0 +1,93 @@
+// Clients come, change and go.
+
+use crate::parts::ClientPart;
+use crate::policy::Policy;
+use client_seat::Phase;
+use core_service::Service;
+use core_tables::{Client, Tables};
+use mx_base::{ClientNo, OutOfMemory, Port};
+
+/// Whether no more is read of a client.
+pub(crate) fn is_ended(row: &Client) -> bool {
+    match row.desk.seat.phase {
+        Phase::Ended => true,
+        _ => false,
+    }
+}
+
+impl Policy {
+    /// Whether one more client is served that came at this port.
+    pub fn serves(&self, service: &Service, port: Port) -> bool {
+        port == Port::Traffic && self.here < u64::from(service.setup.max_clients())
+    }
+
+    /// A client comes at this moment, and is served or turned away.
+    pub fn comes(&mut self, client: ClientNo, served: bool, now: u64) -> Result<(), OutOfMemory> {
+        let Some(slot) = self.client_slots.take(client.0)? else {
+            return Ok(());
+        };
+        let part = ClientPart {
+            slot,
+            waits: None,
+            served,
+            ended: false,
+            counted: 0,
+        };
+        self.clients.insert(client.0, part)?;
+        if served {
+            self.here = self.here.saturating_add(1);
+            self.todo.clients.logins.put(slot, 0, now);
+        }
+        Ok(())
+    }
+
+    /// Something changed of a client: its statement waits for a link, or waits no more; it ended, or was told all. Takes no memory.
+    pub fn client_changed(&mut self, tables: &Tables, client: ClientNo, now: u64) {
+        let Some(row) = tables.clients.get(&client.0) else {
+            return;
+        };
+        self.leaves_if_behind(client, row);
+        self.waits_if_due(client, row);
+        self.counts(client, row);
+        if is_ended(row) {
+            self.ended(client, row, now);
+        }
+        self.logs_in(client, row);
+    }
+
+    // It ended: its link closes once all is written, or its time is over.
+    fn ended(&mut self, client: ClientNo, row: &Client, now: u64) {
+        let Some(part) = self.clients.get_mut(&client.0) else {
+            return;
+        };
+        if !part.ended {
+            part.ended = true;
+            self.todo.clients.leavers.put(part.slot, 0, now);
+        }
+        if row.desk.seat.outgoing().is_empty() {
+            self.todo.clients.parts.put(part.slot, 0, 0);
+        }
+    }
+
+    /// A client parts: its link is closed next, whatever is left to write there. Takes no memory.
+    pub fn parts(&mut self, client: ClientNo) {
+        if let Some(part) = self.client(client) {
+            self.todo.clients.parts.put(part.slot, 0, 0);
+        }
+    }
+
+    /// A client is no more. Takes no memory.
+    pub fn forget_client(&mut self, client: ClientNo) {
+        let Some(part) = self.client(client) else {
+            return;
+        };
+        if part.served {
+            self.here = self.here.saturating_sub(1);
+        }
+        self.kept = self.kept.saturating_sub(part.counted);
+        self.leaves_queue(client);
+        self.todo.forget_client(part.slot);
+        self.client_slots.leave(part.slot);
+        let _ = self.clients.remove(&client.0);
+    }
+}

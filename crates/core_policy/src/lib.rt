@@ -1,0 +1,29 @@
+//! What the router over shared links chooses: who waits for which link, which link is lent, opened and closed, and which statements are given
+//! up. It looks at the core's tables, and changes none.
+#![tactic(auto)]
+
+mod asks;
+mod clients;
+mod deed;
+mod hearing;
+mod keys;
+mod lending;
+mod links;
+mod logins;
+mod looking;
+mod losing;
+mod measure;
+mod parts;
+mod policy;
+mod slots;
+mod steps;
+mod todo;
+mod verdict;
+mod waiting;
+mod waking;
+
+pub use asks::{Asked, Asks};
+pub use deed::Deed;
+pub use links::Login;
+pub use policy::Policy;
+pub use verdict::{GiveUp, Verdict};

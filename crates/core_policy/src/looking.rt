@@ -1,0 +1,164 @@
+// What is done next.
+
+use crate::deed::Deed;
+use crate::keys::Keys;
+use crate::policy::{Policy, server_place};
+use crate::steps::begins_on;
+use conn_pool::Shelf;
+use core_service::Service;
+use core_tables::{Server, Tables};
+use hostgroups::ServerStatus;
+use mx_base::{LinkId, OutOfMemory, ServerId};
+use served_link::{Outside, Row};
+
+fn take_spot(keys: &mut Keys, row: &Row) -> Result<Option<u32>, OutOfMemory> {
+    let settings = &row.link.state.told.settings;
+    match &row.link.state.told.schema {
+        Some(schema) => keys.take_spot(row.key, schema.as_slice(), settings),
+        None => keys.take_spot(row.key, &[0], settings),
+    }
+}
+
+// It may be lent.
+fn is_lendable(row: &Row) -> bool {
+    row.is_vacant() && row.readied.is_none() && !row.is_spoilt(false) && !row.amiss
+}
+
+impl Policy {
+    /// What is done next to the tables, where anything is: links that are readied for who waits no more are nobody's; statements wait;
+    /// links are looked at of which something changed; and links are lent.
+    pub fn deed(
+        &mut self,
+        tables: &Tables,
+        service: &Service,
+        now: u64,
+    ) -> Result<Option<Deed>, OutOfMemory> {
+        if let Some(deed) = self.unready(tables, now) {
+            return Ok(Some(deed));
+        }
+        self.queue_anew(tables)?;
+        if let Some(deed) = self.look(tables, service, now)? {
+            return Ok(Some(deed));
+        }
+        self.lend(tables)
+    }
+
+    // Links are looked at of which something changed.
+    fn look(
+        &mut self,
+        tables: &Tables,
+        service: &Service,
+        now: u64,
+    ) -> Result<Option<Deed>, OutOfMemory> {
+        for _ in 0..u32::MAX {
+            let Some(slot) = self.todo.links.looks.pop() else {
+                return Ok(None);
+            };
+            if let Some(link) = self.link_at(slot) {
+                if let Some(deed) = self.look_on(tables, service, link, now)? {
+                    return Ok(Some(deed));
+                }
+            }
+        }
+        Ok(None)
+    }
+
+    // What else decides whether a link is closed.
+    fn outside(&self, service: &Service, server: ServerId, now: u64) -> Outside {
+        Outside {
+            off: self.servers.status(server) == Some(ServerStatus::OfflineHard),
+            soft: self.servers.status(server) == Some(ServerStatus::OfflineSoft),
+            crowded: false,
+            now,
+            idle_ms: service.idle_ms,
+        }
+    }
+
+    // What stands next there is taken back first.
+    fn look_on(
+        &mut self,
+        tables: &Tables,
+        service: &Service,
+        link: LinkId,
+        now: u64,
+    ) -> Result<Option<Deed>, OutOfMemory> {
+        let Some(server) = tables.links.get(&link.0) else {
+            return Ok(None);
+        };
+        let row = &server.row;
+        if row.link.next.is_some() {
+            self.look_at(link);
+            return Ok(Some(Deed::TakeBack { link }));
+        }
+        if self.is_cut(link) || row.is_to_close(self.outside(service, row.link.server, now)) {
+            return Ok(self.closes(tables, link, server));
+        }
+        if is_lendable(row) {
+            self.rests(service, link, row, now)?;
+        }
+        if row.may_take() {
+            begins_on(self.alloc, tables, link, row)
+        } else {
+            Ok(None)
+        }
+    }
+
+    // Whether an answer came there before the question was written whole.
+    fn is_cut(&self, link: LinkId) -> bool {
+        match self.link(link) {
+            Some(part) => part.cut,
+            None => false,
+        }
+    }
+
+    // A link is to be closed: for whom it is readied waits for another, and it is told QUIT, where that may begin.
+    fn closes(&mut self, tables: &Tables, link: LinkId, server: &Server) -> Option<Deed> {
+        if let Some(client) = server.row.readied {
+            self.unserved_again(tables, client);
+            self.look_at(link);
+            return Some(Deed::Unready { link, client });
+        }
+        if let Some(part) = self.link(link) {
+            self.todo.links.closes.put(part.slot, 0, 0);
+        }
+        if server.row.may_part() && !self.is_cut(link) {
+            Some(Deed::BeginQuit { link })
+        } else {
+            None
+        }
+    }
+
+    // It stands in the pool from now on, if it doesn't. One whose server isn't ONLINE stands aside.
+    fn rests(
+        &mut self,
+        service: &Service,
+        link: LinkId,
+        row: &Row,
+        now: u64,
+    ) -> Result<(), OutOfMemory> {
+        let Some(part) = self.links.get_mut(&link.0) else {
+            return Ok(());
+        };
+        if part.spot.is_some() {
+            return Ok(());
+        }
+        let Some(spot) = take_spot(&mut self.keys, row)? else {
+            return Ok(());
+        };
+        part.spot = Some(spot);
+        let server = server_place(row.link.server);
+        let shelf = Shelf {
+            key: row.key,
+            place: spot,
+            group: service.group(row.hostgroup),
+            server,
+        };
+        self.pool.logged_in(part.slot);
+        self.pool.give_back(part.slot, &shelf, row.used);
+        self.todo.keys.lends.put(row.key, 0, 0);
+        if self.servers.status(row.link.server) != Some(ServerStatus::Online) {
+            let _ = self.pool.put_aside(server, now);
+        }
+        Ok(())
+    }
+}

@@ -1,0 +1,43 @@
+// How many bytes of clients are kept.
+
+use crate::clients::is_ended;
+use crate::policy::Policy;
+use core_service::{Failure, Service};
+use core_tables::{Client, Tables};
+use mx_base::ClientNo;
+
+impl Policy {
+    // How many bytes of a client count is brought up to date.
+    pub(crate) fn counts(&mut self, client: ClientNo, row: &Client) {
+        let Some(part) = self.clients.get_mut(&client.0) else {
+            return;
+        };
+        let kept = if is_ended(row) {
+            0
+        } else {
+            row.desk.seat.kept()
+        };
+        let others = self.kept.saturating_sub(part.counted);
+        part.counted = kept;
+        self.kept = others.saturating_add(kept);
+    }
+
+    /// The last word to a client that sent or announced too much for all that is kept. It is measured where nothing of it is in work.
+    pub fn last_word(
+        &self,
+        tables: &Tables,
+        service: &Service,
+        client: ClientNo,
+    ) -> Option<Failure> {
+        let row = tables.clients.get(&client.0)?;
+        let announced = row.desk.seat.lacking();
+        let fits = self.kept.saturating_add(announced) <= service.buffer_budget;
+        if is_ended(row) || !row.desk.seat.answered || fits {
+            return None;
+        }
+        Some(Failure::BuffersFull {
+            kept: self.kept,
+            announced,
+        })
+    }
+}
