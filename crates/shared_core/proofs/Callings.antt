@@ -1,0 +1,225 @@
+-- Statements are given up and clients are called: what the router makes of that carries it over the entry.
+use Rattle.std.specs.Prelude.{◌≡◌, ◌<◌, ◌||◌, ℕ, Bool, true, false, All, is_some, map, nat_eq, not, if◌then◌else◌, List, [], ◌∷◌, ◌++◌, Option, Some, None}
+use Rattle.std.specs.Option.{option_map}
+use Rattle.std.proofs.Common.{refl, sym, ap, ◌∙◌, subst}
+use Rattle.std.proofs.lemmas.Bool.{true≢false}
+use Rattle.std.proofs.lemmas.List.Elements.{All-cons, All-nil}
+use Rattle.mx_base.specs.declared.names.Address.{Address}
+use Rattle.mx_base.specs.declared.names.ClientNo.{ClientNo}
+use Rattle.mx_base.specs.declared.names.LinkId.{LinkId}
+use Rattle.mx_base.specs.declared.names.ServerId.{ServerId}
+use Rattle.mx_wire.specs.Log.{Log}
+use Rattle.mx_wire.specs.Tells.{MayFollow}
+use Rattle.mx_wire.specs.declared.entry.Entry.TheVariants.{OpenFailed, Woke}
+use Rattle.client_session.specs.Setups.{Setup}
+use Rattle.private_model.proofs.Maps.{client_of}
+use Rattle.private_model.specs.Story.{is_client}
+use Rattle.client_seat.specs.Seats.{is_ended}
+use Rattle.core_service.specs.declared.service.Service.{Service}
+use Rattle.core_tables.specs.Parting.{given_row, given_up}
+use Rattle.core_tables.specs.Tables.{IsSame, Tabled}
+use Rattle.core_tables.specs.declared.client.Client.{Client}
+use Rattle.core_laws.specs.clients.Going.{GivenUp, is_going}
+use Rattle.core_laws.specs.entry.Cores.{with_entry}
+use Rattle.router_laws.specs.decisions.Routers.{IsRouter}
+use Rattle.router_laws.specs.wakes.Calling.{Caller, GivesUpAll, IsThere, is_called, is_given}
+use Rattle.router_laws.specs.wakes.Deciding.{AreAloneAll}
+use Rattle.router_laws.specs.wakes.Waking.{FailsSo, WakesSo}
+use Rattle.router_laws.proofs.OfWakes.Settled.{same_itself}
+use Rattle.shared_core.specs.Follows.{AreRising, HasAnswered, HaveFollowed, is_of}
+use Rattle.shared_core.specs.Stands.{Carries, is_roomy, tables}
+use Rattle.shared_core.specs.Wakes.{AreCalled, HasFailed, HasWoken, HaveGivenUp, IsWaiting}
+use Rattle.shared_core.specs.declared.roomy.Roomy.{Roomy}
+use Rattle.shared_core.specs.declared.router.Router.{Router}
+use Rattle.shared_core.proofs.Carrying.{carries_by, none_come}
+use Rattle.shared_core.proofs.Goings.{called-so}
+use Rattle.shared_core.proofs.Numbers.{or_by, or_first, there_by}
+use Rattle.shared_core.proofs.Rooming.{or_true}
+use Rattle.shared_core.proofs.Tabling.{tables_are}
+
+-- Who goes on does so still as a statement is given up.
+
+going_row : (payload : List ℕ) (row : Option Client) → is_going (option_map (given_row (Some payload)) row) ≡ is_going row
+going_row payload (Some row) = refl
+going_row payload None = refl
+
+going_still : (c : ClientNo) (payload : List ℕ) (old new : Tabled) → IsSame new (given_up c payload old) → (d : ClientNo)
+    → is_going (new.clients d) ≡ is_going (old.clients d)
+going_still c payload old new same d = ap is_going (same.clients d) ∙ by (nat_eq c.0 d.0) refl where
+  by : (b : Bool) → nat_eq c.0 d.0 ≡ b
+      → is_going (if b then option_map (given_row (Some payload)) (old.clients c) else old.clients d) ≡ is_going (old.clients d)
+  by true is = going_row payload (old.clients c) ∙ ap (λ (n : ClientNo). is_going (old.clients n)) (client_of c d is)
+  by false is = refl
+
+all_going : (given : List GivenUp) (old new : Tabled) → GivesUpAll given old new → (d : ClientNo) → is_going (new.clients d) ≡ is_going (old.clients d)
+all_going [] old new same d = ap is_going (same.clients d)
+all_going (up ∷ others) old new gives d =
+    all_going others gives.0 new gives.2 d ∙ going_still up.client up.payload old gives.0 gives.1.same d
+
+-- Whose statements are given up.
+
+gives_along : (xs ys : List GivenUp) (s t u : Tabled) → GivesUpAll xs s t → GivesUpAll ys t u → GivesUpAll (xs ++ ys) s u
+gives_along [] ys s t u same next = subst (λ (x : Tabled). GivesUpAll ys x u) (tables_are t s same) next
+gives_along (x ∷ xs) ys s t u gives next = (gives.0, gives.1, gives_along xs ys gives.0 t u gives.2 next)
+
+given_either : {A : Type 0} (xs ys : List GivenUp) (c : ClientNo) → is_given (xs ++ ys) c ≡ true → (is_given xs c ≡ true → A)
+    → (is_given ys c ≡ true → A) → A
+given_either [] ys c is left right = right is
+given_either (x ∷ xs) ys c is left right =
+    or_by (is_client c x.client) (is_given (xs ++ ys) c) is (λ e. left (or_first (is_client c x.client) (is_given xs c) e))
+    (λ e. given_either xs ys c e (λ its. left (or_true (is_client c x.client) (is_given xs c) its)) right)
+
+pub none_given : (roomy : Roomy) (t : Tabled) → HaveGivenUp roomy roomy t t
+none_given roomy t = record {
+  given = [];
+  gives = same_itself t;
+  calls = λ c is. absurd (true≢false (sym is));
+  going = λ c is. absurd (true≢false (sym is));
+  kept = λ c is. is;
+}
+
+its_alone : (c d : ClientNo) → (is_client d c || false) ≡ true → d ≡ c
+its_alone c d is = by (is_client d c) refl is where
+  by : (b : Bool) → is_client d c ≡ b → (b || false) ≡ true → d ≡ c
+  by true its some = client_of d c its
+  by false its some = absurd (true≢false (sym some))
+
+pub one_given : (before called : Roomy) (c : ClientNo) (old new : Tabled) → IsWaiting c old → HasAnswered c old new → is_roomy called c ≡ true
+    → ((d : ClientNo) → is_roomy before d ≡ true → is_roomy called d ≡ true) → HaveGivenUp before called old new
+one_given before called c old new waiting answered its kept = record {
+  given = record { client = c; payload = answered.payload } ∷ [];
+  gives = (new, record { late = waiting.unsent; same = answered.same }, same_itself new);
+  calls = λ d is. ap (is_roomy called) (its_alone c d is) ∙ its;
+  going = λ d is.
+      going_still c answered.payload old new answered.same d
+      ∙ (ap (λ (n : ClientNo). is_going (old.clients n)) (its_alone c d is) ∙ waiting.going);
+  kept = kept;
+}
+
+pub given_along : (a b c : Roomy) (s t u : Tabled) → HaveGivenUp a b s t → HaveGivenUp b c t u → HaveGivenUp a c s u
+given_along a b c s t u first next = record {
+  given = first.given ++ next.given;
+  gives = gives_along first.given next.given s t u first.gives next.gives;
+  calls = λ d is. given_either first.given next.given d is (λ e. next.kept d (first.calls d e)) (λ e. next.calls d e);
+  going = λ d is. given_either first.given next.given d is (λ e. all_going next.given t u next.gives d ∙ first.going d e) (λ e. next.going d e);
+  kept = λ d is. next.kept d (first.kept d is);
+}
+
+-- They follow.
+
+called_of : (callers : List Caller) (clients : List ClientNo) → map (λ (k : Caller). k.client) callers ≡ clients → (c : ClientNo)
+    → is_called callers c ≡ is_of clients c
+called_of callers clients named c = called-so callers c ∙ ap (λ (cs : List ClientNo). is_of cs c) named
+
+going_there : (t : Tabled) (c : ClientNo) (row : Client) → t.clients c ≡ Some row → is_ended row.desk.seat.phase ≡ false → is_going (t.clients c) ≡ true
+going_there t c row there going = ap is_going there ∙ ap not going
+
+-- more were called before
+pub given_since : (first roomy called : Roomy) (old new : Tabled) → ((c : ClientNo) → is_roomy first c ≡ true → is_roomy roomy c ≡ true)
+    → HaveGivenUp roomy called old new → HaveGivenUp first called old new
+given_since first roomy called old new more given = record {
+  given = given.given;
+  gives = given.gives;
+  calls = given.calls;
+  going = given.going;
+  kept = λ c has. given.kept c (more c has);
+}
+
+pub have_woken : (service : Service) (roomy called : Roomy) (clients : List ClientNo) (old mid new : Tabled) → HaveGivenUp roomy called old mid
+    → AreCalled called clients mid → HaveFollowed service clients mid new → HasWoken service roomy old new
+have_woken service roomy called clients old mid new given are followed = record {
+  given = given.given;
+  callers = followed.callers;
+  links = followed.links;
+  alone = followed.alone;
+  so = record {
+    late = mid;
+    gives = given.gives;
+    all_given = λ c is. called_of followed.callers clients followed.named c ∙ are.all c (given.calls c is) (given.going c is);
+    all_roomy = λ c row has there going.
+        called_of followed.callers clients followed.named c ∙ are.all c (given.kept c has) (going_there mid c row there going);
+    calls = followed.calls;
+  };
+}
+
+pub none_fails : (service : Service) (t : Tabled) → HasFailed service t t
+none_fails service t = record {
+  given = [];
+  callers = [];
+  links = [];
+  alone = All-nil _;
+  so = record {
+    late = t;
+    gives = same_itself t;
+    all_given = λ c is. is;
+    none_else = λ c is. is;
+    calls = record {
+      in_order = tt;
+      there = All-nil (λ (k : Caller). IsThere t k.client);
+      homes = record {
+        homes = λ c row h l whose. absurd (true≢false (sym whose));
+        known = All-nil (λ (l : LinkId). is_some (t.links l) ≡ true);
+        rising = tt;
+      };
+      turned = t;
+      going = same_itself t;
+      freed = same_itself t;
+    };
+  };
+}
+
+pub one_fails : (service : Service) (c : ClientNo) (old mid new : Tabled) → IsWaiting c old → HasAnswered c old mid
+    → HaveFollowed service (c ∷ []) mid new → HasFailed service old new
+one_fails service c old mid new waiting answered followed = record {
+  given = record { client = c; payload = answered.payload } ∷ [];
+  callers = followed.callers;
+  links = followed.links;
+  alone = followed.alone;
+  so = record {
+    late = mid;
+    gives = (mid, record { late = waiting.unsent; same = answered.same }, same_itself mid);
+    all_given = λ d is. called_of followed.callers (c ∷ []) followed.named d ∙ is;
+    none_else = λ d is. sym (called_of followed.callers (c ∷ []) followed.named d) ∙ is;
+    calls = followed.calls;
+  };
+}
+
+-- one client that was given up is there, and alone
+
+pub rising_one : (c : ClientNo) → AreRising (c ∷ [])
+rising_one c = (All-nil (λ (other : ClientNo). c.0 < other.0), tt)
+
+pub there_one : (c : ClientNo) (old mid : Tabled) → IsWaiting c old → HasAnswered c old mid → All (λ (d : ClientNo). IsThere mid d) (c ∷ [])
+there_one c old mid waiting answered =
+    All-cons (λ (d : ClientNo). IsThere mid d) c []
+    (there_by mid c (mid.clients c) refl (going_still c answered.payload old mid answered.same c ∙ waiting.going))
+    (All-nil (λ (d : ClientNo). IsThere mid d))
+
+-- The router is carried over the entry.
+
+abbrev pub Fails : Type 0
+Fails = (service : Setup) (default : List ℕ) (log : Log) (t now : Tabled) (roomy : ClientNo → Bool) (given : List GivenUp)
+    (callers : List Caller) (links : List LinkId) (server : ServerId) (address : Address) → IsRouter service default log t roomy
+    → MayFollow log (OpenFailed server address) → FailsSo service default given callers links t now → AreAloneAll callers
+    → IsRouter service default (with_entry log (OpenFailed server address)) now roomy
+
+pub fails_carries : Fails → (service : Service) (server : ServerId) (old new : Router) → HasFailed service (tables old) (tables new)
+    → new.roomy ≡ old.roomy → new.came ≡ old.came → (address : Address) → Carries service (OpenFailed server address) old new
+fails_carries law service server old new failed roomy came address =
+    carries_by service old new roomy came (OpenFailed server address) refl (λ log may is.
+    law service.setup service.default_schema log (tables old) (tables new) (is_roomy old.roomy) failed.given failed.callers failed.links server address
+    is may failed.so failed.alone)
+
+abbrev pub Wakes : Type 0
+Wakes = (service : Setup) (default : List ℕ) (log : Log) (t now : Tabled) (roomy room : ClientNo → Bool) (given : List GivenUp)
+    (callers : List Caller) (links : List LinkId) (until_ms now_ms : ℕ) → IsRouter service default log t roomy → MayFollow log (Woke until_ms now_ms)
+    → WakesSo service default given callers links roomy t now → AreAloneAll callers
+    → IsRouter service default (with_entry log (Woke until_ms now_ms)) now room
+
+pub wakes_carries : Wakes → (service : Service) (now_ms : ℕ) (old new : Router) → HasWoken service old.roomy (tables old) (tables new)
+    → new.came ≡ old.came → (until_ms : ℕ) → Carries service (Woke until_ms now_ms) old new
+wakes_carries law service now_ms old new woken came until_ms log may stands = record {
+  router = law service.setup service.default_schema log (tables old) (tables new) (is_roomy old.roomy) (is_roomy new.roomy) woken.given woken.callers
+      woken.links until_ms now_ms stands.router may woken.so woken.alone;
+  counted = came ∙ (stands.counted ∙ sym (none_come log (Woke until_ms now_ms) refl));
+}

@@ -1,0 +1,46 @@
+-- A router is carried over an entry by which no client comes.
+use Rattle.std.specs.Prelude.{◌≡◌, ◌+◌, ◌++◌, length, List, [], ◌∷◌}
+use Rattle.std.proofs.Common.{sym, ap, ◌∙◌, subst, append-nil}
+use Rattle.std.proofs.lemmas.List.Elements.{filter_map-append}
+use Rattle.mx_base.specs.declared.names.LinkId.{LinkId}
+use Rattle.mx_wire.specs.Log.{Log, accepted_link, accepted_links}
+use Rattle.mx_wire.specs.Tells.{MayFollow}
+use Rattle.mx_wire.specs.declared.entry.Entry.{Entry}
+use Rattle.core_service.specs.declared.service.Service.{Service}
+use Rattle.router_laws.specs.decisions.Routers.{IsRouter}
+use Rattle.core_laws.specs.entry.Cores.{with_entry}
+use Rattle.shared_core.specs.Stands.{Carries, Shown, StandsBy, StandsFor, is_roomy, shown, tables, tables_in}
+use Rattle.shared_core.specs.declared.roomy.Roomy.{Roomy}
+use Rattle.shared_core.specs.declared.router.Router.{Router}
+
+pub none_come : (log : Log) (e : Entry) → accepted_links (e ∷ []) ≡ [] → length (accepted_links (with_entry log e)) ≡ length (accepted_links log)
+none_come log e none =
+    ap length (filter_map-append accepted_link log (e ∷ []) ∙ ap (λ (more : List LinkId). accepted_links log ++ more) none
+    ∙ append-nil (accepted_links log))
+
+module _ (service : Service) (old new : Router) (roomy : new.roomy ≡ old.roomy) (came : new.came ≡ old.came) where
+  pub carries_by : (e : Entry) → accepted_links (e ∷ []) ≡ []
+      → ((log : Log) → MayFollow log e → IsRouter service.setup service.default_schema log (tables old) (is_roomy old.roomy)
+      → IsRouter service.setup service.default_schema (with_entry log e) (tables new) (is_roomy old.roomy))
+      → Carries service e old new
+  carries_by e none goes log may stands = record {
+    router = subst (λ (r : Roomy). IsRouter service.setup service.default_schema (with_entry log e) (tables new) (is_roomy r)) (sym roomy)
+        (goes log may stands.router);
+    counted = came ∙ stands.counted ∙ sym (none_come log e none);
+  }
+
+  -- nothing is told
+  pub stays_by : (log : Log) → (IsRouter service.setup service.default_schema log (tables old) (is_roomy old.roomy)
+      → IsRouter service.setup service.default_schema log (tables new) (is_roomy old.roomy)) → StandsFor service log old → StandsFor service log new
+  stays_by log goes stands = record {
+    router = subst (λ (r : Roomy). IsRouter service.setup service.default_schema log (tables new) (is_roomy r)) (sym roomy) (goes stands.router);
+    counted = came ∙ stands.counted;
+  }
+
+pub carries_along : (service : Service) (e : Entry) (old mid new : Router) → Carries service e old mid
+    → ((log : Log) → StandsFor service log mid → StandsFor service log new) → Carries service e old new
+carries_along service e old mid new first next log may stands = next (with_entry log e) (first log may stands)
+
+-- it stands by what is shown alone
+pub shown_stands : (service : Service) (log : Log) (a b : Router) → shown b ≡ shown a → StandsFor service log a → StandsFor service log b
+shown_stands service log a b same stands = subst (λ (s : Shown). StandsBy service log (tables_in s) s) (sym same) stands

@@ -1,0 +1,280 @@
+-- Clients go on, one after the other.
+use Rattle.std.specs.Prelude.{◌≡◌, ◌<◌, ◌≤◌, ◌+◌, ℕ, Bool, true, false, not, ◌||◌, All, drop, get_or, length, map, take, List, [], ◌∷◌, ◌++◌, Option, Some, None}
+use Rattle.std.proofs.Common.{◌∙◌, ap, arith, refl, subst, sym}
+use Rattle.std.proofs.lemmas.List.{drop_more, take_all, take_more}
+use Rattle.std.proofs.lemmas.List.Elements.{All-append, All-cons, All-head, All-nil, All-tail}
+use Rattle.mx_base.specs.declared.names.ClientNo.{ClientNo}
+use Rattle.mx_base.specs.declared.names.LinkId.{LinkId}
+use Rattle.private_model.proofs.Maps.{same_number}
+use Rattle.private_model.specs.Story.{is_client}
+use Rattle.client_session.specs.Setups.{Setup}
+use Rattle.client_seat.specs.Seats.{ended, is_ended}
+use Rattle.core_service.specs.declared.service.Service.{Service}
+use Rattle.router_laws.specs.decisions.Deeds.{IsAlone}
+use Rattle.core_tables.specs.Parting.{left_in}
+use Rattle.core_tables.specs.Tables.{IsSame, Tabled}
+use Rattle.core_tables.specs.declared.client.Client.{Client}
+use Rattle.core_turns.specs.Turned as turned
+use Rattle.core_turns.specs.Turned.{HasGoneOn, IsSingle, halt_of, is_away}
+use Rattle.core_turns.specs.declared.turn.Stop.{Stop}
+use Rattle.core_turns.specs.declared.turn.Went.{Went}
+use Rattle.core_laws.specs.entry.Freeing.{all_freed}
+use Rattle.core_laws.proofs.OfClients.Unfaulty.{turns_unfaulty}
+use Rattle.core_laws.specs.clients.Follows.{LeavesThere, Leaves, Stays, ends_by, quits_by}
+use Rattle.core_laws.specs.clients.Going.{is_going}
+use Rattle.core_laws.specs.clients.Turns.{Answers, Choice, Ends, Goes, Halt, Quits, Rests, Turns, Waits}
+use Rattle.router_laws.specs.wakes.Calling.{AllGoOn, AreHomesOf, AreInOrder, Caller, CallerGoesOn, IsThere, is_called}
+use Rattle.router_laws.specs.wakes.Deciding.{AreAloneAll}
+use Rattle.shared_core.proofs.Keeping.{tables_chosen}
+use Rattle.shared_core.proofs.Others.{still_there}
+use Rattle.shared_core.proofs.Tabling.{tables_are}
+use Rattle.shared_core.specs.Follows.{AreRising, HasFollowed, HasGone, HasParted, HaveFollowed, HaveGone, MayEnd, RestsBehind, is_of}
+use Rattle.shared_core.specs.Rows.{HasLives}
+use Rattle.shared_core.specs.Stands.{Chooses, tables}
+use Rattle.shared_core.specs.declared.router.Router.{Router}
+
+same-itself : (t : Tabled) → IsSame t t
+same-itself t = record { clients = λ c. refl; numbers = λ l. refl; links = λ l. refl }
+
+or-last : (a : Bool) → (a || true) ≡ true
+or-last true = refl
+or-last false = refl
+
+-- How a client is ended.
+
+pub stays-so : (c : ClientNo) (ends : Bool) (halt : Halt) (t : Tabled) → (ends ≡ true → ends_by halt Stays ≡ true) → HasParted c ends halt t t
+stays-so c ends halt t ended = record { parting = Stays; once = λ is. refl; parts = same-itself t; ended = ended }
+
+pub leaves-so : (c : ClientNo) (ends : Bool) (halt : Halt) (old new : Tabled) → quits_by halt ≡ false → LeavesThere c old new
+    → HasParted c ends halt old new
+leaves-so c ends halt old new goes leaves = record {
+  parting = Leaves;
+  once = λ is. absurd (let no = goes in let yes = is in cc);
+  parts = leaves;
+  ended = λ is. or-last (quits_by halt);
+}
+
+pub stays-off : (c : ClientNo) (ends : Bool) (halt : Halt) (t : Tabled) → ends ≡ false → HasParted c ends halt t t
+stays-off c ends halt t off = stays-so c ends halt t (λ is. absurd (let no = off in let yes = is in cc))
+
+pub off-so : (c : ClientNo) (ends : Bool) (halt : Halt) (old new : Tabled) → ends ≡ false → HasParted c false halt old new
+    → HasParted c ends halt old new
+off-so c ends halt old new off parts = let P : Bool → Type 0 = λ b. HasParted c b halt old new in subst P (sym off) parts
+
+pub may-so : (c : ClientNo) (t : Tabled) (row : Client) → Some row ≡ t.clients c → HasLives row.desk → MayEnd c t
+may-so c t row at lives = record { row = row; there = sym at; lives = λ h. let two = lives h in omega (arith, two) }
+
+pub leaves-by : (c : ClientNo) (old new : Tabled) → MayEnd c old → IsSame new (left_in c ended old) → LeavesThere c old new
+leaves-by c old new may same = record { row = may.row; there = may.there; lives = may.lives; same = same }
+
+pub stop-so : (c : ClientNo) (ends : Bool) (stop other : Stop) (old new : Tabled) → stop ≡ other
+    → (RestsBehind (halt_of other) c old → HasParted c ends (halt_of other) old new) → RestsBehind (halt_of stop) c old
+    → HasParted c ends (halt_of stop) old new
+stop-so c ends stop other old new is parts =
+    let P : Stop → Type 0 = λ s. RestsBehind (halt_of s) c old → HasParted c ends (halt_of s) old new in
+    subst P (sym is) parts
+
+pub parts-so : (c : ClientNo) (ends : Bool) (halt : Halt) (a b d e : Router) → Chooses a b
+    → (RestsBehind halt c (tables b) → HasParted c ends halt (tables b) (tables d)) → Chooses d e → RestsBehind halt c (tables a)
+    → HasParted c ends halt (tables a) (tables e)
+parts-so c ends halt a b d e before parts behind rested =
+    let P : Tabled → Type 0 = λ t. RestsBehind halt c t → HasParted c ends halt t (tables d) in
+    let Q : Tabled → Type 0 = λ t. HasParted c ends halt (tables a) t in
+    subst Q (sym (tables_chosen d e behind)) (subst P (tables_chosen a b before) parts rested)
+
+-- Its turns, and how it is ended behind them.
+
+singles : (choices : List Choice) → All IsSingle choices → All IsAlone choices
+singles [] all = All-nil IsAlone
+singles (x ∷ xs) all = All-cons IsAlone x xs (one x (All-head IsSingle x xs all)) (singles xs (All-tail IsSingle x xs all)) where
+  one : (choice : Choice) → IsSingle choice → IsAlone choice
+  one (Goes route) is = is
+  one (Answers payloads) is = is
+
+rests-behind : (setup : Setup) (default : List ℕ) (c : ClientNo) (choices : List Choice) (halt : Halt) (old mid : Tabled)
+    → Turns choices halt setup default c old mid → RestsBehind halt c mid
+rests-behind setup default c choices Waits old mid turns = tt
+rests-behind setup default c choices Rests old mid turns = λ row at serves answered.
+    turns_unfaulty setup default c choices old mid row turns at serves answered
+rests-behind setup default c choices Quits old mid turns = tt
+rests-behind setup default c choices Ends old mid turns = tt
+
+pub gone-so : (service : Service) (c : ClientNo) (ends : Bool) (took : Option Went) (went : Went) (old mid new : Tabled) → took ≡ Some went
+    → HasGoneOn Turns took service.setup service.default_schema c old mid
+    → (RestsBehind (halt_of went.stop) c mid → HasParted c ends (halt_of went.stop) mid new) → HasGone service c ends old new
+gone-so service c ends took went old mid new is gone parts =
+    let P : Option Went → Type 0 = λ o. HasGoneOn Turns o service.setup service.default_schema c old mid in
+    let on : turned.HasGone Turns went.stop service.setup service.default_schema c old mid = subst P is gone in
+    let parted : HasParted c ends (halt_of went.stop) mid new =
+    parts (rests-behind service.setup service.default_schema c on.choices (halt_of went.stop) old mid on.turned) in
+    record {
+      choices = on.choices;
+      halt = halt_of went.stop;
+      parting = parted.parting;
+      alone = singles on.choices on.single;
+      goes = record { turned = mid; turns = on.turned; once = parted.once; parts = parted.parts };
+      ended = parted.ended;
+    }
+
+pub away-going : (row : Option Client) → is_away row ≡ true → is_going row ≡ true → ⊥
+away-going None away going = let e = going in cc
+away-going (Some row) away going = by (is_ended row.desk.seat.phase) away going where
+  by : (b : Bool) → b ≡ true → not b ≡ true → ⊥
+  by true is off = let e = off in cc
+  by false is off = let e = is in cc
+
+pub absent-so : (service : Service) (c : ClientNo) (ends : Bool) (took : Option Went) (old mid new : Tabled) → took ≡ None
+    → HasGoneOn Turns took service.setup service.default_schema c old mid → is_going (old.clients c) ≡ true → HasGone service c ends old new
+absent-so service c ends took old mid new is gone going =
+    let P : Option Went → Type 0 = λ o. HasGoneOn Turns o service.setup service.default_schema c old mid in
+    let absent : turned.IsAbsent c old mid = subst P is gone in
+    absurd (away-going (old.clients c) absent.away going)
+
+-- And links are given back that carried its sessions.
+
+pub followed-so : (service : Service) (c : ClientNo) (ends : Bool) (homes : List LinkId) (old mid new : Tabled)
+    → AreHomesOf (is_of (c ∷ [])) homes old → HasGone service c ends old mid → IsSame new (all_freed homes mid) → is_going (old.clients c) ≡ true
+    → HasFollowed service c ends old new
+followed-so service c ends homes old mid new are gone freed going = by (old.clients c) refl going where
+  by : (found : Option Client) → old.clients c ≡ found → is_going found ≡ true → HasFollowed service c ends old new
+  by None at is = absurd (let e = is in cc)
+  by (Some row) at is = record {
+    choices = gone.choices;
+    halt = gone.halt;
+    parting = gone.parting;
+    links = homes;
+    alone = gone.alone;
+    follows = record {
+      homes = record {
+        row = row;
+        there = at;
+        homes = λ h l home there. are.homes c row h l (ap (λ (b : Bool). b || false) (same_number c.0)) at home there;
+        known = are.known;
+        rising = are.rising;
+      };
+      turned = gone.goes.turned;
+      turns = gone.goes.turns;
+      once = gone.goes.once;
+      parted = mid;
+      parts = gone.goes.parts;
+      freed = freed;
+    };
+    ended = gone.ended;
+  }
+
+-- Several do.
+
+gone-along : (callers : List Caller) (last : Caller) (setup : Setup) (default : List ℕ) (old mid new : Tabled) → AllGoOn callers setup default old mid
+    → CallerGoesOn setup default last mid new → AllGoOn (callers ++ last ∷ []) setup default old new
+gone-along [] last setup default old mid new same goes =
+    let P : Tabled → Type 0 = λ t. CallerGoesOn setup default last t new in
+    (new, subst P (tables_are mid old same) goes, same-itself new)
+gone-along (k ∷ ks) last setup default old mid new all goes = (all.0, all.1, gone-along ks last setup default all.0 mid new all.2 goes)
+
+named-along : (callers : List Caller) (last : Caller)
+    → map (λ (k : Caller). k.client) (callers ++ last ∷ []) ≡ map (λ (k : Caller). k.client) callers ++ last.client ∷ []
+named-along [] last = refl
+named-along (k ∷ ks) last = ap (λ (cs : List ClientNo). k.client ∷ cs) (named-along ks last)
+
+none-gone : (service : Service) (t : Tabled) → HaveGone service [] t t
+none-gone service t = record { callers = []; named = refl; alone = All-nil _; going = same-itself t }
+
+one-more : (service : Service) (clients : List ClientNo) (c : ClientNo) (ends : Bool) (old mid new : Tabled) → HaveGone service clients old mid
+    → HasGone service c ends mid new → HaveGone service (clients ++ c ∷ []) old new
+one-more service clients c ends old mid new before gone =
+    let last : Caller = record { client = c; choices = gone.choices; halt = gone.halt; parting = gone.parting } in
+    record {
+      callers = before.callers ++ last ∷ [];
+      named = named-along before.callers last ∙ ap (λ (cs : List ClientNo). cs ++ c ∷ []) before.named;
+      alone = let P : Caller → Type 0 = λ k. All IsAlone k.choices in
+          All-append P before.callers (last ∷ []) before.alone (All-cons P last [] gone.alone (All-nil P));
+      going = gone-along before.callers last service.setup service.default_schema old mid new before.going gone.goes;
+    }
+
+-- those behind are there as before, each behind who went on
+pub record HaveGoneSoFar (service : Service) (done left : List ClientNo) (old now : Tabled) : Type 0 where
+  pub gone : HaveGone service done old now
+  pub rising : AreRising left
+  pub there : All (λ (c : ClientNo). IsThere now c) left
+
+goes-there : (t : Tabled) (c : ClientNo) → IsThere t c → is_going (t.clients c) ≡ true
+goes-there t c is = ap is_going is.there ∙ ap not is.going
+
+further : (service : Service) (done others : List ClientNo) (c : ClientNo) (ends : Bool) (old mid new : Tabled) → HaveGoneSoFar service done (c ∷ others) old mid
+    → (is_going (mid.clients c) ≡ true → HasGone service c ends mid new) → HaveGoneSoFar service (done ++ c ∷ []) others old new
+further service done others c ends old mid new before goes =
+    let P : ClientNo → Type 0 = λ o. IsThere mid o in
+    let gone : HasGone service c ends mid new = goes (goes-there mid c (All-head P c others before.there)) in
+    record {
+      gone = one-more service done c ends old mid new before.gone gone;
+      rising = before.rising.1;
+      there = still_there service.setup service.default_schema
+          (record { client = c; choices = gone.choices; halt = gone.halt; parting = gone.parting }) mid new gone.goes others before.rising.0
+          (All-tail P c others before.there);
+    }
+
+pub gone-first : (service : Service) (clients : List ClientNo) (t : Tabled) → AreRising clients → All (λ (c : ClientNo). IsThere t c) clients
+    → HaveGoneSoFar service [] clients t t
+gone-first service clients t rising there = record { gone = none-gone service t; rising = rising; there = there }
+
+pub gone-next : (d : ClientNo) (service : Service) (clients : List ClientNo) (i : ℕ) (ends : Bool) (old mid new : Tabled) → i < length clients
+    → HaveGoneSoFar service (take i clients) (drop i clients) old mid
+    → (is_going (mid.clients (get_or clients i d)) ≡ true → HasGone service (get_or clients i d) ends mid new)
+    → HaveGoneSoFar service (take (i + 1) clients) (drop (i + 1) clients) old new
+gone-next d service clients i ends old mid new within before goes =
+    let P : List ClientNo → Type 0 = λ cs. HaveGoneSoFar service cs (drop (i + 1) clients) old new in
+    let Q : List ClientNo → Type 0 = λ cs. HaveGoneSoFar service (take i clients) cs old mid in
+    subst P (sym (take_more clients i d within))
+    (further service (take i clients) (drop (i + 1) clients) (get_or clients i d) ends old mid new (subst Q (drop_more clients i d within) before) goes)
+
+pub gone-all : (service : Service) (clients : List ClientNo) (i : ℕ) (old new : Tabled) → length clients ≤ i
+    → HaveGoneSoFar service (take i clients) (drop i clients) old new → HaveGone service clients old new
+gone-all service clients i old new end is =
+    let P : List ClientNo → Type 0 = λ cs. HaveGone service cs old new in
+    subst P (take_all i clients end) is.gone
+
+in-order : (callers : List Caller) → AreRising (map (λ (k : Caller). k.client) callers) → AreInOrder callers
+in-order [] rising = tt
+in-order (k ∷ ks) rising = (all ks rising.0, in-order ks rising.1) where
+  all : (others : List Caller) → All (λ (other : ClientNo). k.client.0 < other.0) (map (λ (o : Caller). o.client) others)
+      → All (λ (other : Caller). k.client.0 < other.client.0) others
+  all [] is = All-nil _
+  all (o ∷ os) is = All-cons (λ (other : Caller). k.client.0 < other.client.0) o os
+      (All-head (λ (other : ClientNo). k.client.0 < other.0) o.client (map (λ (one : Caller). one.client) os) is)
+      (all os (All-tail (λ (other : ClientNo). k.client.0 < other.0) o.client (map (λ (one : Caller). one.client) os) is))
+
+all-there : (t : Tabled) (callers : List Caller) → All (λ (c : ClientNo). IsThere t c) (map (λ (k : Caller). k.client) callers)
+    → All (λ (k : Caller). IsThere t k.client) callers
+all-there t [] all = All-nil _
+all-there t (k ∷ ks) all =
+    All-cons (λ (o : Caller). IsThere t o.client) k ks (All-head (λ (c : ClientNo). IsThere t c) k.client (map (λ (o : Caller). o.client) ks) all)
+    (all-there t ks (All-tail (λ (c : ClientNo). IsThere t c) k.client (map (λ (o : Caller). o.client) ks) all))
+
+pub called-so : (callers : List Caller) (c : ClientNo) → is_called callers c ≡ is_of (map (λ (k : Caller). k.client) callers) c
+called-so [] c = refl
+called-so (k ∷ ks) c = ap (λ (b : Bool). is_client c k.client || b) (called-so ks c)
+
+pub have-followed : (service : Service) (clients : List ClientNo) (homes : List LinkId) (old mid new : Tabled)
+    → AreHomesOf (is_of clients) homes old → HaveGone service clients old mid → IsSame new (all_freed homes mid) → AreRising clients
+    → All (λ (c : ClientNo). IsThere old c) clients → HaveFollowed service clients old new
+have-followed service clients homes old mid new are gone freed rising there = record {
+  callers = gone.callers;
+  links = homes;
+  named = gone.named;
+  alone = gone.alone;
+  calls = record {
+    in_order = in-order gone.callers (let P : List ClientNo → Type 0 = λ cs. AreRising cs in subst P (sym gone.named) rising);
+    there = all-there old gone.callers (let P : List ClientNo → Type 0 = λ cs. All (λ (c : ClientNo). IsThere old c) cs in
+        subst P (sym gone.named) there);
+    homes = record {
+      homes = λ c row h l whose at home known. are.homes c row h l (sym (its c) ∙ whose) at home known;
+      known = are.known;
+      rising = are.rising;
+    };
+    turned = mid;
+    going = gone.going;
+    freed = freed;
+  };
+} where
+  its : (c : ClientNo) → is_called gone.callers c ≡ is_of clients c
+  its c = called-so gone.callers c ∙ ap (λ (cs : List ClientNo). is_of cs c) gone.named

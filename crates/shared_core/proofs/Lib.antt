@@ -1,0 +1,27 @@
+pub mod Entrants
+pub mod Clients
+pub mod ClientRows
+pub mod Machining
+pub mod Settles
+pub mod Tested
+pub mod Keeping
+mod Tabling
+mod Homes
+mod Others
+pub mod Goings
+mod Givings
+mod Last
+pub mod Readied
+pub mod LinkWrites
+pub mod LinkOpens
+pub mod Carrying
+pub mod Rooming
+pub mod Writings
+pub mod Hears
+mod Closings
+mod LinkLosses
+pub mod Callings
+pub mod Numbers
+pub mod Acting
+pub mod Standing
+pub mod ClientCloses

@@ -1,0 +1,152 @@
+-- What the machine tells its router, and what the router asks for.
+use Rattle.std.specs.Prelude.{◌≡◌, ℕ, Bool, true, false, is_some, List, Option, Some, None, IsSome}
+use Rattle.std.specs.Option.{option_copied, option_map}
+use Rattle.std.proofs.Common.{Bor, refl, sym, ap, ◌∙◌, subst, inl, inr}
+use Rattle.std.proofs.lemmas.Bool.{true≢false}
+use Rattle.std.proofs.lemmas.Option.{none-some, same_Some}
+use Rattle.mx_base.specs.declared.names.Address.{Address}
+use Rattle.mx_base.specs.declared.names.LinkId.{LinkId}
+use Rattle.mx_base.specs.declared.names.Port.{Port}
+use Rattle.mx_base.specs.declared.names.ServerId.{ServerId}
+use Rattle.mx_wire.specs.Log.{Log}
+use Rattle.mx_wire.specs.declared.entry.Entry.{Entry}
+use Rattle.mx_wire.specs.declared.entry.Entry.TheVariants as entry
+use Rattle.ready_loop.specs.Machine.{IsToldOf, Target}
+use Rattle.ready_loop.specs.declared.machines.Act.{Act}
+use Rattle.ready_loop.specs.declared.machines.Act.TheVariants as act
+use Rattle.ready_loop.specs.declared.machines.Event.{Event}
+use Rattle.ready_loop.specs.declared.machines.Event.TheVariants as event
+use Rattle.router_laws.specs.decisions.Routers.{IsRouter}
+use Rattle.core_policy.specs.declared.asks.Asked.{Asked}
+use Rattle.core_service.specs.declared.service.Service.{Service}
+use Rattle.core_tables.specs.Tables.{Tabled}
+use Rattle.marked_tables.proofs.Going.{goes_along}
+use Rattle.marked_tables.specs.Goes.{GoesOn, reads_on}
+use Rattle.marked_tables.specs.declared.marked.MarkedTables.{MarkedTables}
+use Rattle.shared_core.specs.Machine.{Tells}
+use Rattle.shared_core.specs.Says.{target_of}
+use Rattle.shared_core.specs.Stands.{ActsBy, Carries, Chooses, IsClosed, Loses, Moves, PartsFor, SettlesSo, Shown, StandsBy, StandsFor}
+use Rattle.shared_core.specs.Stands.{is_roomy, parted, shown, tables_in, without_client, without_link}
+use Rattle.shared_core.specs.declared.router.Router.{Router}
+use Rattle.shared_core.proofs.Carrying.{carries_along, shown_stands}
+use Rattle.shared_core.proofs.Keeping.{keeps_moves, keeps_still}
+
+-- A close, and no close: how it stood before may be said by more.
+pub acts_from : (A B : Service → Log → Type 0) (new : Shown) (result : Option Act) → ((service : Service) (log : Log) → A service log → B service log)
+    → ActsBy B new result → ActsBy A new result
+acts_from A B new (Some (act.Close link)) to by = record {
+  opened = λ service log was. by.opened service log (to service log was);
+  plain = λ none service log may was. by.plain none service log may (to service log was);
+  offered = λ some service log e marks farewell are may then was. by.offered some service log e marks farewell are may then (to service log was);
+}
+acts_from A B new (Some (act.Open server address)) to by =
+    record { stands = λ service log was. by.stands service log (to service log was); closed = by.closed }
+acts_from A B new None to by = record { stands = λ service log was. by.stands service log (to service log was); closed = by.closed }
+
+pub acts_shown : (Before : Service → Log → Type 0) (old new : Shown) (result : Option Act) → new ≡ old → ActsBy Before old result → ActsBy Before new result
+acts_shown Before old new result same acts = subst (λ (s : Shown). ActsBy Before s result) (sym same) acts
+
+-- nothing is being closed
+
+pub nothing_parted : (s : Shown) → IsClosed s → parted s ≡ tables_in s
+nothing_parted s closed =
+    ap (λ l. without_link l (without_client s.leaving (tables_in s))) closed.link ∙ ap (λ c. without_client c (tables_in s)) closed.client
+
+-- that it stands for what it stood for as it settles
+abbrev pub SettlesRouters : Type 0
+SettlesRouters = (service : Service) (old new : Router) → SettlesSo old new → (log : Log) → StandsFor service log old → StandsFor service log new
+
+pub stands_parted : (service : Service) (log : Log) (s : Shown) → IsClosed s → PartsFor service log s → StandsBy service log (tables_in s) s
+stands_parted service log s closed stands = subst (λ (t : Tabled). StandsBy service log t s) (nothing_parted s closed) stands
+
+pub parted_stands : (service : Service) (log : Log) (s : Shown) → IsClosed s → StandsBy service log (tables_in s) s → PartsFor service log s
+parted_stands service log s closed stands = subst (λ (t : Tabled). StandsBy service log t s) (sym (nothing_parted s closed)) stands
+
+-- Whoever has room again, and how many came, is all that it is by beside the tables.
+pub stands_as : (service : Service) (log : Log) (t : Tabled) (a b : Shown) → b.roomy ≡ a.roomy → b.came ≡ a.came → StandsBy service log t a → StandsBy service log t b
+stands_as service log t a b roomy came stands = record {
+  router = subst (λ r. IsRouter service.setup service.default_schema log t (is_roomy r)) (sym roomy) stands.router;
+  counted = came ∙ stands.counted;
+}
+
+-- An entry by which a link was opened is that of the open which was asked for.
+
+pub opened_so : (service : Service) (link : LinkId) (server : ServerId) (asked : Option Asked) (old new : Router)
+    → ((a : Asked) → asked ≡ Some a → Carries service (entry.Opened a.server a.address link) old new) → (e : Entry)
+    → (address : Address) × (option_map target_of asked ≡ Some (record { server = server; address = address })) × (e ≡ entry.Opened server address link)
+    → Carries service e old new
+opened_so service link server None old new carries e told = absurd (none-some _ told.1)
+opened_so service link server (Some a) old new carries e told =
+    let same : target_of a ≡ record { server = server; address = told.0 } = same_Some _ _ told.1 in
+    let is : entry.Opened a.server a.address link ≡ e = ap (λ (t : Target). entry.Opened t.server t.address link) same ∙ sym told.2 in
+    subst (λ (x : Entry). Carries service x old new) is (carries a refl)
+
+-- by an entry that is this one
+pub carried_as : (service : Service) (one e : Entry) (old new : Router) → e ≡ one → Carries service one old new → Carries service e old new
+carried_as service one e old new is carries = subst (λ (x : Entry). Carries service x old new) (sym is) carries
+
+-- what is told of another event that is this one
+pub tells_as : (service : Service) (event at : Event) (bytes : List ℕ) (old new : Router) → event ≡ at → Tells service at bytes old new
+    → Tells service event bytes old new
+tells_as service event at bytes old new is tells = subst (λ (x : Event). Tells service x bytes old new) (sym is) tells
+
+-- What each kind of event tells.
+
+module _ (service : Service) (bytes : List ℕ) (old new : Router) where
+  pub woke_tells : (now_ms : ℕ) → ((until_ms : ℕ) → Carries service (entry.Woke until_ms now_ms) old new) → Tells service (event.Woke now_ms) bytes old new
+  woke_tells now_ms carries until_ms e told due = carried_as service (entry.Woke until_ms now_ms) e old new told (carries until_ms)
+
+  pub accepted_tells : (port : Port) (link : LinkId) (salt : List ℕ) → Carries service (entry.Accepted port link salt) old new
+      → Tells service (event.Accepted port link salt) bytes old new
+  accepted_tells port link salt carries until_ms e told due = carried_as service (entry.Accepted port link salt) e old new told carries
+
+  pub opened_tells : (server : ServerId) (link : LinkId)
+      → ((a : Asked) → old.asked ≡ Some a → Carries service (entry.Opened a.server a.address link) old new)
+      → Tells service (event.Opened server link) bytes old new
+  opened_tells server link carries until_ms e told due = opened_so service link server old.asked old new carries e told
+
+  pub failed_tells : (server : ServerId) → ((address : Address) → Carries service (entry.OpenFailed server address) old new)
+      → Tells service (event.OpenFailed server) bytes old new
+  failed_tells server carries until_ms e told due = carried_as service (entry.OpenFailed server told.0) e old new told.2 (carries told.0)
+
+  pub got_tells : (link : LinkId) → (reads_on old.marked link ≡ true → Carries service (entry.Got link bytes) old new)
+      → Tells service (event.Got link) bytes old new
+  got_tells link carries until_ms e told due = carried_as service (entry.Got link bytes) e old new told (carries due)
+
+  pub ended_tells : (link : LinkId) → Loses service link old new → Tells service (event.Ended link) bytes old new
+  ended_tells link loses until_ms e told due = carried_as service (entry.Ended link) e old new told loses.ended
+
+  pub broken_tells : (link : LinkId) → Loses service link old new → Tells service (event.Failed link) bytes old new
+  broken_tells link loses until_ms e told due = elim told [
+    | inl is ↦ carried_as service (entry.ReadFailed link) e old new is loses.unread
+    | inr is ↦ carried_as service (entry.WriteFailed link) e old new is loses.unwritten
+  ]
+
+-- An event goes through, and the router settles.
+
+pub tells_along : SettlesRouters → (service : Service) (event : Event) (bytes : List ℕ) (old mid settled new : Router)
+    → Tells service event bytes old mid → SettlesSo mid settled → Chooses settled new → Tells service event bytes old new
+tells_along law service event bytes old mid settled new tells settles chosen until_ms e told due =
+    carries_along service e old mid new (tells until_ms e told due)
+    (λ log stands. shown_stands service log settled new chosen.same (law service mid settled settles log stands))
+
+pub moves_along : (old mid settled new : Router) → Moves old mid → Moves mid settled → Chooses settled new → Moves old new
+moves_along old mid settled new first next chosen = record {
+  goes = goes_along old.marked mid.marked new.marked first.goes
+      (subst (λ (m : MarkedTables). GoesOn mid.marked m) (sym (ap (λ (s : Shown). s.marked) chosen.same)) next.goes);
+  client = ap (λ (s : Shown). s.leaving) chosen.same ∙ next.client ∙ first.client;
+  link = ap (λ (s : Shown). s.closing) chosen.same ∙ next.link ∙ first.link;
+}
+
+pub moves_chosen : (a b c : Router) → Moves a b → Chooses b c → Moves a c
+moves_chosen a b c moves chosen = moves_along a a b c (keeps_moves a a (keeps_still a)) moves chosen
+
+-- what is found is there, or not
+
+pub copied_none : {A : Type 0} → (o : Option (Bor A)) (x : Option A) → option_copied o ≡ x → is_some o ≡ false → x ≡ None
+copied_none None x is none = sym is
+copied_none (Some a) x is none = absurd (true≢false none)
+
+pub copied_some : {A : Type 0} → (o : Option (Bor A)) (x : Option A) → option_copied o ≡ x → is_some o ≡ true → IsSome x
+copied_some None x is some = absurd (true≢false (sym some))
+copied_some (Some a) x is some = sym (ap (λ (y : Option _). is_some y) is)

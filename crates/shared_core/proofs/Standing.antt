@@ -1,0 +1,232 @@
+-- The core as a machine, by what its router does.
+use Rattle.std.specs.Prelude.{◌≡◌, ◌&&◌, ℕ, Bool, true, false, is_some, if◌then◌else◌, length, take, List, [], ◌∷◌, ◌++◌, Option, Some, None, IsSome, IfNone, IfSome, OnOk, Result, Ok, Err}
+use Rattle.std.specs.Option.{option_map}
+use Rattle.std.proofs.Common.{refl, sym, ap, ◌∙◌, subst, append-nil}
+use Rattle.std.proofs.lemmas.Bool.{true≢false}
+use Rattle.std.proofs.lemmas.List.Elements.{filter_map-append}
+use Rattle.std.proofs.lemmas.Option.{none-some}
+use Rattle.mx_base.specs.declared.names.LinkId.{LinkId}
+use Rattle.mx_base.specs.Sent.{MayTake, Sent}
+use Rattle.mx_wire.specs.Log.{Log, accepted_link, accepted_links}
+use Rattle.mx_wire.specs.Tells.{MayFollow}
+use Rattle.mx_wire.specs.declared.entry.Entry.{Entry}
+use Rattle.mx_wire.specs.declared.entry.Entry.TheVariants as entry
+use Rattle.ready_loop.specs.Changes.{SaysSame}
+use Rattle.ready_loop.specs.Drained.{IsDue}
+use Rattle.ready_loop.specs.Machine.{Acts, CarriesOver, HasActed, IsAwaited, IsHeard, IsQuiet, IsToldOf, Keeps, OwesFarewell, Target}
+use Rattle.ready_loop.specs.declared.machines.Act.{Act}
+use Rattle.ready_loop.specs.declared.machines.Act.TheVariants as act
+use Rattle.ready_loop.specs.declared.machines.Event.{Event}
+use Rattle.ready_loop.specs.declared.machines.Event.TheVariants as event
+use Rattle.client_session.specs.Setups.{Setup}
+use Rattle.private_model.specs.Names.{ClientNo}
+use Rattle.core_policy.specs.declared.asks.Asked.{Asked}
+use Rattle.core_service.specs.declared.service.Service.{Service}
+use Rattle.core_says.specs.Says.{reads_in, sends_in}
+use Rattle.core_tables.specs.Tables.{Tabled, no_tables, IsSame, tables_of}
+use Rattle.core_tables.specs.declared.tables.Tables.{Tables}
+use Rattle.link_marks.specs.Marks.{is_known}
+use Rattle.core_laws.specs.entry.Cores.{with_entry}
+use Rattle.router_laws.specs.decisions.Routers.{IsRouter}
+use Rattle.marked_tables.specs.Goes.{sends_on}
+use Rattle.marked_tables.specs.declared.marked.MarkedTables.{MarkedTables}
+use Rattle.shared_core.specs.Machine.{IsDueIn, IsStanding, Tells}
+use Rattle.shared_core.specs.Says.{IsAskedFor, awaits, reads, sends, target_of}
+use Rattle.shared_core.specs.Stands.{ActsSo, Carries, Chooses, IsClosed, Moves, PartsFor, Shown, StandsBy, StandsFor}
+use Rattle.shared_core.specs.Stands.{is_roomy, parted, shown, tables, without_client, without_link}
+use Rattle.shared_core.specs.declared.roomy.Roomy.{Roomy}
+use Rattle.shared_core.specs.declared.router.Router.{Router}
+use Rattle.shared_core.specs.declared.whole.Core.{Core}
+use Rattle.shared_core.proofs.Carrying.{shown_stands}
+use Rattle.shared_core.proofs.Machining.{parted_stands, stands_parted}
+use Rattle.shared_core.proofs.Tabling.{tables_are}
+
+abbrev pub asks : Core → Bool
+asks core = core.router.acting
+
+abbrev pub due_in : Core → Log → Entry → Type 0
+due_in = IsDue reads sends asks
+
+both_ok : {T E : Type 0} (r : Result T E) {A B C : Type 0} → (A → B → C) → OnOk r A → OnOk r B → OnOk r C
+both_ok (Ok x) f a b = f a b
+both_ok (Err e) f a b = tt
+
+some_of : (asked : Option Asked) (target : Target) → option_map target_of asked ≡ Some target → IsSome asked
+some_of None target is = absurd (none-some target is)
+some_of (Some asked) target is = refl
+
+-- By the time that it is told of an event nothing is being closed.
+closed_by : (core : Core) (event : Event) (log : Log) → IsHeard (awaits core) event → HasActed (asks core) event → IsStanding core log
+    → IsClosed (shown core.router)
+closed_by core (event.Opened server link) log heard acted was = was.opening (some_of core.router.asked _ heard.1)
+closed_by core (event.OpenFailed server) log heard acted was = was.opening (some_of core.router.asked _ heard.1)
+closed_by core (event.Woke now_ms) log heard acted was = was.acted acted
+closed_by core (event.Accepted port link salt) log heard acted was = was.acted acted
+closed_by core (event.Got link) log heard acted was = was.acted acted
+closed_by core (event.Ended link) log heard acted was = was.acted acted
+closed_by core (event.Failed link) log heard acted was = was.acted acted
+
+due_by : (core : Core) (event : Event) (log : Log) (until_ms : ℕ) (bytes : List ℕ) (e : Entry)
+    → IsToldOf until_ms (awaits core) event bytes e → due_in core log e → IsDueIn core.router event
+due_by core (event.Got link) log until_ms bytes e told due = subst (λ (x : Entry). due_in core log x) told due
+due_by core _ log until_ms bytes e told due = tt
+
+-- Behind an event, and behind a write, nothing is.
+stands_moved : (core : Core) (router : Router) (log : Log) → Moves core.router router → IsClosed (shown core.router)
+    → StandsFor core.service log router → IsStanding (record core { router = router }) log
+stands_moved core router log moves closed stands =
+    let then_closed : IsClosed (shown router) = record { client = moves.client ∙ closed.client; link = moves.link ∙ closed.link } in
+    record {
+      stands = parted_stands core.service log (shown router) then_closed stands;
+      acted = λ off. then_closed;
+      opening = λ some. then_closed;
+    }
+
+take_one : (core : Core) (router : Router) (event : Event) (bytes : List ℕ) → IsHeard (awaits core) event → HasActed (asks core) event
+    → Tells core.service event bytes core.router router → Moves core.router router → (e : Entry)
+    → IsToldOf core.router.until (awaits core) event bytes e → CarriesOver IsStanding due_in core (record core { router = router }) e
+take_one core router event bytes heard acted tells moves e told = record {
+  carried = λ log may due was.
+      let closed : IsClosed (shown core.router) = closed_by core event log heard acted was in
+      stands_moved core router (log ++ e ∷ []) moves closed
+      (tells core.router.until e told (due_by core event log core.router.until bytes e told due) log may
+      (stands_parted core.service log (shown core.router) closed was.stands));
+}
+
+pub take_carries : {T E : Type 0} (r : Result T E) (core : Core) (router : Router) (event : Event) (bytes : List ℕ) → IsHeard (awaits core) event
+    → HasActed (asks core) event → OnOk r (Tells core.service event bytes core.router router) → OnOk r (Moves core.router router)
+    → OnOk r ((e : Entry) → IsToldOf core.router.until (awaits core) event bytes e → CarriesOver IsStanding due_in core (record core { router = router }) e)
+take_carries r core router event bytes heard acted tells moves =
+    both_ok r (λ told moved. take_one core router event bytes heard acted told moved) tells moves
+
+-- Bytes were written.
+pub wrote_carries : (core : Core) (wrote router : Router) (link : LinkId) (n : ℕ) (sent : Sent) → asks core ≡ false → sends core link ≡ Some sent
+    → ((service : Service) (sent : Sent) → sends_on core.router.marked link ≡ Some sent
+    → Carries service (entry.Wrote link sent.tag (take n sent.bytes)) core.router wrote)
+    → Moves core.router router → shown router ≡ shown wrote
+    → CarriesOver IsStanding due_in core (record core { router = router }) (entry.Wrote link sent.tag (take n sent.bytes))
+wrote_carries core wrote router link n sent acted is carries moves same = record {
+  carried = λ log may due was.
+      let closed : IsClosed (shown core.router) = was.acted acted in
+      stands_moved core router (with_entry log (entry.Wrote link sent.tag (take n sent.bytes))) moves closed
+      (shown_stands core.service (with_entry log (entry.Wrote link sent.tag (take n sent.bytes))) wrote router same
+      (carries core.service sent is log may (stands_parted core.service log (shown core.router) closed was.stands)));
+}
+
+-- What is asked for.
+pub acts_stand : (core : Core) (router : Router) (result : Option Act) → ActsSo core.router router result → IsAskedFor router.asked result
+    → router.acting ≡ is_some result → Acts IsStanding due_in sends core (record core { router = router }) result
+acts_stand core router None acts asked acting = record {
+  kept = λ log was. record {
+    stands = acts.stands core.service log was.stands;
+    acted = λ off. acts.closed;
+    opening = λ some. acts.closed;
+  };
+}
+acts_stand core router (Some (act.Open server address)) acts asked acting = record {
+  kept = λ log was. record {
+    stands = acts.stands core.service log was.stands;
+    acted = λ off. acts.closed;
+    opening = λ some. acts.closed;
+  };
+}
+acts_stand core router (Some (act.Close link)) acts asked acting = record {
+  opened = λ log was. acts.opened core.service log was.stands;
+  plain = λ none. record { carried = λ log may due was. closing (log ++ entry.Closed link ∷ []) (acts.plain none core.service log may was.stands) };
+  offered = λ some log e marks farewell are may last was.
+      closing (log ++ e ∷ [] ++ marks ++ entry.Closed link ∷ []) (acts.offered some core.service log e marks farewell are may last was.stands);
+} where
+  closing : (log : Log) → PartsFor core.service log (shown router) → IsStanding (record core { router = router }) log
+  closing log stands = record {
+    stands = stands;
+    acted = λ off. absurd (true≢false (sym acting ∙ off));
+    opening = λ some. absurd (true≢false (sym some ∙ ap (λ (a : Option Asked). is_some a) asked));
+  }
+
+pub acts_awaited : (core : Core) (result : Option Act) → IsAskedFor core.router.asked result → IfSome result (IsAwaited (awaits core))
+acts_awaited core None asked = tt
+acts_awaited core (Some (act.Open server address)) asked = asked
+acts_awaited core (Some (act.Close link)) asked = tt
+
+pub owes_none : (core now : Core) (result : Option Act)
+    → OwesFarewell IsStanding (λ (log : Log) (link : LinkId) (piece : List ℕ). Unit {0}) sends core now result
+owes_none core now None = tt
+owes_none core now (Some (act.Open server address)) = tt
+owes_none core now (Some (act.Close link)) = λ log sent was is. tt
+
+pub none_asks : (core : Core) (result : Option Act) → asks core ≡ is_some result → IfNone result (asks core ≡ false)
+none_asks core None is = is
+none_asks core (Some result) is = tt
+
+-- A link is named that may have something new.
+
+pub named_keeps : (core : Core) (m : MarkedTables) → m.tables ≡ core.router.marked.tables
+    → Keeps IsStanding core (record core { router = record core.router { marked = m } })
+named_keeps core m same = record {
+  kept = λ log was. record {
+    stands = record {
+      router = subst (λ (t : Tables). IsRouter core.service.setup core.service.default_schema log
+          (without_link core.router.closing (without_client core.router.leaving (tables_of t))) (is_roomy core.router.roomy)) (sym same)
+          was.stands.router;
+      counted = was.stands.counted;
+    };
+    acted = λ off. same_closed (was.acted off);
+    opening = λ some. same_closed (was.opening some);
+  };
+} where
+  same_closed : IsClosed (shown core.router) → IsClosed (shown (record core.router { marked = m }))
+  same_closed closed = record { client = closed.client; link = closed.link }
+
+pub named_says : (core : Core) (m : MarkedTables) → m.tables ≡ core.router.marked.tables
+    → ((link : LinkId) → is_known m.changed link ≡ is_known core.router.marked.changed link)
+    → SaysSame reads sends (λ (core : Core). core.router.until) (λ (core : Core). false) core (record core { router = record core.router { marked = m } })
+named_says core m same known = record {
+  read = λ link i. known link i && reads_in (tables_of (same i)) link;
+  written = λ link i. if known link i then sends_in (tables_of (same i)) link else None;
+  until_ms = refl;
+  stopped = refl;
+}
+
+-- It stands still where it is told of nothing.
+
+abbrev pub Quiet : Type 0
+Quiet = (service : Setup) (default : List ℕ) (log : Log) (e : Entry) (t : Tabled) (roomy : ClientNo → Bool) → IsRouter service default log t roomy
+    → MayFollow log e → IsQuiet e → IsRouter service default (with_entry log e) t roomy
+
+none_comes : (e : Entry) → IsQuiet e → accepted_links (e ∷ []) ≡ []
+none_comes (entry.Accepted port link salt) quiet = absurd quiet
+none_comes _ quiet = refl
+
+pub quiet_carries : Quiet → (core : Core) (e : Entry) → IsQuiet e → CarriesOver IsStanding due_in core core e
+quiet_carries law core e quiet = record {
+  carried = λ log may due was. record {
+    stands = record {
+      router = law core.service.setup core.service.default_schema log e (parted (shown core.router)) (is_roomy core.router.roomy) was.stands.router may
+          quiet;
+      counted = was.stands.counted
+          ∙ sym (ap length (filter_map-append accepted_link log (e ∷ [])
+          ∙ ap (λ (more : List LinkId). accepted_links log ++ more) (none_comes e quiet) ∙ append-nil (accepted_links log)));
+    };
+    acted = was.acted;
+    opening = was.opening;
+  };
+}
+
+-- It begins.
+
+abbrev pub First : Type 0
+First = (service : Setup) (default : List ℕ) (roomy : ClientNo → Bool) → IsRouter service default [] no_tables roomy
+
+pub first_stands : First → (service : Service) (r : Router) → IsSame (tables r) no_tables → r.came ≡ 0 → StandsFor service [] r
+first_stands law service r none came = record {
+  router = subst (λ (t : Tabled). IsRouter service.setup service.default_schema [] t (is_roomy r.roomy)) (sym (tables_are (tables r) no_tables none))
+      (law service.setup service.default_schema (is_roomy r.roomy));
+  counted = came;
+}
+
+pub first_core : (core : Core) → StandsFor core.service [] core.router → IsClosed (shown core.router) → IsStanding core []
+first_core core stands closed = record {
+  stands = parted_stands core.service [] (shown core.router) closed stands;
+  acted = λ off. closed;
+  opening = λ some. closed;
+}

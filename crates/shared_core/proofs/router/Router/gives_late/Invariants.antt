@@ -1,0 +1,10 @@
+use Rattle.shared_core.specs.Follows.{Keeps}
+use Rattle.shared_core.specs.Stands.{tables}
+use Rattle.shared_core.specs.Wakes.{HaveGivenUp}
+use Rattle.shared_core.proofs.router.Router.gives_late.Given as goal
+
+abbrev pub invariant-loop-up : goal.invariant-loop-up
+invariant-loop-up l = record {
+  gives : HaveGivenUp l.initial.called l.called (tables l.initial.self) (tables l.self);
+  keeps : Keeps l.initial.self l.self;
+}

@@ -1,0 +1,19 @@
+use Rattle.std.proofs.Common.{refl}
+use Rattle.std.proofs.lemmas.Result.{on_ok_weaker}
+use Rattle.shared_core.proofs.Hears.{heard_so}
+use Rattle.shared_core.proofs.Keeping.{keeps_along}
+use Rattle.shared_core.specs.Stands.{tables}
+use Rattle.shared_core.proofs.router.Router.hears.Goals as goal
+
+pub returns-clause-hears : goal.returns-clause-hears
+returns-clause-hears c =
+    on_ok_weaker c.call.result
+    (λ calls there reads. heard_so c.hears_so.ensures.so c.hears_so.ensures.going c.args.service.now c.args.link c.args.bytes.now c.args.self.now
+    c.call.new.self c.carried-name.result _ c.may_give-given.result _ _ _ c.carried-name.ensures c.in_ok-said.ensures.is c.may_give-given.ensures c.in_ok-gives.ensures.gives
+    c.free.ensures.is calls there reads) c.call.ensures.calls
+
+pub returns-clause-keeps : goal.returns-clause-keeps
+returns-clause-keeps c =
+    on_ok_weaker c.call.result
+    (λ keeps. keeps_along _ _ _ keeps (keeps_along _ _ _ c.free.ensures.keeps (keeps_along _ _ _ c.in_ok-gives.ensures.keeps
+    (record { goes = c.in_ok-said.ensures.goes; roomy = refl; came = refl; asked = refl; client = refl; link = refl })))) c.call.ensures.keeps

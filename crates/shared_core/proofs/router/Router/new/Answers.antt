@@ -1,0 +1,20 @@
+use Rattle.std.specs.Prelude.{None, false}
+use Rattle.std.proofs.Common.{refl}
+use Rattle.shared_core.proofs.Standing.{first_stands}
+use Rattle.shared_core.proofs.router.Router.new.Goals as goal
+
+pub returns-clause-stands : goal.returns-clause-stands
+returns-clause-stands c = λ service.
+    first_stands c.first_router.ensures service (record {
+      alloc = c.args.alloc;
+      marked = c.in_ok-new.field-0;
+      policy = c.in_ok-new-2.field-0;
+      came = 0;
+      roomy = c.new-3.result;
+      asked = None;
+      leaving = None;
+      closing = None;
+      acting = false;
+      until = 0;
+      clock = 0;
+    }) c.in_ok-new.ensures.tables refl

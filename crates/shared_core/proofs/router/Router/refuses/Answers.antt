@@ -1,0 +1,19 @@
+use Rattle.shared_core.specs.Stands.{tables}
+use Rattle.shared_core.proofs.Callings.{none_fails, one_fails, rising_one, there_one}
+use Rattle.shared_core.proofs.Keeping.{keeps_along, keeps_still}
+use Rattle.shared_core.proofs.router.Router.refuses.Goals as goal
+
+pub returns-in_ok-follow_all-clause-fails : goal.returns-in_ok-follow_all-clause-fails
+returns-in_ok-follow_all-clause-fails c =
+    one_fails c.args.service.now c.args.up.client _ _ _ (c.is_waiting.ensures c.if-is_waiting.true) c.in_ok-gives_up.ensures.answers
+    (c.in_ok-follow_all.ensures.follow (rising_one c.args.up.client)
+    (there_one c.args.up.client _ _ (c.is_waiting.ensures c.if-is_waiting.true) c.in_ok-gives_up.ensures.answers))
+
+pub returns-in_ok-follow_all-clause-keeps : goal.returns-in_ok-follow_all-clause-keeps
+returns-in_ok-follow_all-clause-keeps c = keeps_along _ _ _ c.in_ok-follow_all.ensures.keeps c.in_ok-gives_up.ensures.keeps
+
+pub returns-else-is_waiting-clause-fails : goal.returns-else-is_waiting-clause-fails
+returns-else-is_waiting-clause-fails c = none_fails c.args.service.now (tables c.args.self.now)
+
+pub returns-else-is_waiting-clause-keeps : goal.returns-else-is_waiting-clause-keeps
+returns-else-is_waiting-clause-keeps c = keeps_still _

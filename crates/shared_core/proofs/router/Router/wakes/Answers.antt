@@ -1,0 +1,12 @@
+use Rattle.shared_core.proofs.Callings.{given_since, have_woken}
+use Rattle.shared_core.proofs.Keeping.{keeps_along}
+use Rattle.shared_core.proofs.router.Router.wakes.Goals as goal
+
+pub returns-clause-wakes : goal.returns-clause-wakes
+returns-clause-wakes c =
+    have_woken c.args.service.now c.args.roomy _ c.in_ok-clients.clients.items _ _ _ (given_since _ _ _ _ _ c.call_all.ensures c.in_ok-gives_late.ensures.gives)
+    c.in_ok-clients.ensures
+    ((rw c.as_slice.ensures.value at c.in_ok-follow_all.ensures.follow) c.in_ok-clients.ensures.rising c.in_ok-clients.ensures.there)
+
+pub returns-clause-keeps : goal.returns-clause-keeps
+returns-clause-keeps c = keeps_along _ _ _ c.in_ok-follow_all.ensures.keeps c.in_ok-gives_late.ensures.keeps

@@ -1,0 +1,59 @@
+-- What is made of the tables by what clients' own links say.
+use Rattle.std.specs.Prelude.{◌≡◌, ◌⊎◌, ℕ, true, false, All, List, Some, None}
+use Rattle.mx_base.specs.declared.names.ClientNo.{ClientNo}
+use Rattle.mx_base.specs.declared.names.LinkId.{LinkId}
+use Rattle.client_seat.specs.Seats.{account_in, is_ended}
+use Rattle.core_service.specs.declared.service.Service.{Service}
+use Rattle.core_tables.specs.Tables.{Tabled}
+use Rattle.core_tables.specs.declared.client.Client.{Client}
+use Rattle.core_laws.specs.clients.Follows.{Parting}
+use Rattle.core_laws.specs.clients.Turns.{Choice, Halt}
+use Rattle.router_laws.specs.clients.Leaves.{LeavesAtOnce, LeavesGoing, is_at_rest}
+use Rattle.router_laws.specs.clients.Plans.{nobody}
+use Rattle.router_laws.specs.clients.Speaks.{SpeaksSo}
+use Rattle.router_laws.specs.decisions.Deeds.{IsAlone}
+use Rattle.shared_core.specs.declared.leaving.Leaving.{Leaving}
+use Rattle.shared_core.specs.declared.leaving.Leaving.TheVariants as leaving
+
+-- Bytes came, and it went on.
+pub record HasSpoken (service : Service) (link : LinkId) (bytes : List ℕ) (c : ClientNo) (old new : Tabled) : Type 0 where
+  pub ordinal : ℕ
+  pub choices : List Choice
+  pub halt : Halt
+  pub parting : Parting
+  pub links : List LinkId
+  pub alone : All IsAlone choices
+  pub so : SpeaksSo service.setup service.default_schema link bytes c ordinal choices halt parting links old new
+
+-- it goes on, and waits for an answer or isn't logged in
+pub record IsBusy (row : Client) : Type 0 where
+  pub going : is_ended row.desk.seat.phase ≡ false
+  pub busy : (row.desk.seat.answered ≡ false) ⊎ (account_in row.desk.seat.phase ≡ None)
+
+-- How its link is lost, by its row.
+
+pub record HasRow (Is : Client → Type 0) (c : ClientNo) (t : Tabled) : Type 0 where
+  pub row : Client
+  pub there : t.clients c ≡ Some row
+  pub is : Is row
+
+abbrev pub LeavesBy : Leaving → ClientNo → Tabled → Type 0
+LeavesBy leaving.Gone c t = t.clients c ≡ None
+LeavesBy leaving.Again c t = HasRow (λ (row : Client). is_ended row.desk.seat.phase ≡ true) c t
+LeavesBy leaving.AtOnce c t = HasRow IsBusy c t
+LeavesBy leaving.GoingOn c t = HasRow (λ (row : Client). is_at_rest row ≡ true) c t
+
+-- Its link was lost: it ended at once; or it began anew, went on, and was ended.
+
+pub record HasLeftAtOnce (link : LinkId) (c : ClientNo) (old new : Tabled) : Type 0 where
+  pub links : List LinkId
+  pub so : LeavesAtOnce link links c nobody old new
+
+pub record HasLeftGoing (service : Service) (link : LinkId) (c : ClientNo) (old new : Tabled) : Type 0 where
+  pub links : List LinkId
+  pub ordinal : ℕ
+  pub choices : List Choice
+  pub halt : Halt
+  pub parting : Parting
+  pub alone : All IsAlone choices
+  pub so : LeavesGoing service.setup service.default_schema link links ordinal choices halt parting c old new

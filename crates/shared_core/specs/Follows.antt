@@ -1,0 +1,164 @@
+-- What is made of the tables as clients go on and statements are given up, and what stays as it was.
+use Rattle.std.specs.Prelude.{◌≡◌, ◌<◌, ℕ, Bool, true, All, is_some, if◌then◌else◌, map, List, [], ◌∷◌, ◌++◌, Option, Some, None}
+use Rattle.std.specs.List.{list_any}
+use Rattle.std.specs.Option.{option_map}
+use Rattle.mx_base.specs.declared.names.ClientNo.{ClientNo}
+use Rattle.mx_base.specs.declared.names.LinkId.{LinkId}
+use Rattle.private_model.specs.Story.{is_client}
+use Rattle.session_state.specs.declared.names.SessionName.{SessionName}
+use Rattle.client_seat.specs.Seats.{account_in}
+use Rattle.core_policy.specs.declared.verdict.GiveUp.{GiveUp}
+use Rattle.core_service.specs.declared.service.Service.{Service}
+use Rattle.core_tables.specs.Parting.{given_up, given_up_in}
+use Rattle.core_tables.specs.Tables.{IsSame, Tabled}
+use Rattle.core_tables.specs.declared.client.Client.{Client}
+use Rattle.core_laws.specs.clients.Follows.{FollowsSo, IsUnfaulty, Parting, PartsSo, Stays, ends_by, quits_by}
+use Rattle.core_laws.specs.clients.Going.{GivenUp, GoesSo, Going, IsCalled, is_going, told_to}
+use Rattle.core_laws.specs.clients.Turns.{Choice, Halt, MayLeave, Rests}
+use Rattle.router_laws.specs.decisions.Deeds.{IsAlone}
+use Rattle.marked_tables.specs.Goes.{GoesOn}
+use Rattle.marked_tables.specs.Homes.{Rise, is_among, is_home_in}
+use Rattle.router_laws.specs.reading.Givings.{MayBeGivenUp}
+use Rattle.router_laws.specs.links.Loses.{IsGivenUpWith}
+use Rattle.router_laws.specs.wakes.Calling.{AllGoOn, Caller, CallerGoesOn, CallsSo}
+use Rattle.router_laws.specs.wakes.Deciding.{AreAloneAll}
+use Rattle.shared_core.specs.declared.router.Router.{Router}
+
+-- What stays as it was, but for tables, marks, and what is chosen by; the links that aren't marked say no more than before.
+pub record Keeps (old new : Router) : Type 0 where
+  pub goes : GoesOn old.marked new.marked
+  pub roomy : new.roomy ≡ old.roomy
+  pub came : new.came ≡ old.came
+  pub asked : new.asked ≡ old.asked
+  pub client : new.leaving ≡ old.leaving
+  pub link : new.closing ≡ old.closing
+
+-- one of these clients
+abbrev pub is_of : List ClientNo → ClientNo → Bool
+is_of clients c = list_any (is_client c) clients
+
+-- their numbers go up
+abbrev pub AreRising : List ClientNo → Type 0
+AreRising [] = Unit {0}
+AreRising (client ∷ others) = All (λ (other : ClientNo). client.0 < other.0) others × AreRising others
+
+-- the links that carry their sessions, in the order of their ids
+pub record AreAllHomes (clients : List ClientNo) (links : List LinkId) (t : Tabled) : Type 0 where
+  pub rises : Rise links
+  pub homes : (c : ClientNo) (l : LinkId) → is_of clients c ≡ true → is_home_in l (t.clients c) ≡ true → is_among l links ≡ true
+
+-- those of these that are links to servers
+abbrev pub known_in : Tabled → List LinkId → List LinkId
+known_in t [] = []
+known_in t (l ∷ ls) = if is_some (t.links l) then l ∷ known_in t ls else known_in t ls
+
+-- one more, where that is one
+abbrev pub known_more : Tabled → LinkId → List LinkId → List LinkId
+known_more t l known = if is_some (t.links l) then known ++ l ∷ [] else known
+
+-- A client took up what it could, and was ended, if it was to.
+pub record HasGone (service : Service) (c : ClientNo) (ends : Bool) (old new : Tabled) : Type 0 where
+  pub choices : List Choice
+  pub halt : Halt
+  pub parting : Parting
+  pub alone : All IsAlone choices
+  pub goes : CallerGoesOn service.setup service.default_schema
+      (record { client = c; choices = choices; halt = halt; parting = parting }) old new
+  pub ended : ends ≡ true → ends_by halt parting ≡ true
+
+-- How it was ended behind its turns.
+
+pub record HasParted (c : ClientNo) (ends : Bool) (halt : Halt) (old new : Tabled) : Type 0 where
+  pub parting : Parting
+  pub once : quits_by halt ≡ true → parting ≡ Stays
+  pub parts : PartsSo parting c old new
+  pub ended : ends ≡ true → ends_by halt parting ≡ true
+
+-- behind turns that rest no error stands next of one that waits for nothing
+abbrev pub IsRested : ClientNo → Tabled → Type 0
+IsRested c t =
+    (row : Client) → t.clients c ≡ Some row → is_some (account_in row.desk.seat.phase) ≡ true → row.desk.seat.answered ≡ true
+    → IsUnfaulty row.desk.seat.client
+
+abbrev pub RestsBehind : Halt → ClientNo → Tabled → Type 0
+RestsBehind Rests c t = IsRested c t
+RestsBehind _ c t = Unit {0}
+
+-- it is there, and has lives to leave
+pub record MayEnd (c : ClientNo) (t : Tabled) : Type 0 where
+  pub row : Client
+  pub there : t.clients c ≡ Some row
+  pub lives : MayLeave row
+
+-- And links were given back that carried its sessions.
+pub record HasFollowed (service : Service) (c : ClientNo) (ends : Bool) (old new : Tabled) : Type 0 where
+  pub choices : List Choice
+  pub halt : Halt
+  pub parting : Parting
+  pub links : List LinkId
+  pub alone : All IsAlone choices
+  pub follows : FollowsSo service.setup service.default_schema c choices halt parting links old new
+  pub ended : ends ≡ true → ends_by halt parting ≡ true
+
+-- Several clients did, one after the other.
+pub record HaveFollowed (service : Service) (clients : List ClientNo) (old new : Tabled) : Type 0 where
+  pub callers : List Caller
+  pub links : List LinkId
+  pub named : map (λ (k : Caller). k.client) callers ≡ clients
+  pub alone : AreAloneAll callers
+  pub calls : CallsSo service.setup service.default_schema callers links old new
+
+-- by what they were called
+pub record HaveGone (service : Service) (clients : List ClientNo) (old new : Tabled) : Type 0 where
+  pub callers : List Caller
+  pub named : map (λ (k : Caller). k.client) callers ≡ clients
+  pub alone : AreAloneAll callers
+  pub going : AllGoOn callers service.setup service.default_schema old new
+
+-- The router answered a client's statement itself.
+pub record HasAnswered (c : ClientNo) (old new : Tabled) : Type 0 where
+  pub payload : List ℕ
+  pub same : IsSame new (given_up c payload old)
+
+abbrev pub up_client : Option GiveUp → Option ClientNo
+up_client given = option_map (λ (up : GiveUp). up.client) given
+
+abbrev pub told_client : Option GivenUp → Option ClientNo
+told_client told = option_map (λ (up : GivenUp). up.client) told
+
+-- It did, if it was to.
+pub record HasGiven (given : Option GiveUp) (old new : Tabled) : Type 0 where
+  pub told : Option GivenUp
+  pub its : told_client told ≡ up_client given
+  pub same : IsSame new (given_up_in (told_to told) old)
+
+-- Who is called by a link that carries this session, where that client's statement is given up: its own client; or else one that goes on.
+abbrev pub IsFor : Option SessionName → ClientNo → Tabled → Type 0
+IsFor (Some name) c t = c ≡ name.client
+IsFor None c t = is_going (t.clients c) ≡ true
+
+-- What may be given up as bytes come on a link, and as a link is lost.
+
+pub record MayBeGiven (name : Option SessionName) (c : ClientNo) (t : Tabled) : Type 0 where
+  pub its : IsFor name c t
+  pub may : MayBeGivenUp c t
+
+pub record MayBeGivenWith (link : LinkId) (name : Option SessionName) (c : ClientNo) (t : Tabled) : Type 0 where
+  pub its : IsFor name c t
+  pub may : IsGivenUpWith link c t
+
+-- Whoever was called went on.
+
+abbrev pub called_by : Option SessionName → (given : Option ClientNo) → Tabled → Option ClientNo
+called_by (Some name) given t = if is_going (t.clients name.client) then Some name.client else None
+called_by None given t = given
+
+abbrev pub AreAloneIf : Option Going → Type 0
+AreAloneIf None = Unit {0}
+AreAloneIf (Some going) = All IsAlone going.choices
+
+pub record HasCalled (service : Service) (name : Option SessionName) (told : Option GivenUp) (old new : Tabled) : Type 0 where
+  pub going : Option Going
+  pub called : IsCalled name told old (option_map (λ (g : Going). g.client) going)
+  pub alone : AreAloneIf going
+  pub goes : GoesSo going service.setup service.default_schema old new

@@ -1,0 +1,16 @@
+-- What is made of the tables as bytes come on a link to a server.
+use Rattle.std.specs.Prelude.{ℕ, List, Option}
+use Rattle.mx_base.specs.declared.names.LinkId.{LinkId}
+use Rattle.core_service.specs.declared.service.Service.{Service}
+use Rattle.core_laws.specs.clients.Going.{GivenUp, Going}
+use Rattle.router_laws.specs.reading.Hearing.{AreAloneOf}
+use Rattle.router_laws.specs.reading.Hears.{HearsSo}
+use Rattle.shared_core.specs.Stands.{tables}
+use Rattle.shared_core.specs.declared.router.Router.{Router}
+
+-- A statement was given up, if one was, and a client went on, if one was called.
+pub record HasHeard (service : Service) (link : LinkId) (bytes : List ℕ) (old new : Router) : Type 0 where
+  pub given : Option GivenUp
+  pub going : Option Going
+  pub alone : AreAloneOf going
+  pub so : HearsSo service.setup service.default_schema link bytes old.clock given going (tables old) (tables new)

@@ -1,0 +1,13 @@
+pub mod Says
+pub mod Rows
+pub mod Follows
+pub mod Hears
+pub mod Losses
+pub mod Clients
+pub mod Telling
+pub mod Stands
+pub mod Machine
+pub mod Links
+pub mod Rooms
+pub mod Parts
+pub mod Wakes

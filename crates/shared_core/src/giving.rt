@@ -1,0 +1,162 @@
+// Statements are given up.
+ghost use Rattle.std.specs.Prelude.{◌≡◌, IfSome, OnOk, Option, true};
+ghost use Rattle.core_laws.specs.clients.Going.{GivenUp};
+ghost use Rattle.router_laws.specs.links.Loses.{IsGivenUpWith};
+ghost use Rattle.router_laws.specs.reading.Givings.{MayBeGivenUp};
+ghost use Rattle.shared_core.specs.Follows.{HasAnswered, HasCalled, HasGiven, IsFor, Keeps, MayBeGiven, MayBeGivenWith, called_by, told_client, up_client};
+ghost use Rattle.shared_core.specs.Stands.{tables};
+
+use crate::router::Router;
+use crate::rows::{home_of_work, is_broken, is_unsent};
+use core_policy::GiveUp;
+use core_service::{Failure, Service, payload_of};
+use mx_base::{ClientNo, LinkId, OutOfMemory};
+use session_state::SessionName;
+
+fn is_last(ends: Option<ClientNo>, client: ClientNo) -> bool {
+    match ends {
+        Some(last) => last.0 == client.0,
+        None => false,
+    }
+}
+
+impl Router {
+    /// A client's statement in work is given up: the router answers it itself.
+    pub(crate) fn gives_up(&mut self, client: ClientNo, why: Failure) -> Result<(), OutOfMemory>
+        ensures answers { OnOk result (HasAnswered client (tables self.old) (tables self.new)) }
+        ensures keeps { OnOk result (Keeps self.old self.new) }
+    {
+        let payload = payload_of(self.alloc, why)?;
+        self.marked.give_up(client, payload.as_slice())?;
+        self.changed(client);
+        Ok(())
+    }
+
+    /// So it is, if one is.
+    pub(crate) fn gives(&mut self, given: Option<GiveUp>) -> Result<(), OutOfMemory>
+        ensures gives { OnOk result (HasGiven given (tables self.old) (tables self.new)) }
+        ensures keeps { OnOk result (Keeps self.old self.new) }
+    {
+        match given {
+            Some(up) => {
+                self.gives_up(up.client, up.why)?;
+                Ok(())
+            }
+            None => Ok(()),
+        }
+    }
+
+    // It is of the client whose session a link carries, if it carries one, and else of one that goes on.
+    fn is_for(&self, name: Option<SessionName>, client: ClientNo) -> bool
+        ensures { result ≡ true → IsFor name client (tables self.now) }
+    {
+        match name {
+            Some(name) => client.0 == name.client.0,
+            None => self.is_there(client),
+        }
+    }
+
+    // It wasn't sent, or the link broke to which it was.
+    fn is_aside(&self, client: ClientNo) -> bool
+        ensures { result ≡ true → MayBeGivenUp client (tables self.now) }
+    {
+        if is_unsent(&self.marked.tables, client) {
+            true
+        } else {
+            is_broken(&self.marked.tables, client)
+        }
+    }
+
+    // It wasn't sent, or it was to this link.
+    fn is_aside_with(&self, link: LinkId, client: ClientNo) -> bool
+        ensures { result ≡ true → IsGivenUpWith link client (tables self.now) }
+    {
+        if is_unsent(&self.marked.tables, client) {
+            return true;
+        }
+        match home_of_work(&self.marked.tables, client) {
+            Some(home) => home.0 == link.0,
+            None => false,
+        }
+    }
+
+    /// What may be given up of a statement by what was heard on a link that carries this session.
+    pub(crate) fn may_give(
+        &self,
+        name: Option<SessionName>,
+        given: Option<GiveUp>,
+    ) -> Option<GiveUp>
+        ensures { IfSome result (λ up. MayBeGiven name up.client (tables self.now)) }
+    {
+        let up = given?;
+        if !self.is_for(name, up.client) {
+            return None;
+        }
+        if self.is_aside(up.client) {
+            Some(up)
+        } else {
+            None
+        }
+    }
+
+    /// And as a link is lost.
+    pub(crate) fn may_give_with(
+        &self,
+        link: LinkId,
+        name: Option<SessionName>,
+        given: Option<GiveUp>,
+    ) -> Option<GiveUp>
+        ensures { IfSome result (λ up. MayBeGivenWith link name up.client (tables self.now)) }
+    {
+        let up = given?;
+        if !self.is_for(name, up.client) {
+            return None;
+        }
+        if self.is_aside_with(link, up.client) {
+            Some(up)
+        } else {
+            None
+        }
+    }
+
+    // The client whose session a link carries, if it goes on, or else the one whose statement was given up.
+    fn called_by(&self, name: Option<SessionName>, given: Option<GiveUp>) -> Option<ClientNo>
+        ensures { result ≡ called_by name (up_client given) (tables self.now) }
+    {
+        match name {
+            Some(name) => {
+                if self.is_there(name.client) {
+                    Some(name.client)
+                } else {
+                    None
+                }
+            }
+            None => match given {
+                Some(up) => Some(up.client),
+                None => None,
+            },
+        }
+    }
+
+    /// Whoever an entry of a link to a server calls goes on.
+    pub(crate) fn call(
+        &mut self,
+        service: &Service,
+        name: Option<SessionName>,
+        given: Option<GiveUp>,
+        ends: Option<ClientNo>,
+    ) -> Result<(), OutOfMemory>
+        ensures calls { OnOk result ((told : Option GivenUp) → told_client told ≡ up_client given
+            → IfSome given (λ up. IsFor name up.client (tables self.old))
+            → HasCalled service.now name told (tables self.old) (tables self.new)) }
+        ensures keeps { OnOk result (Keeps self.old self.new) }
+    {
+        match self.called_by(name, given) {
+            Some(client) => {
+                self.follow(service, client, is_last(ends, client))?;
+                Ok(())
+            }
+            None => Ok(()),
+        }
+    }
+}

@@ -1,0 +1,87 @@
+// The router.
+ghost use Rattle.std.specs.Prelude.{◌≡◌, [], IfOk, None};
+ghost use Rattle.core_service.specs.declared.service.Service.{Service};
+ghost use Rattle.mx_config.specs.Lawful.{IsLawful};
+ghost use Rattle.shared_core.specs.Stands.{Chooses, IsClosed, StandsFor, shown};
+
+use crate::roomy::Roomy;
+use core_policy::{Asked, Policy};
+use core_service::Service;
+use marked_tables::MarkedTables;
+use mx_base::{ClientNo, LinkId, OutOfMemory};
+use mx_config::Config;
+use std::alloc::Global;
+
+/// The links that may be open at a time, of clients and to servers: one beyond them is refused like want of memory.
+const MOST_LINKS: u32 = 14_001;
+
+/// What changes of the core: clients and links, with marks of the links that the loop has to look at; what is chosen by; how many clients came;
+/// who has room again; the open that was asked for last; the client, or the link to a server, whose close was; whether there may be something
+/// to ask for; the moment at which there is something to do, and that of the last wake, in milliseconds.
+#[derive(Drop)]
+pub struct Router {
+    pub alloc: Global,
+    pub marked: MarkedTables,
+    pub policy: Policy,
+    pub came: u64,
+    pub roomy: Roomy,
+    pub asked: Option<Asked>,
+    pub leaving: Option<ClientNo>,
+    pub closing: Option<LinkId>,
+    pub acting: bool,
+    pub until: u64,
+    pub clock: u64,
+}
+
+impl Router {
+    /// No client came.
+    pub fn new(alloc: Global, config: &Config) -> Result<Self, OutOfMemory>
+        requires { IsLawful config.now }
+        ensures stands { IfOk result (λ router. (service : Service) → StandsFor service [] router) }
+        ensures closed { IfOk result (λ router. IsClosed (shown router)) }
+        ensures unasked { IfOk result (λ router. router.asked ≡ None) }
+    {
+        router_laws::decisions::first_router();
+        Ok(Router {
+            alloc,
+            marked: MarkedTables::new(alloc, MOST_LINKS)?,
+            policy: Policy::new(alloc, config)?,
+            came: 0,
+            roomy: Roomy::new(alloc),
+            asked: None,
+            leaving: None,
+            closing: None,
+            acting: false,
+            until: 0,
+            clock: 0,
+        })
+    }
+
+    /// It may have something to ask for, and another moment at which it wants to be woken. Takes no memory.
+    pub(crate) fn turns(&mut self, service: &Service)
+        ensures { Chooses self.old self.new }
+    {
+        self.acting = true;
+        self.times(service);
+    }
+
+    /// The moment is known at which it wants to be woken. Takes no memory.
+    pub(crate) fn times(&mut self, service: &Service)
+        ensures chooses { Chooses self.old self.new }
+        ensures acting { self.new.acting ≡ self.old.acting }
+    {
+        self.until = if self.roomy.is_empty() {
+            self.policy.wakes_at(service, self.clock)
+        } else {
+            self.clock
+        };
+    }
+
+    /// The policy is told that something changed of a client. Takes no memory.
+    pub(crate) fn changed(&mut self, client: ClientNo)
+        ensures { Chooses self.old self.new }
+    {
+        self.policy
+            .client_changed(&self.marked.tables, client, self.clock);
+    }
+}
