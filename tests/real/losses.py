@@ -43,59 +43,63 @@ def greets():
     return server, links
 
 
-def threads_of(world):
-    return int(world.directly("SELECT COUNT(*) FROM information_schema.processlist WHERE user = 'u'"))
+def tried(cursor, statement="DO 1"):
+    """How a statement ends once its server isn't shunned, and in how many seconds."""
+    while True:
+        began = time.monotonic()
+        code = code_of(cursor.execute, statement)
+        if code != 9100:
+            return code, time.monotonic() - began
+        time.sleep(0.2)
 
 
-with World() as world:
+with World(proxy="max_clients = 4000\nwait_ms = 20000") as world:
     threads = [threading.Thread(target=client) for _ in range(CLIENTS)]
     for thread in threads:
         thread.start()
     started.wait(60)
     time.sleep(1)
-    world.kill_server()
+    world.server.kill()
     for thread in threads:
         thread.join(30)
-    check("each client of a killed server is told", (len(codes), set(codes) <= {9101, 9103}), (CLIENTS, True))
+    check("each client of a killed server is told", (len(codes), set(codes) <= {9100, 9101, 9103}), (CLIENTS, True))
     waiting = connect(autocommit=None).cursor()
-    begun = time.monotonic()
-    check("a statement while no server is there", code_of(waiting.execute, "DO 1"), 9103)
-    check("which is told at once", time.monotonic() - begun < 5, True)
-    world.start_server()
-    check("the same client, once it is there again", code_of(waiting.execute, "DO 1"), 0)
+    code, took = tried(waiting)
+    check("a statement while no server is there", code, 9103)
+    check("which is told at once", took < 5, True)
+    began = time.monotonic()
+    check("and the next, of a server that is shunned", [code_of(waiting.execute, "DO 1") for _ in range(3)], [9100] * 3)
+    world.server.start()
+    check("the same client, once it is there again", tried(waiting)[0], 0)
+    check("ten seconds later", 9 < time.monotonic() - began < 13, True)
 
-    world.kill_server()
+    world.server.kill()
     with socket.create_server(("127.0.0.1", SERVER_PORT)):
-        waiting = connect(autocommit=None).cursor()
-        begun = time.monotonic()
-        check("a server that takes connections and says nothing", code_of(waiting.execute, "DO 1"), 9103)
-        check("which is told after ten seconds", 9 < time.monotonic() - begun < 12, True)
+        code, took = tried(waiting)
+        check("a server that takes connections and says nothing", code, 9103)
+        check("which is told after ten seconds", 9 < took < 12, True)
     server, links = greets()
-    begun = time.monotonic()
-    check("a server that says nothing to the login", code_of(waiting.execute, "DO 1"), 9103)
-    check("which is told after ten seconds", 9 < time.monotonic() - begun < 12, True)
+    code, took = tried(waiting)
+    check("a server that says nothing to the login", code, 9103)
+    check("which is told after ten seconds", 9 < took < 12, True)
     check("the login had been sent there", len(links), 2)
     for socket_ in [server, links[0]]:
         socket_.close()
-    world.start_server()
-    check("the same client, once the server speaks", code_of(waiting.execute, "DO 1"), 0)
+    world.server.start()
+    check("the same client, once the server speaks", tried(waiting)[0], 0)
     check("a statement of more than ten seconds", code_of(waiting.execute, "DO SLEEP(11)"), 0)
 
-    before = threads_of(world)
     gone = []
     for _ in range(CLIENTS):
         link = connect()
-        link.cursor().execute("DO 1")
         link._execute_command(3, "DO SLEEP(2)")
         gone.append(link._sock)
     for link in gone:
         link.close()
     check("clients that go while their statement runs", code_of(connect().cursor().execute, "DO 1"), 0)
-    for _ in range(100):
-        if threads_of(world) <= before + 1:
-            break
-        time.sleep(0.1)
-    check("their links to the server are closed", threads_of(world) <= before + 1, True)
+    time.sleep(3)
+    check("their links serve others", [code_of(connect().cursor().execute, "DO 1") for _ in range(CLIENTS)], [0] * CLIENTS)
+    check("and are no more than they were", len(world.server.links()) <= CLIENTS + 1, True)
 
     for k in range(200):
         link = socket.create_connection(("127.0.0.1", PORT))

@@ -1,5 +1,5 @@
 #!/usr/bin/python3
-"""Many clients at once, each with a user variable of its own that is written to a table and read back."""
+"""Many clients at once, each with a user variable of its own, which is written to a table and read back, and so with a link of its own."""
 
 import threading
 
@@ -27,7 +27,7 @@ def client(n):
         together.abort()
 
 
-with World() as world:
+with World(links=(CLIENTS,)) as world:
     check("the table", code_of(connect().cursor().execute, "CREATE TABLE d.t (n INT, k INT, mine INT) ENGINE=MEMORY"), 0)
     threads = [threading.Thread(target=client, args=(n,)) for n in range(CLIENTS)]
     for thread in threads:

@@ -1,17 +1,19 @@
 #!/usr/bin/python3
 """What is to work and doesn't so far. Each line says how it ends."""
 
+import struct
+
 from world import World, check, code_of, connect, end, not_yet
 
+COMMANDS = [("COM_STMT_PREPARE", 0x16, b"DO ?"), ("COM_STMT_EXECUTE", 0x17, struct.pack("<IBI", 1, 0, 1)),
+            ("COM_STMT_RESET", 0x1A, struct.pack("<I", 1)), ("COM_STMT_FETCH", 0x1C, struct.pack("<II", 1, 1)),
+            ("COM_CHANGE_USER", 0x11, b"u\0\0d\0")]
 
 with World() as world:
-    world.directly("CREATE TABLE d.numbers (n INT)")
-    not_yet("a schema that the client names", code_of(connect(database="d").cursor().execute, "DELETE FROM numbers WHERE n = 1"))
     link = connect()
-    link._execute_command(0x16, "DO ?")
-    not_yet("COM_STMT_PREPARE", code_of(link._read_packet))
-    world.directly("CREATE TABLE d.charsets (name TEXT)")
-    connect(charset="latin1").cursor().execute("INSERT INTO d.charsets SELECT @@character_set_client")
-    not_yet("a character set that the client names, latin1", world.directly("SELECT name FROM d.charsets").strip())
+    for name, byte, words in COMMANDS:
+        link._execute_command(byte, words)
+        not_yet(name, code_of(link._read_packet))
+    check("the client goes on", code_of(link.cursor().execute, "DO 1"), 0)
     check("others go on", code_of(connect().cursor().execute, "DO 1"), 0)
 end()

@@ -1,4 +1,4 @@
-"""A MariaDB server and an mx_proxy of a script's own, on ports of their own, with their data in a folder of their own."""
+"""MariaDB servers and an mx_proxy of a script's own, on ports of their own, with their data in a folder of their own."""
 
 import os
 import shutil
@@ -12,7 +12,7 @@ import time
 HERE = os.path.dirname(os.path.abspath(__file__))
 TOP = os.path.dirname(os.path.dirname(HERE))
 PROGRAM = os.environ.get("MX_PROXY", os.path.join(TOP, "crates", "mx_proxy", "out", "mx_proxy"))
-SERVER_PORT, PORT, ADMIN_PORT = 23306, 26033, 26032
+SERVER_PORT, PORT, ADMIN_PORT = 23306, 26033, 26032  # a second server has the port behind the first one's
 PACKAGES = {"mariadbd": "mariadb-server", "mariadb": "mariadb-client"}
 
 CONFIG = f"""[proxy]
@@ -20,7 +20,7 @@ listen = "127.0.0.1:{PORT}"
 admin_listen = "127.0.0.1:{ADMIN_PORT}"
 admin_user = "admin"
 admin_password = "admin"
-max_clients = 4000
+{{proxy}}
 [[users]]
 name = "u"
 password = "secret"
@@ -30,10 +30,12 @@ password = ""
 [[users]]
 name = "stranger"
 password = "the server doesn't know this user"
-[[servers]]
-hostgroup = 0
+"""
+SERVER = """[[servers]]
+hostgroup = {hostgroup}
 host = "127.0.0.1"
-port = {SERVER_PORT}
+port = {port}
+max_connections = {links}
 """
 
 OPENING = """
@@ -76,52 +78,82 @@ def wait_for(port):
     sys.exit(f"nothing answers at port {port}")
 
 
-class World:
-    """`with World() as world:` starts a server and an mx_proxy before it, and stops both."""
+class Server:
+    """A MariaDB server."""
 
-    def __init__(self, wrap=()):
+    def __init__(self, data, port):
+        self.data, self.port, self.running = data, port, None
+        self.user = ["--user=mysql"] if os.geteuid() == 0 else []
+        os.mkdir(data)
+        if os.geteuid() == 0:
+            shutil.chown(data, "mysql", "mysql")
+        subprocess.run(["mariadb-install-db", "--no-defaults", "--auth-root-authentication-method=normal", "--skip-test-db",
+                        f"--datadir={data}", *self.user], check=True, stdout=subprocess.DEVNULL, stderr=subprocess.DEVNULL)
+        self.start()
+        self.directly(OPENING)
+
+    def start(self):
+        self.running = subprocess.Popen(
+            ["mariadbd", "--no-defaults", f"--datadir={self.data}", f"--socket={self.data}/socket", f"--port={self.port}",
+             "--bind-address=127.0.0.1", "--skip-name-resolve", "--skip-log-bin", "--max-connections=4100", "--back-log=4000",
+             "--max-allowed-packet=64M", "--thread-cache-size=256", *self.user],
+            stdout=subprocess.DEVNULL, stderr=subprocess.DEVNULL)
+        wait_for(self.port)
+
+    def kill(self):
+        self.running.kill()
+        self.running.wait()
+
+    def directly(self, statements, check=True):
+        """What the server itself answers to these statements, on its socket."""
+        done = subprocess.run(["mariadb", "--no-defaults", "-N", "-u", "root", f"--socket={self.data}/socket"], input=statements,
+                              check=check, capture_output=True, text=True)
+        return done.stdout
+
+    def links(self):
+        """The numbers of the sessions of `u` here, which are mx_proxy's links."""
+        return self.directly("SELECT id FROM information_schema.processlist WHERE user = 'u'").split()
+
+    def kill_links(self, numbers=None):
+        """Kills these links, or all."""
+        for number in self.links() if numbers is None else numbers:
+            self.directly(f"KILL {number}", check=False)  # it may be gone already
+
+
+class World:
+    """`with World() as world:` starts a server and an mx_proxy before it, and stops both. There are as many servers as `links` has numbers,
+    each in a hostgroup of its own, and each number is the most links to its server. `proxy` and `more` are lines of the configuration."""
+
+    def __init__(self, wrap=(), links=(100,), proxy="max_clients = 4000", more=""):
         have_packages()
         if not os.path.exists(PROGRAM):
             sys.exit("build the program first: ./mx_proxy")
         self.wrap = list(wrap)
+        self.most, self.proxy_lines, self.more = links, proxy, more
         self.folder = tempfile.mkdtemp(prefix="mx_proxy-")
         os.chmod(self.folder, 0o755)
-        self.data = os.path.join(self.folder, "data")
-        self.server = self.proxy = None
+        self.servers = []
+        self.proxy = None
 
     def __enter__(self):
-        os.mkdir(self.data)
-        if os.geteuid() == 0:
-            shutil.chown(self.data, "mysql", "mysql")
-        self.user = ["--user=mysql"] if os.geteuid() == 0 else []
-        subprocess.run(["mariadb-install-db", "--no-defaults", "--auth-root-authentication-method=normal", "--skip-test-db",
-                        f"--datadir={self.data}", *self.user], check=True, stdout=subprocess.DEVNULL, stderr=subprocess.DEVNULL)
-        self.start_server()
-        self.directly(OPENING)
+        for k in range(len(self.most)):
+            self.servers.append(Server(os.path.join(self.folder, f"data{k}"), SERVER_PORT + k))
+        self.server = self.servers[0]
         self.config = os.path.join(self.folder, "mx_proxy.toml")
         with open(self.config, "w", encoding="utf-8") as file:
-            file.write(CONFIG)
+            file.write(CONFIG.format(proxy=self.proxy_lines))
+            for k, most in enumerate(self.most):
+                file.write(SERVER.format(hostgroup=k, port=SERVER_PORT + k, links=most))
+            file.write(self.more)
         self.start_proxy()
         return self
 
     def __exit__(self, *_):
-        for process in (self.proxy, self.server):
+        for process in (self.proxy, *(server.running for server in self.servers)):
             if process is not None and process.poll() is None:
                 process.send_signal(signal.SIGTERM)
                 process.wait(60)
         shutil.rmtree(self.folder, ignore_errors=True)
-
-    def start_server(self):
-        self.server = subprocess.Popen(
-            ["mariadbd", "--no-defaults", f"--datadir={self.data}", f"--socket={self.data}/socket", f"--port={SERVER_PORT}",
-             "--bind-address=127.0.0.1", "--skip-name-resolve", "--skip-log-bin", "--max-connections=4100", "--back-log=4000",
-             "--max-allowed-packet=64M", "--thread-cache-size=256", *self.user],
-            stdout=subprocess.DEVNULL, stderr=subprocess.DEVNULL)
-        wait_for(SERVER_PORT)
-
-    def kill_server(self):
-        self.server.kill()
-        self.server.wait()
 
     def start_proxy(self):
         limit = 'ulimit -n 65536 2>/dev/null; exec "$@"'
@@ -129,10 +161,7 @@ class World:
         wait_for(PORT)
 
     def directly(self, statements):
-        """What the server itself answers to these statements, on its socket."""
-        done = subprocess.run(["mariadb", "--no-defaults", "-N", "-u", "root", f"--socket={self.data}/socket"], input=statements,
-                              check=True, capture_output=True, text=True)
-        return done.stdout
+        return self.server.directly(statements)
 
 
 def connect(user="u", password="secret", **more):
@@ -141,6 +170,12 @@ def connect(user="u", password="secret", **more):
 
     more = {"autocommit": True, "connect_timeout": 10, "read_timeout": 60, **more}
     return pymysql.connect(host="127.0.0.1", port=PORT, user=user, password=password, **more)
+
+
+def rows(cursor, statement):
+    """The rows that answer a statement."""
+    cursor.execute(statement)
+    return cursor.fetchall()
 
 
 FAULTS = []
