@@ -11,7 +11,7 @@ pub enum Names {
 }
 
 // Names with their hexadecimal digits, the longer ones first, as one's digits may stand in another's; and how a line feed is written.
-const NAMES: [(&str, &str, Names); 26] = [
+const NAMES: [(&str, &str, Names); 29] = [
     (" | ", "\n", Names::Both),
     // The greeting to the first client of a recording. A server's is the same.
     (
@@ -30,6 +30,12 @@ const NAMES: [(&str, &str, Names); 26] = [
         "4d0000000a382e302e33302d6d7800020000000201010165666768000fa22d02000e001500000000000000000000696a6b6c6d6e6f7071727374006d7973716c5f6e61746976655f70617373776f726400",
         Names::Scripted,
     ),
+    // The steps to a client that names no schema: COM_INIT_DB of the default one, and SET NAMES of utf8mb4_general_ci.
+    (
+        "{steps}",
+        "1300000002696e666f726d6174696f6e5f736368656d612d00000003534554204e414d455320757466386d623420434f4c4c41544520757466386d62345f67656e6572616c5f6369",
+        Names::Scripted,
+    ),
     // The response of the user u, who has no password. It names the schema d.
     (
         "{login}",
@@ -41,6 +47,12 @@ const NAMES: [(&str, &str, Names); 26] = [
         "{own_login}",
         "3900000105a20e00000000012d00000000000000000000000000000000000000000000007500006d7973716c5f6e61746976655f70617373776f726400",
         Names::Both,
+    ),
+    // The steps to a client in the schema d: COM_INIT_DB, and SET NAMES of utf8mb4_general_ci.
+    (
+        "{steps}",
+        "0200000002642d00000003534554204e414d455320757466386d623420434f4c4c41544520757466386d62345f67656e6572616c5f6369",
+        Names::Recorded,
     ),
     // A greeting behind the low half of its capabilities.
     (
@@ -59,6 +71,12 @@ const NAMES: [(&str, &str, Names); 26] = [
         "{refused}",
         "22000001ff8f2323485930303053657276657220636f6e6e656374696f6e2072656675736564",
         Names::Both,
+    ),
+    // The question for an insert id.
+    (
+        "{last_id}",
+        "180000000353454c454354204c4153545f494e534552545f49442829",
+        Names::Scripted,
     ),
     // Error 1146, of the server.
     (

@@ -1,86 +1,135 @@
--- A core that stands for a log has served, and so it has where memory was refused.
-use Rattle.std.specs.Prelude.{◌≡◌, ◌⊎◌, ◌<◌, ◌≤◌, List, [], ◌∷◌, ◌++◌, length, Option, Some, refl}
-use Rattle.std.proofs.Common.{sym, ◌∙◌, ap, subst, arith, inl, inr, append_assoc, append-nil}
+-- A core that stands for a log keeps clients apart in it, and so it did where memory was refused.
+use Rattle.std.specs.Prelude.{◌≡◌, ◌⊎◌, ℕ, Bool, List, [], ◌∷◌, ◌++◌, Option, Some}
+use Rattle.std.proofs.Common.{refl, sym, ap, ◌∙◌, subst, inl, inr, append_assoc, append-nil}
+use Rattle.core_promises.proofs.Apart.{apart}
+use Rattle.core_promises.specs.Sessions.{ServesApart}
+use Rattle.core_service.specs.Serves.{ServesBy}
+use Rattle.core_service.specs.declared.service.Service.{Service}
+use Rattle.core_tables.specs.Tables.{Tabled}
 use Rattle.mx_base.specs.declared.names.Address.{Address}
-use Rattle.mx_wire.specs.Log.{Log, AreMarks}
-use Rattle.mx_wire.specs.Moments.{AllLawful, lawful-more}
-use Rattle.mx_wire.specs.Offers.{Offers}
+use Rattle.mx_base.specs.declared.names.LinkId.{LinkId}
+use Rattle.mx_config.specs.declared.config.Config.{Config}
+use Rattle.mx_wire.specs.Growth.{bytes-idle}
+use Rattle.mx_wire.specs.Log.{AreMarks, IsMark, Log, written_of, wrote_bytes}
+use Rattle.mx_wire.specs.Moments.{AllLawful, lawful-each, lawful-more}
 use Rattle.mx_wire.specs.Tells.{Fits, MayFollow}
 use Rattle.mx_wire.specs.declared.entry.Entry.{Entry}
 use Rattle.mx_wire.specs.declared.entry.Entry.TheVariants as entry
-use Rattle.recording.specs.declared.entry.RecordEntry.{RecordEntry}
-use Rattle.mem_wire.specs.Fitting.{takes}
-use Rattle.mem_wire.specs.Play.{IsPlay}
-use Rattle.client_session.specs.Setups.{Setup, most_message}
-use Rattle.promises.specs.Headline.{Serves}
-use Rattle.promises.specs.Replay.{KeepsSized}
+use Rattle.private_model.specs.Names.{ClientNo}
+use Rattle.query_rules.specs.Passing.{rules_of}
 use Rattle.ready_loop.specs.Serving.{IsWanted, ListensFirst, Stood}
-use Rattle.ready_loop.proofs.Steps.{after_marks}
-use Rattle.router_world.specs.Acts as acts
-use Rattle.router_world.specs.Tables.{Tables}
-use Rattle.router_world.specs.World.{wakes_at}
-use Rattle.router_world.proofs.Promises.{keeps}
-use Rattle.router_world.proofs.Sizing.{keeps-sized}
-use Rattle.session_core.specs.declared.router.Core.{Core}
-use Rattle.session_core.specs.Says.{reads, sends, asks, until_of, awaits}
-use Rattle.session_core.specs.Stands.{Stands}
-use Rattle.session_core.proofs.Standing.{acted-after, awaited-after, quiet, waits-after}
-use Rattle.promises.proofs.Moments.{all-follow, one-more}
+use Rattle.router_laws.specs.decisions.Routers.{IsRouter}
+use Rattle.router_promises.specs.Router.{IsConfiguredBy, Router, service_of}
+use Rattle.row_laws.specs.Readied.{AreClasses}
+use Rattle.server_rule.specs.Classes.{router_reads}
+use Rattle.shared_core.specs.Machine.{IsStanding}
+use Rattle.shared_core.specs.Says.{awaits, reads, sends}
+use Rattle.shared_core.specs.declared.whole.Core.{Core}
+use Rattle.proxy_run.specs.Serve.{GoesOnWith}
 
--- What is so of a log of the router's, whether a core still stands for it or not.
-pub record Ran (setup : Setup) (log : Log) : Type 0 where
-  pub ours : AllLawful (acts.IsOurs setup) log
-  pub fits : AllLawful Fits log
-  pub few : length log < 281474976710656
-  pub short : setup.limit ≤ most_message
-
-pub ran-of : (core : Core) (log : Log) → Stands core log → Ran core.setup log
-ran-of core log held = record { ours = held.ours; fits = held.fits; few = held.few; short = held.short }
-
-pub ran-serves : (setup : Setup) (log : Log) → Ran setup log → Serves setup log
-ran-serves setup log ran = keeps setup log ran.short (all-follow log ran.fits ran.few) ran.ours
-
--- One entry more.
-
-ran-more : (setup : Setup) (log : Log) (e : Entry) → Ran setup log → MayFollow log e → acts.IsOurs setup log e → Ran setup (log ++ e ∷ [])
-ran-more setup log e ran may ours = record {
-  ours = lawful-more (acts.IsOurs setup) log e ran.ours ours;
-  fits = lawful-more Fits log e ran.fits may.fits;
-  few = one-more log e may.bounded;
-  short = ran.short;
+abbrev router_by : Config → Service → Router
+router_by config service = record {
+  reads = router_reads;
+  proxy = config.proxy;
+  users = config.users;
+  servers = config.servers;
+  rules = rules_of service.rules;
 }
 
--- Memory was refused by the answer of a call that the core wanted.
+configured_by : (config : Config) (service : Service) → ServesBy config service → IsConfiguredBy config (router_by config service)
+configured_by config service by = record {
+  reads = refl;
+  proxy = refl;
+  users = refl;
+  servers = refl;
+  rules = by.rules;
+  patterns = by.patterns;
+}
 
-wanted-ours : (core : Core) (log : Log) (e : Entry) → Stands core log → IsWanted reads sends asks until_of awaits core log e → acts.IsOurs core.setup log e
-wanted-ours core log (entry.Woke until_ms now_ms) held wanted = (waits-after core log held wanted.0, wanted.1 ∙ ap (λ (t : Tables). wakes_at t.clock) held.tables)
-wanted-ours core log (entry.Named link) held wanted = tt
-wanted-ours core log (entry.Accepted port link salt) held wanted = acted-after core log wanted held
-wanted-ours core log (entry.Opened server address link) held wanted = awaited-after core log _ wanted held
-wanted-ours core log (entry.OpenFailed server address) held wanted = awaited-after core log _ wanted held
-wanted-ours core log (entry.Got link bytes) held wanted = (acted-after core log wanted.0 held, wanted.1)
-wanted-ours core log (entry.Ended link) held wanted = acted-after core log wanted held
-wanted-ours core log (entry.ReadFailed link) held wanted = acted-after core log wanted held
-wanted-ours core log (entry.WriteFailed link) held wanted = inl (acted-after core log wanted held)
-wanted-ours core log _ held wanted = absurd wanted
+classes : AreClasses router_reads
+unfolding router_reads
+classes = record { class = λ text. refl; hides = λ text. refl }
 
-pub stood-ran : (core : Core) (log : Log) → Stood Stands (IsWanted reads sends asks until_of awaits) (λ (c : Core). c.setup) core log → Ran core.setup log
-stood-ran core log was = subst (λ (s : Setup). Ran s log) was.serves_by (elim was.but [
-  | inl same ↦ subst (Ran was.machine.setup) (sym same) (ran-of was.machine was.before was.stood)
-  | inr refused ↦ (
-      let at : Log = was.before ++ refused.marks in
-      let few : length at < 281474976710656 = (let bounded = refused.follows.bounded in omega arith) in
-      let held : Stands was.machine at = after_marks Stands reads sends asks quiet was.machine was.before refused.marks refused.only_marks few was.stood in
-      subst (Ran was.machine.setup) (sym refused.is) (ran-more was.machine.setup at refused.last (ran-of was.machine at held) refused.follows (wanted-ours was.machine at refused.last held refused.is_wanted)))
-])
+fits-of : (log : Log) → AllLawful MayFollow log → AllLawful Fits log
+fits-of log follows = lawful-each MayFollow (AllLawful Fits) log (λ l e may fit. lawful-more Fits l e fit may.fits) tt follows
 
--- and read and written as much as the recording gave and took, where it was offered what the core owes; by the setup and the recording that
--- it began with
-pub sized-so : (core : Core) (begun setup : Setup) (lines recording : List RecordEntry) (log : Log) → core.setup ≡ begun → begun ≡ setup → lines ≡ recording → Stands core log → IsPlay recording log
-    → AllLawful (Offers (acts.lends begun) (takes lines)) log → KeepsSized setup recording log
-sized-so core begun setup lines recording log kept from same held play offers = subst (λ (s : Setup). KeepsSized s recording log) (kept ∙ from)
-    (keeps-sized core.setup recording log held.short (all-follow log held.fits held.few) held.ours play
-    (subst (λ (s : Setup). AllLawful (Offers (acts.lends s) (takes recording)) log) (sym kept) (subst (λ (r : List RecordEntry). AllLawful (Offers (acts.lends begun) (takes r)) log) same offers)))
+apart_of : (config : Config) (service : Service) (log : Log) (t : Tabled) (roomy : ClientNo → Bool) → ServesBy config service
+    → IsRouter service.setup service.default_schema log t roomy → ServesApart config log
+apart_of config service log t roomy by stands =
+    let router : Router = router_by config service in
+    let is : IsRouter (service_of router) config.proxy.default_schema log t roomy = rw (by.setup, by.default_schema) at stands in
+    record {
+      router = router;
+      configured = configured_by config service by;
+      separates = apart router log t roomy is.core classes is.recorded.alone (fits-of log is.lawful);
+    }
+
+-- its log is one that the wire may tell
+pub record Ran (config : Config) (log : Log) : Type 0 where
+  pub fits : AllLawful Fits log
+  pub serves : ServesApart config log
+
+pub ran-of : (config : Config) (core : Core) (log : Log) → ServesBy config core.service → IsStanding core log → Ran config log
+ran-of config core log by stands =
+    let router = stands.stands.router in
+    record { fits = fits-of log router.lawful; serves = apart_of config core.service log _ _ by router }
+
+-- Marks and the answers of calls by which memory may be refused write nothing.
+
+mark-silent : (e : Entry) → IsMark e → wrote_bytes e ≡ []
+mark-silent (entry.Exec link) is = refl
+mark-silent (entry.Drop link) is = refl
+mark-silent _ is = absurd is
+
+wanted-silent : (core : Core) (log : Log) (e : Entry)
+    → IsWanted reads sends (λ (c : Core). c.router.acting) (λ (c : Core). c.router.until) awaits core log e → wrote_bytes e ≡ []
+wanted-silent core log (entry.Wrote link tag bytes) wanted = absurd wanted
+wanted-silent core log _ wanted = refl
+
+mark-fits : (log : Log) (e : Entry) → IsMark e → Fits log e
+mark-fits log (entry.Exec link) is = tt
+mark-fits log (entry.Drop link) is = tt
+mark-fits log _ is = absurd is
+
+one-more : (l : Log) (e : Entry) (more : Log) → l ++ e ∷ [] ++ more ≡ l ++ e ∷ more
+one-more l e more = append_assoc l (e ∷ []) more
+
+marks-silent : (link : LinkId) (log marks : Log) → AreMarks marks → written_of link (log ++ marks) ≡ written_of link log
+marks-silent link log [] are = ap (written_of link) (append-nil log)
+marks-silent link log (e ∷ marks) are =
+    ap (written_of link) (sym (one-more log e marks)) ∙ marks-silent link (log ++ e ∷ []) marks are.1 ∙ bytes-idle wrote_bytes link log e (mark-silent e are.0)
+
+marks-fit : (log marks : Log) → AreMarks marks → AllLawful Fits log → AllLawful Fits (log ++ marks)
+marks-fit log [] are fits = subst (AllLawful Fits) (sym (append-nil log)) fits
+marks-fit log (e ∷ marks) are fits =
+    subst (AllLawful Fits) (one-more log e marks) (marks-fit (log ++ e ∷ []) marks are.1 (lawful-more Fits log e fits (mark-fits log e are.0)))
+
+pub record RanButLast (config : Config) (log : Log) : Type 0 where
+  pub fits : AllLawful Fits log
+  pub before : Log
+  pub serves : ServesApart config before
+  pub last : (log ≡ before) ⊎ GoesOnWith before log
+  pub unwritten : (link : LinkId) → written_of link log ≡ written_of link before
+
+pub stood-ran : (config : Config) (core : Core) (log : Log) → ServesBy config core.service
+    → Stood IsStanding (IsWanted reads sends (λ (c : Core). c.router.acting) (λ (c : Core). c.router.until) awaits) (λ (c : Core). c.service) core log
+    → RanButLast config log
+stood-ran config core log by was =
+    let ran : Ran config was.before = ran-of config was.machine was.before (subst (ServesBy config) (sym was.serves_by) by) was.stood in
+    elim was.but [
+      | inl same ↦ record { fits = subst (AllLawful Fits) (sym same) ran.fits; before = was.before; serves = ran.serves; last = inl same; unwritten = λ link. ap (written_of link) same }
+      | inr refused ↦ (
+          let at : Log = was.before ++ refused.marks in
+          record {
+            fits = subst (AllLawful Fits) (sym refused.is) (lawful-more Fits at refused.last (marks-fit was.before refused.marks refused.only_marks ran.fits) refused.follows.fits);
+            before = was.before;
+            serves = ran.serves;
+            last = inr (record { marks = refused.marks; only_marks = refused.only_marks; last = refused.last; is = refused.is });
+            unwritten = λ link. ap (written_of link) refused.is
+                ∙ bytes-idle wrote_bytes link at refused.last (wanted-silent was.machine at refused.last refused.is_wanted)
+                ∙ marks-silent link was.before refused.marks refused.only_marks;
+          })
+    ]
 
 -- the addresses are those of the configuration
 pub listens-at : (told : Option Log) (traffic admin at_traffic at_admin : Address) → traffic ≡ at_traffic → admin ≡ at_admin → ListensFirst traffic admin told → ListensFirst at_traffic at_admin told

@@ -1,4 +1,3 @@
 mod Turns
-mod Ending
 pub mod Keeping
 mod Learning

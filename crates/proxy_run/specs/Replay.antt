@@ -4,11 +4,11 @@ use Rattle.std.specs.Prelude.{Bool, Err, List, None, Ok, Option, Some, [], ℕ, 
 use Rattle.mem_wire.{specs.Play.IsPlay, specs.Told.Played}
 use Rattle.mx_config.{specs.Reading.reading_of, specs.Values.Agrees, specs.declared.config.Config.Config, specs.declared.fault.ConfigFault.ConfigFault}
 use Rattle.mx_wire.{specs.Log.Log, specs.Moments.AllLawful, specs.Tells.Fits, specs.declared.entry.Entry.TheVariants.Over}
-use Rattle.promises.{specs.Replay.KeepsSized, specs.Replay.ReplaysTo}
+use Rattle.core_promises.{specs.Sessions.ServesApart}
 use Rattle.proxy_run.{specs.Words.Named, specs.Words.replay_words, specs.declared.stop.Stop.Stop}
 use Rattle.recording.{specs.Recording.recording_of, specs.Transcript.transcript_of, specs.declared.entry.RecordEntry.RecordEntry}
 use Rattle.recording.{specs.declared.fault.RecordFault.RecordFault}
-use Rattle.{ready_loop.specs.Round.calls_since_wake, ready_loop.specs.Serving.ListensBefore, session_core.specs.Cores.setup_of}
+use Rattle.{ready_loop.specs.Round.calls_since_wake, ready_loop.specs.Serving.ListensBefore}
 use Rattle.proxy_run.specs.declared.stop.Stop.TheVariants as stop
 
 -- names with their bytes, where they are told
@@ -50,24 +50,23 @@ pub record IsRunBy (config : Config) (log : Log) : Type 0 where
   pub fits : AllLawful Fits log
   pub listens : AllLawful (ListensBefore config.proxy.listen config.proxy.admin_listen) log
 
--- The promises are kept by one service, and each read and write took as much as it could. The last wait came at rest, after which the wire has
--- nothing more.
-pub record ServesToEnd (config : Config) (entries : List RecordEntry) (log : Log) : Type 0 where
+-- Clients are kept apart, until the wire has nothing more.
+pub record ServesToEnd (config : Config) (log : Log) : Type 0 where
   pub run : IsRunBy config log
-  pub keeps : KeepsSized (setup_of config) entries log
+  pub serves : ServesApart config log
   pub before : Log
   pub over : log ≡ before ++ Over ∷ []
 
 -- what a tape tells that has played these entries
 pub record HasPlayed (config : Config) (entries : List RecordEntry) (tape : Played) : Type 0 where
   pub plays : (log : Log) → IsPlay tape.recording log → IsPlay entries log
-  pub serves : (log : Log) → tape.told ≡ Some log → IsPlay entries log → ServesToEnd config entries log
+  pub serves : (log : Log) → tape.told ≡ Some log → ServesToEnd config log
 
 -- a play of which the same holds, in which one wake took as many calls as it may
 pub record IsSpent (config : Config) (entries : List RecordEntry) (log : Log) : Type 0 where
   pub play : IsPlay entries log
   pub run : IsRunBy config log
-  pub keeps : KeepsSized (setup_of config) entries log
+  pub serves : ServesApart config log
   pub spent : 4294967296 ≤ calls_since_wake log
 
 abbrev pub ConfigStops : Stop → List ℕ → Held → (before now : ℕ) → Type 0
@@ -119,8 +118,8 @@ pub record IsReplay (words : List (List ℕ)) (held : Held) (log : Log) : Type 0
   pub configured : IsConfigured names.config held
   pub entries : List RecordEntry
   pub under : IsUnder names.recording held entries
-  pub run : IsRunBy configured.config log
-  pub replays : ReplaysTo (setup_of configured.config) entries log
+  pub play : IsPlay entries log
+  pub serves : ServesToEnd configured.config log
 
 -- and the transcript of that log is put
 pub record Replayed (words : List (List ℕ)) (held : Held) (old new : Option (List ℕ)) : Type 0 where

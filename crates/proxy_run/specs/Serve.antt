@@ -1,20 +1,20 @@
 -- What serving by a configuration keeps on a wire that tells its log, and why it stops.
-use Rattle.std.specs.Prelude.{◌≡◌, ◌⊎◌, ℕ, ◌<◌, List, [], Option, Some}
-use Rattle.mx_wire.specs.Log.{Log}
+use Rattle.std.specs.Prelude.{◌≡◌, ◌⊎◌, ℕ, ◌<◌, List, [], ◌∷◌, ◌++◌, Option, Some}
+use Rattle.mx_base.specs.declared.names.LinkId.{LinkId}
+use Rattle.mx_wire.specs.Log.{AreMarks, Log, written_of}
+use Rattle.mx_wire.specs.declared.entry.Entry.{Entry}
 use Rattle.mx_config.specs.declared.config.Config.{Config}
 use Rattle.ready_loop.specs.Round.{wakes_of}
 use Rattle.ready_loop.specs.Serving.{EndsWith, IsPortFault, IsBusy}
-use Rattle.promises.specs.Headline.{Serves}
-use Rattle.session_core.specs.Cores.{setup_of}
+use Rattle.core_promises.specs.Sessions.{ServesApart}
 use Rattle.proxy_run.specs.declared.stop.Stop.{Stop}
 use Rattle.proxy_run.specs.declared.stop.Stop.TheVariants as stop
 use Rattle.proxy_run.specs.Replay.{Held, Configures, IsMisconfigured, IsRunBy}
 
--- The log is one of a run by the configuration, and of it all is so that is so of a replay's: at each moment what was written to each client is a
--- beginning of what it is due, each entry is lawful, and each wait comes at rest.
+-- The log is one of a run by the configuration, and in it clients are kept apart.
 pub record ServesAt (config : Config) (told : Option Log) : Type 0 where
   pub run : (log : Log) → told ≡ Some log → IsRunBy config log
-  pub serves : (log : Log) → told ≡ Some log → Serves (setup_of config) log
+  pub serves : (log : Log) → told ≡ Some log → ServesApart config log
 
 -- a wire that tells its log tells of no call
 pub record IsUntouched (told : Option Log) : Type 0 where
@@ -29,12 +29,26 @@ pub record Attended (config : Config) (Ends : Option Log → Type 0) (told : Opt
   pub serves : ServesAt config told
   pub ends : Ends told
 
--- it may end so at any moment
-abbrev pub Anyhow : Option Log → Type 0
-Anyhow told = Unit {0}
+-- the log goes on with the answer of one call, and marks before it
+pub record GoesOnWith (before log : Log) : Type 0 where
+  pub marks : Log
+  pub only_marks : AreMarks marks
+  pub last : Entry
+  pub is : log ≡ before ++ marks ++ last ∷ []
+
+-- So it served, but for the last call, by whose answer memory was refused: nothing was written by it.
+pub record ServesButLast (config : Config) (log : Log) : Type 0 where
+  pub run : IsRunBy config log
+  pub before : Log
+  pub serves : ServesApart config before
+  pub last : (log ≡ before) ⊎ GoesOnWith before log
+  pub unwritten : (link : LinkId) → written_of link log ≡ written_of link before
+
+pub record RefusedAt (config : Config) (told : Option Log) : Type 0 where
+  pub serves : (log : Log) → told ≡ Some log → ServesButLast config log
 
 abbrev pub AttendStops : Stop → Config → Option Log → (faults_before faults_now : ℕ) → Type 0
-AttendStops stop.OutOfMemory config told before now = IsUntouched told ⊎ Attended config Anyhow told
+AttendStops stop.OutOfMemory config told before now = IsUntouched told ⊎ RefusedAt config told
 AttendStops stop.ListenFault config told before now = Attended config (EndsWith IsPortFault) told × (before < now)
 AttendStops stop.TurnsSpent config told before now = Attended config IsWornOut told
 AttendStops _ config told before now = ⊥
@@ -45,10 +59,15 @@ pub record Served (name : List ℕ) (held : Held) (Ends : Option Log → Type 0)
   pub said : Configures name held config
   pub attended : Attended config Ends told
 
--- No call of the wire was made, or the router served by the configuration until memory was refused. Then the log goes on to the call by whose
--- answer it was.
+-- so it did until memory was refused
+pub record Refused (name : List ℕ) (held : Held) (told : Option Log) : Type 0 where
+  pub config : Config
+  pub said : Configures name held config
+  pub refused : RefusedAt config told
+
+-- No call of the wire was made, or the router served by the configuration until memory was refused.
 pub record ServedUntil (name : List ℕ) (held : Held) (told : Option Log) : Type 0 where
-  pub either : IsUntouched told ⊎ Served name held Anyhow told
+  pub either : IsUntouched told ⊎ Refused name held told
 
 abbrev pub ServeStops : Stop → List ℕ → Held → (read_before read_now : ℕ) → Option Log → (faults_before faults_now : ℕ) → Type 0
 ServeStops stop.ReadFault name held read_before read_now told before now = read_before < read_now

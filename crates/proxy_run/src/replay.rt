@@ -12,7 +12,7 @@ use mx_config::{Config, ConfigRefusal, read_config};
 use mx_wire::{FileFault, Files, Sink};
 use ready_loop::{ServeEnd, serve};
 use recording::{RecordEntry, RecordRefusal, read_recording, transcript};
-use session_core::Core;
+use shared_core::Core;
 use std::alloc::Global;
 
 /// The configuration under the name.

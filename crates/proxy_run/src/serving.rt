@@ -10,7 +10,7 @@ use crate::stop::Stop;
 use mx_config::Config;
 use mx_wire::{Files, Wire};
 use ready_loop::{ServeEnd, serve};
-use session_core::Core;
+use shared_core::Core;
 use std::alloc::Global;
 
 /// How often the router waits at most: a thousand million times in each second of a hundred years.

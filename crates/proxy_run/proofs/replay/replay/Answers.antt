@@ -10,7 +10,6 @@ use Rattle.proxy_run.specs.declared.stop.Stop.TheVariants as stop
 use Rattle.recording.specs.Playable.{IsPlayable}
 use Rattle.proxy_run.specs.Words.{Named, replay_words}
 use Rattle.proxy_run.specs.Replay.{Held, IsConfigured, IsUnder, HasPlayed, IsReplay, PlayStops, PutStops, PutsNothing, Stops}
-use Rattle.proxy_run.proofs.Ending.{played-out}
 use Rattle.proxy_run.proofs.replay.replay.Goals as goal
 
 -- a tape that has played the recording under the name tells a replay
@@ -21,16 +20,8 @@ replay-of words held names entries tape log named configured under playable play
   configured = configured;
   entries = entries;
   under = under;
-  run = (played.serves log is (played.plays log play)).run;
-  replays =
-      let plays = played.plays log play in
-      let serves = played.serves log is plays in
-      let out = played-out _ entries log serves.before playable plays serves.keeps.keeps.rests serves.over in
-      record {
-        opens = serves.keeps.opens;
-        forms = serves.keeps.forms;
-        so = record { play = plays; keeps = serves.keeps.keeps; sized = serves.keeps.sized; before = serves.before; over = serves.over; woke = out.woke; accepted = out.accepted; read = out.read };
-      };
+  play = played.plays log play;
+  serves = played.serves log is;
 }
 
 stopped : (given : Stop) (words : List (List ℕ)) (held : Held) (read_before read_now : ℕ) (names : Named) (entries : List RecordEntry) (tape : Played) (old : Option (List ℕ)) (before : ℕ) (new : Option (List ℕ)) (now : ℕ) → replay_words words ≡ Some names → (configured : IsConfigured names.config held) → IsUnder names.recording held entries → IsPlayable entries → HasPlayed configured.config entries tape → PutStops given tape old before new now → Stops given words held read_before read_now old before new now

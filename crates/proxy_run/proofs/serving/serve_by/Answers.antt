@@ -18,7 +18,7 @@ unconfigured _ name held rb rn told pb pn untouched stops = absurd stops
 -- it was served
 attended : (given : Stop) (config : Config) (name : List ℕ) (held : Held) (rb rn : ℕ) (told : Option Log) (pb pn : ℕ) → Configures name held config → AttendStops given config told pb pn → ServeStops given name held rb rn told pb pn
 attended stop.OutOfMemory config name held rb rn told pb pn said (inl untouched) = record { either = inl untouched }
-attended stop.OutOfMemory config name held rb rn told pb pn said (inr stops) = record { either = inr (record { config = config; said = said; attended = stops }) }
+attended stop.OutOfMemory config name held rb rn told pb pn said (inr stops) = record { either = inr (record { config = config; said = said; refused = stops }) }
 attended stop.ListenFault config name held rb rn told pb pn said stops = (record { config = config; said = said; attended = stops.0 }, stops.1)
 attended stop.TurnsSpent config name held rb rn told pb pn said stops = record { config = config; said = said; attended = stops }
 attended _ config name held rb rn told pb pn said stops = absurd stops

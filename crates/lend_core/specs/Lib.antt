@@ -1,4 +1,0 @@
-pub mod Lends
-pub mod Changes
-pub mod Decisions
-pub mod Events

@@ -1,4 +1,0 @@
-pub mod Seats
-pub mod Tables
-pub mod World
-pub mod Acts

@@ -1,4 +1,0 @@
-pub mod Configured
-pub mod Standing
-pub mod Changing
-pub mod Carrying

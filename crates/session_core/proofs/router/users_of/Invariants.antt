@@ -1,5 +1,0 @@
-use Rattle.{session_core.specs.Cores.users_of, std.proofs.Common.take, std.proofs.Common.◌≡◌}
-use Rattle.session_core.proofs.router.users_of.Given as goal
-
-abbrev pub invariant-loop-row : goal.invariant-loop-row
-invariant-loop-row l = l.users.items ≡ users_of (take l.row-index l.rows)

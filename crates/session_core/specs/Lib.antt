@@ -1,4 +1,0 @@
-pub mod Cores
-pub mod Known
-pub mod Says
-pub mod Stands
