@@ -245,7 +245,7 @@ fn run_asked<R: Threads + Sync, W: Wire, F: Files, O: Sink>(
 /// | 2 | exactly where the words are no command, or the workers aren't 1 to 64 | the usage |
 /// | 3 | only where a read failed | `read fault` |
 /// | 4 | only where the sink failed, in a replay, a report or with a text that was asked for | none |
-/// | 5 | memory was refused. In `serve` what is so of a log is so up to the call, with its answer, by which it was refused | `out of memory` |
+/// | 5 | memory was refused. In `serve` what is so of a log is so but for its last call, by whose answer it was refused, and which wrote nothing | `out of memory` |
 /// | 6 | only where a port or a wait failed, in `serve` | `listen fault` |
 /// | 7 | only where the recording is refused | `recording: line <line> kind <kind>` |
 /// | 8 | only where one wake made 4,294,967,296 calls of the wire, or `serve` woke 4,611,686,018,427,387,904 times | `turns spent` |
