@@ -1,12 +1,13 @@
 -- The values of what the code answers.
-use Rattle.std.specs.Prelude.{ℕ, Option, Some, None, [], ◌∷◌, unwrap_or}
+use Rattle.std.specs.Prelude.{ℕ, List, Option, Some, None, [], ◌∷◌, unwrap_or}
 use Rattle.std.specs.Option.{option_or}
 use Rattle.pin_classifier.specs.declared.class.Class.{Class}
 use Rattle.private_model.specs.Story.{Key}
 use Rattle.log_story.specs.Plan.{Route}
+use Rattle.query_rules.specs.declared.rule.Rule.{Rule}
 use Rattle.router_promises.specs.Verdicts.{Goes, Verdict, Wanted, tells_one}
 use Rattle.message_judge.specs.Judging as judging
-use Rattle.message_judge.specs.Told.{payload_of, payloads_of}
+use Rattle.message_judge.specs.Told.{IsOwnTold, payload_of, payloads_of}
 use Rattle.message_judge.specs.declared.caller.Caller.{Caller}
 use Rattle.message_judge.specs.declared.caller.Prepared.{Prepared}
 use Rattle.message_judge.specs.declared.draft.ClassOf.{ClassOf}
@@ -63,3 +64,8 @@ refusal_by class wanted (Some why) = judging.Answers (payload_of why ∷ [])
 abbrev pub verdict_by : Wanted → Option OwnError → Verdict
 verdict_by wanted None = Goes wanted
 verdict_by wanted (Some why) = tells_one (payload_of why)
+
+-- what is answered is in the router's own words
+abbrev pub IsOwnDraft : List Rule → Draft → Type 0
+IsOwnDraft rules (drafts.Answers told) = IsOwnTold rules told
+IsOwnDraft rules _ = Unit {0}

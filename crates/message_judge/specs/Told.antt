@@ -2,6 +2,9 @@
 use Rattle.std.specs.Prelude.{ℕ, List, [], ◌∷◌, codes, Some}
 use Rattle.std.specs.Fmt.{decimal}
 use Rattle.client_session.specs.Errors.{malformed_command, unknown_command}
+use Rattle.mx_base.specs.declared.names.ClientNo.{ClientNo}
+use Rattle.own_words.specs.Own.{IsAnswer}
+use Rattle.query_rules.specs.declared.rule.Rule.{Rule}
 use Rattle.reply_text.specs.Replies.{ok_payload}
 use Rattle.reply_text.specs.Tables.{row_payload, table_payloads}
 use Rattle.router_promises.specs.Errors as error
@@ -27,3 +30,7 @@ payloads_of number (told.Ok status info) = ok_payload status info ∷ []
 payloads_of number (told.ConnectionId status) =
     table_payloads status (codes "CONNECTION_ID()" ∷ []) (row_payload (Some (decimal number) ∷ []) ∷ [])
 payloads_of number (told.Error why) = payload_of why ∷ []
+
+-- it is in the router's own words, whichever client is told it
+abbrev pub IsOwnTold : List Rule → Told → Type 0
+IsOwnTold rules told = (c : ClientNo) → IsAnswer rules c (payloads_of c.0 told)

@@ -4,7 +4,7 @@ ghost use Rattle.std.specs.Option.{option_copied};
 ghost use Rattle.query_rules.specs.Passing.{rules_of};
 ghost use Rattle.server_rule.specs.Classes.{router_reads};
 ghost use Rattle.command_parse.specs.Meaning.{meaning_of};
-ghost use Rattle.message_judge.specs.Drafts.{draft_of, value_of};
+ghost use Rattle.message_judge.specs.Drafts.{IsOwnDraft, draft_of, value_of};
 ghost use Rattle.message_judge.specs.Judging.{asks, by_meaning, faulty, judged, known_of, prepares, restarted};
 ghost use Rattle.message_judge.specs.declared.caller.Caller.{Caller};
 ghost use Rattle.message_judge.specs.declared.caller.Prepared.{Prepared};
@@ -33,8 +33,9 @@ pub fn judge(
     prepared: Option<&Prepared>,
     payload: &[u8],
 ) -> Result<Judged, OutOfMemory>
-    ensures { IfOk result (λ found. value_of caller.now (option_copied prepared.entry) found
+    ensures is { IfOk result (λ found. value_of caller.now (option_copied prepared.entry) found
         ≡ judged router_reads (rules_of rules.now) caller.now standing (option_copied prepared.entry) payload.now) }
+    ensures own { IfOk result (λ found. IsOwnDraft (rules_of rules.now) found.draft) }
 {
     match parse_whole(payload, known_of(prepared)) {
         Ok(command) => by_command(alloc, rules, caller, standing, prepared, command),

@@ -1,9 +1,12 @@
 // What goes to a server.
-ghost use Rattle.std.specs.Prelude.{◌≡◌, ℕ, IfOk, Option, Some, unwrap_or};
+ghost use Rattle.std.specs.Prelude.{◌≡◌, ℕ, IfOk, IfSome, List, Option, Some, unwrap_or};
 ghost use Rattle.std.specs.Option.{option_copied};
 ghost use Rattle.query_rules.specs.Passing.{rules_of};
 ghost use Rattle.query_rules.specs.declared.ask.Routed.{Routed};
 ghost use Rattle.query_rules.specs.declared.ask.Stop.{Stop};
+ghost use Rattle.query_rules.specs.declared.rule.Rule.{Rule};
+ghost use Rattle.own_words.specs.Own.{IsRefusal};
+ghost use Rattle.message_judge.specs.Told.{payload_of};
 ghost use Rattle.server_rule.specs.Classes.{router_reads};
 ghost use Rattle.router_promises.specs.Verdicts as verdicts;
 ghost use Rattle.router_promises.specs.Verdicts.{Wanted};
@@ -242,8 +245,9 @@ pub fn admit(
     pin: Pin,
     is_there: bool,
 ) -> Option<OwnError>
-    ensures { (caller : Caller) (prepared : Option Prepared) (going : Going) → going.hostgroup ≡ hostgroup
+    ensures is { (caller : Caller) (prepared : Option Prepared) (going : Going) → going.hostgroup ≡ hostgroup
         → verdict_by (wanted_of caller prepared going) result ≡ admitted (option_copied class.entry) pin is_there (wanted_of caller prepared going) }
+    ensures own { (rules : List Rule) → IfSome result (λ why. IsRefusal rules (payload_of why)) }
 {
     if let Some(class) = class {
         if !reads_own(pin, class) {
