@@ -1,3 +1,4 @@
+pub mod Staying
 pub mod Going
 pub mod Marking
 pub mod Clearing

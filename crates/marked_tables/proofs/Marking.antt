@@ -9,6 +9,7 @@ use Rattle.core_tables.specs.declared.client.Client.{Client}
 use Rattle.core_says.specs.Marking.{IsClearOf, IsMarkedAt, IsMarkedFor}
 use Rattle.core_says.specs.Says.{is_at}
 use Rattle.core_says.proofs.Links.{marked_some, more_none, more_on}
+use Rattle.marked_tables.specs.Goes.{has_row}
 use Rattle.marked_tables.specs.Marking.{IsClearAt, IsClearFor, IsOther, IsUnasked, IsUncarried, Leaves, MarksBut, carrier_at, next_at, stage_at}
 
 pub marks_one : (l : LinkId) (old new : Marked) → ((other : LinkId) → is_known new other ≡ is_known old other)
@@ -67,14 +68,25 @@ or_other : (a b c : Bool) → a ≡ false → ((a && b) || c) ≡ c
 or_other true b c off = absurd (let e = off in cc)
 or_other false b c off = refl
 
-pub leaves_one : (l : LinkId) (old mid new : Marked) → is_link l l ≡ true
+pub leaves_one : (t : Tabled) (l : LinkId) (old mid new : Marked) → has_row t l ≡ false → is_link l l ≡ true
     → ((other : LinkId) → is_link l other ≡ false → is_known mid other ≡ is_known old other)
     → ((other : LinkId) → is_link l other ≡ false → is_marked mid other ≡ is_marked old other)
     → ((other : LinkId) → is_known new other ≡ is_known mid other)
     → ((other : LinkId) → is_marked new other ≡ ((is_link l other && is_known mid l) || is_marked mid other))
-    → Leaves l old new
-leaves_one l old mid new itself known marked then_known then_marked = record {
+    → Leaves t l old new
+leaves_one t l old mid new none itself known marked then_known then_marked = record {
   gone = λ is. then_marked l ∙ or_known _ _ _ itself (sym (then_known l) ∙ is);
+  stays = λ row. absurd (let e : true ≡ false = sym row ∙ none in cc);
   known = λ link other. then_known link ∙ known link other;
   marked = λ link other. then_marked link ∙ (or_other _ _ _ other ∙ marked link other);
+}
+
+-- it has a row still
+pub stays_one : (t : Tabled) (l : LinkId) (old new : Marked) → is_link l l ≡ true → ((other : LinkId) → is_known new other ≡ is_known old other)
+    → ((other : LinkId) → is_marked new other ≡ ((is_link l other && is_known old l) || is_marked old other)) → Leaves t l old new
+stays_one t l old new itself known marked = record {
+  gone = λ is. marked l ∙ or_known _ _ _ itself (sym (known l) ∙ is);
+  stays = λ row. known l;
+  known = λ link other. known link;
+  marked = λ link other. marked link ∙ or_other _ _ _ other;
 }

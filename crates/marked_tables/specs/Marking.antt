@@ -15,6 +15,7 @@ use Rattle.core_tables.specs.Tables.{Tabled}
 use Rattle.core_tables.specs.declared.server.Server.{Server}
 use Rattle.core_says.specs.Marking.{IsClearOf, IsMore}
 use Rattle.link_marks.specs.Marks.{Marked, is_known, is_marked}
+use Rattle.marked_tables.specs.Goes.{has_row}
 
 -- marks are only added, no link comes or goes, and of each open one that isn't marked this is so
 pub record MarksBut (Is : LinkId → Type 0) (old new : Marked) : Type 0 where
@@ -76,8 +77,9 @@ pub record IsUncarried (t : Tabled) (l link : LinkId) : Type 0 where
   pub other : IsOther l link
   pub carrier : IsClearFor t (carrier_at (t.links l)) link
 
--- a link is open no more, or marked
-pub record Leaves (l : LinkId) (old new : Marked) : Type 0 where
+-- a link is open no more, or marked; one that has a row in these tables stays as open as it was
+pub record Leaves (t : Tabled) (l : LinkId) (old new : Marked) : Type 0 where
   pub gone : is_known new l ≡ true → is_marked new l ≡ true
+  pub stays : has_row t l ≡ true → is_known new l ≡ is_known old l
   pub known : (link : LinkId) → IsOther l link → is_known new link ≡ is_known old link
   pub marked : (link : LinkId) → IsOther l link → is_marked new link ≡ is_marked old link

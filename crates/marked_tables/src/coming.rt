@@ -46,8 +46,9 @@ impl MarkedTables {
     {
         let link = self.own_link(client)?;
         mark_client(&self.tables, &mut self.changed, client);
-        leaves(&mut self.changed, link);
-        self.tables.forget_client(client)
+        let note = self.tables.forget_client(client);
+        leaves(&self.tables, &mut self.changed, link);
+        note
     }
 
     /// A link to a server was opened at this moment, on which the router logs in so. The user's name has no NUL.
@@ -78,7 +79,7 @@ impl MarkedTables {
         ensures is { IsSame (tables_of self.new.tables) (unlinked link (tables_of self.old.tables)) }
         ensures goes { GoesOn self.old self.new }
     {
-        leaves(&mut self.changed, link);
         self.tables.forget(link);
+        leaves(&self.tables, &mut self.changed, link);
     }
 }

@@ -4,7 +4,7 @@ ghost use Rattle.std.specs.Option.{option_copied};
 ghost use Rattle.core_tables.specs.Tables.{tables_of};
 ghost use Rattle.marked_tables.specs.Marking.{IsClearAt, IsClearFor, IsOther, IsUnasked, IsUncarried, Leaves, MarksBut, client_of, next_at, stage_at};
 
-use crate::rows::carried_on;
+use crate::rows::{carried_on, has_row};
 use core_says::mark_row;
 use core_tables::{Server, Tables};
 use lent_link::Begins;
@@ -99,11 +99,15 @@ pub(crate) fn mark_carried(tables: &Tables, marks: &mut Marks, link: LinkId)
     mark_for(tables, marks, client);
 }
 
-/// A link is open no more; one that came twice is open still, and marked. Takes no memory.
-#[tactic(auto, using(crate::proofs::Marking::leaves_one))]
-pub(crate) fn leaves(marks: &mut Marks, link: LinkId)
-    ensures { Leaves link marks.old marks.new }
+/// A link is open no more; one that came twice, or has a row still, is open, and marked. Takes no memory.
+#[tactic(auto, using(crate::proofs::Marking::leaves_one, crate::proofs::Marking::stays_one))]
+pub(crate) fn leaves(tables: &Tables, marks: &mut Marks, link: LinkId)
+    ensures { Leaves (tables_of tables.now) link marks.old marks.new }
 {
+    if has_row(tables, link) {
+        marks.mark(link);
+        return;
+    }
     marks.leaves(link);
     marks.mark(link);
 }
