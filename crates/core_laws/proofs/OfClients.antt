@@ -5,6 +5,7 @@ pub mod Speaking
 pub mod Homing
 pub mod Ending
 pub mod Following
+pub mod Finding
 pub mod Keeping
 pub mod Unfaulty
 pub mod Telling

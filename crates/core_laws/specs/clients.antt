@@ -1,4 +1,5 @@
 pub mod Turns
+pub mod Found
 pub mod Chosen
 pub mod Speaks
 pub mod Follows

@@ -47,6 +47,7 @@ use Rattle.core_laws.specs.entry.Safe.{has_runs, is_run}
 use Rattle.core_laws.proofs.OfClients.Facts.{few_so, has_lives, its_row, unended, waits_so}
 use Rattle.core_laws.proofs.OfClients.Waiting.{looked_waiting}
 use Rattle.core_laws.specs.clients.Chosen.{IsChosen, IsGone, IsHaltIn, IsLookedFor, IsStanding, IsTurning, PlanHas, StandsBehind}
+use Rattle.core_laws.specs.clients.Found.{AreFoundAt, IsFoundAt}
 use Rattle.core_laws.specs.clients.Turns.{AnswersBy, Answers, Choice, ComesUp, EndsThere, Ends, Goes, GoesBy, Halt, HaltsSo, IsLookedAt, IsTurn, MakesAnswer, count_by, is_quitting}
 use Rattle.core_laws.specs.clients.Turns.{MayLeave, Quits, QuitsThere, Rests, RestsThere, Turns, Waits, WaitsThere}
 
@@ -396,11 +397,17 @@ module _ (laws : Laws) (service : Service) (default : List ℕ) (first client : 
         goes_by turn.between turn.up route turn.command turn.flag turn.work turn.statements now sends turn.same,
       )
 
-  one_turn : (choice : Choice) (now : Tabled) → IsTurn choice service default c t now
+  pub one_turn : (choice : Choice) (now : Tabled) → IsTurn choice service default c t now
       → IsChosen choice g.plan g.tale.moment (name_of client (suc client.taken))
       → (tale : Tale) × IsOn service default first from g client now tale
   one_turn (Goes route) now turn chosen = goes_turn route now turn chosen
   one_turn (Answers payloads) now turn chosen = answers_turn payloads now turn chosen
+
+  pub turn_found : (choice : Choice) (now : Tabled) → (turn : IsTurn choice service default c t now)
+      → IsFoundAt choice service default c t now turn (slice_get (messages g.plan client) client.taken)
+  turn_found (Goes route) now turn =
+      (came turn.between turn.up).up.next.next ∙ ap (λ (m : Framed). Some m) (sym (is_found turn.between turn.up))
+  turn_found (Answers payloads) now turn = tt
 
   quits_turn : (now : Tabled) → QuitsThere service default c t now
       → IsHaltIn Quits g.plan g.tale.moment (name_of client (suc client.taken)) → IsGone service first from (suc client.taken) g c now
@@ -475,3 +482,28 @@ turns_so laws service default first client from g t now (choice ∷ others) halt
     (turns_so laws service default first (next_of client) from (on (looked_at client.number g) made.0) turns.0 now others halt made.1.turning
     (subst (λ (moment : ℕ). PlanHas others halt g.plan moment (name_of (next_of client) (suc (suc client.taken)))) (sym made.1.moment) has.1)
     turns.2))
+
+-- The messages that it took up are those that came up.
+
+turns_found_in : (laws : Laws) (service : Service) (default : List ℕ) (first client : tales.Client) (from : Tale) (g : Ground) (t now : Tabled)
+    (choices : List Choice) (halt : Halt) → IsTurning service default first from g t client
+    → PlanHas choices halt g.plan g.tale.moment (name_of client (suc client.taken))
+    → (turns : Turns choices halt service default client.number t now)
+    → AreFoundAt choices halt service default client.number t now turns (messages g.plan client) client.taken
+turns_found_in laws service default first client from g t now [] halt is has turns = tt
+turns_found_in laws service default first client from g t now (choice ∷ others) halt is has turns =
+    let made = one_turn laws service default first client from g t is choice turns.0 turns.1 has.0 in (
+      turn_found laws service default first client from g t is choice turns.0 turns.1,
+      turns_found_in laws service default first (next_of client) from (on (looked_at client.number g) made.0) turns.0 now others halt made.1.turning
+          (subst (λ (moment : ℕ). PlanHas others halt g.plan moment (name_of (next_of client) (suc (suc client.taken)))) (sym made.1.moment) has.1)
+          turns.2,
+    )
+
+pub turns_found : (laws : Laws) (service : Service) (default : List ℕ) (first client : tales.Client) (from : Tale) (g : Ground) (t now : Tabled)
+    (choices : List Choice) (halt : Halt) (c : ClientNo) → client.number ≡ c → IsTurning service default first from g t client
+    → PlanHas choices halt g.plan g.tale.moment (name_of client (suc client.taken)) → (turns : Turns choices halt service default c t now)
+    → AreFoundAt choices halt service default c t now turns (messages g.plan client) client.taken
+turns_found laws service default first client from g t now choices halt c same is has turns =
+    subst (λ (n : ClientNo). (by : Turns choices halt service default n t now)
+    → AreFoundAt choices halt service default n t now by (messages g.plan client) client.taken) same
+    (λ by. turns_found_in laws service default first client from g t now choices halt is has by) turns

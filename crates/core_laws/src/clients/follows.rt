@@ -4,6 +4,7 @@ ghost use Rattle.mx_wire.specs.declared.entry.Entry.{Entry};
 ghost use Rattle.client_session.specs.Setups.{Setup as Service};
 ghost use Rattle.private_model.specs.Names.{ClientNo, LinkId};
 ghost use Rattle.private_model.specs.Story.{is_client};
+ghost use Rattle.log_story.specs.Owed.{messages};
 ghost use Rattle.log_story.specs.Tale as tales;
 ghost use Rattle.log_story.specs.Tale.{Tale};
 ghost use Rattle.step_laws.specs.Seats.{is_its};
@@ -13,11 +14,12 @@ ghost use Rattle.core_stands.specs.Grounds.{Ground};
 ghost use Rattle.core_stands.specs.Stands.{Rests, Stands};
 ghost use Rattle.core_laws.specs.clients.Following.{IsFollowed, IsFollowing, to_look};
 ghost use Rattle.core_laws.specs.clients.Follows.{FollowsSo, Parting};
+ghost use Rattle.core_laws.specs.clients.Found.{AreFoundAt};
 ghost use Rattle.core_laws.specs.clients.Going.{Going, GoesSo};
 ghost use Rattle.core_laws.specs.clients.Keeps.{KeepsRows};
 ghost use Rattle.core_laws.specs.clients.Turns.{Choice, Halt, Turns, count_by};
 
-use crate::clients::turns::turns_stand;
+use crate::clients::turns::{turns_find, turns_stand};
 
 /// Where the tables stand for what an entry tells of one client, and links that are given back by that, they rest behind what follows for it:
 /// its turns, its end, and links given back that carried its sessions.
@@ -37,6 +39,17 @@ pub fn follows_rest()
     crate::parting::same_stands();
     crate::entry::links_are_given_back();
     crate::entry::entries_of_one();
+}
+
+/// Of what follows for one client at an entry: the messages that it took up are those that came up at its turns.
+pub fn follows_find()
+    ensures { (service : Service) (default : List ℕ) (g : Ground) (mid now : Tabled) (fresh : ClientNo → Bool) (e : Entry) (client : tales.Client)
+        (freed : Tale) (choices : List Choice) (halt : Halt) (parting : Parting) (c : ClientNo) → client.number ≡ c
+        → IsFollowing service default g e client freed choices halt parting → Stands service (to_look g fresh freed) mid
+        → (turns : Turns choices halt service default c mid now)
+        → AreFoundAt choices halt service default c mid now turns (messages g.plan client) client.taken }
+{
+    turns_find();
 }
 
 /// No client and no link comes or goes by that: by a client's turns, nor by all of it.
