@@ -28,7 +28,10 @@ use Rattle.core_laws.specs.entry.Tells.{Fits, IsCore, IsOf}
 use Rattle.router_promises.specs.Router as routers
 use Rattle.router_promises.specs.Router.{Router, service_of}
 use Rattle.router_promises.specs.Terms.{AreWhoTheySay, IsWhoItSays, Terms, plan_in, setup_in}
+use Rattle.own_words.specs.Own.{SpeaksOwn}
 use Rattle.core_promises.specs.Sessions.{KeepsApart, Separates}
+use Rattle.core_promises.specs.Asks.{AsksBy}
+use Rattle.core_promises.specs.Waits.{AreDoneBy}
 use Rattle.core_promises.proofs.Past.{lawful_at}
 use Rattle.core_promises.proofs.Who.{decided_by, terms_by, who_at}
 
@@ -68,7 +71,10 @@ single_by routes single m route is = by (routes m) refl is where
 
 module _ (router : Router) (log : Log) (t : Tabled) (roomy : ClientNo → Bool)
     (core : IsCore (service_of router) router.proxy.default_schema log t roomy) (classes : AreClasses router.reads)
-    (single : (m : MessageName) (route : Route) → core.decided.routes m ≡ Some (Some route) → route.mirror ≡ None) (fits : AllLawful FitsLog log) where
+    (single : (m : MessageName) (route : Route) → core.decided.routes m ≡ Some (Some route) → route.mirror ≡ None)
+    (asks : AsksBy router.rules router.proxy.default_schema core.decided log) (speaks : SpeaksOwn router.rules (plan_of core.decided))
+    (waited : AreDoneBy router.proxy.default_schema core.decided log)
+    (fits : AllLawful FitsLog log) where
   abbrev plan : Plan
   plan = plan_of core.decided
 
@@ -109,6 +115,10 @@ module _ (router : Router) (log : Log) (t : Tabled) (roomy : ClientNo → Bool)
           said = safe.said;
           lawful = λ n. lawful_at (setup_in terms) plan n log rests.stands.lawful;
           due = safe.written;
+          copies = single_by core.decided.routes single;
+          asks = asks (setup_in terms) no_codes plan (itself core.decided (length log)) fitting;
+          speaks = speaks;
+          waits = waited terms no_codes (itself core.decided (length log)) fitting;
         }
 
   pub apart : Separates router log

@@ -3,3 +3,5 @@ pub mod Growing
 pub mod Past
 pub mod Who
 pub mod Apart
+pub mod Done
+pub mod Texts

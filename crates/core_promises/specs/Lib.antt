@@ -1,1 +1,5 @@
+pub mod Asks
+pub mod Ruled
+pub mod Waits
 pub mod Sessions
+pub mod Wrong

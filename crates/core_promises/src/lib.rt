@@ -1,6 +1,14 @@
 //! What the core over shared links promises of clients' sessions: that no client sees another's.
 #![tactic(auto)]
 
+mod asking;
 mod sessions;
+mod waiting;
 
+pub use asking::{asks_other_texts, copies_a_message, rewrites_without_rules};
 pub use sessions::{apart_is_private, cores_keep_apart};
+pub use waiting::{
+    forgets_a_statement, leaves_a_link_unnamed, leaves_a_message_unanswered, leaves_a_port_unasked,
+    leaves_a_reply_unread, leaves_bytes_unread, leaves_bytes_unwritten, stops_halfway,
+    takes_another_for_it,
+};

@@ -1,0 +1,64 @@
+-- The worked log of router_cases, where it waits, and what the router says there by itself.
+use Rattle.std.specs.Prelude.{◌≡◌, Bool, true, false, [], ◌∷◌, Option, Some, None, if◌then◌else◌, refl}
+use Rattle.std.proofs.Common.{subst}
+use Rattle.client_session.specs.Errors.{connection_refused}
+use Rattle.mx_wire.specs.Moments.{AllLawful}
+use Rattle.private_model.specs.Names.{ClientNo}
+use Rattle.private_model.specs.Story.{is_message}
+use Rattle.log_story.specs.Plan.{LastWord, OwnAnswer, Route}
+use Rattle.own_words.specs.Own.{GivesUp, IsOwn, NoLink, SpeaksOwn}
+use Rattle.core_promises.specs.Asks.{AsksSo, CopiesNothing}
+use Rattle.core_promises.specs.Waits.{WaitsSo}
+use Rattle.promise_tests.proofs.Moments.{entries-so}
+use Rattle.promise_tests.specs.Tests.{each_entry}
+use Rattle.router_cases.proofs.OnLogs.{on_logs}
+use Rattle.router_cases.specs.Worked.{Stored, insert, log, message, plan, route, router, terms_with}
+use Rattle.router_promises.specs.Now.{at_first, now_at}
+use Rattle.apart_cases.specs.Tests.{all_ask, waits}
+use Rattle.apart_cases.proofs.Asking.{asks-so}
+use Rattle.apart_cases.proofs.Waiting.{waits-so}
+
+waited : (stored : Stored) → each_entry (terms_with stored) (waits (terms_with stored)) [] (at_first (terms_with stored)) log ≡ true
+unfolding on_logs
+waited stored = refl
+
+pub waits-worked : (stored : Stored) → AllLawful (WaitsSo (terms_with stored)) log
+waits-worked stored =
+    entries-so (terms_with stored) (waits (terms_with stored)) (WaitsSo (terms_with stored)) log
+    (λ l e so. waits-so (terms_with stored) l (now_at (terms_with stored) l) e so) (waited stored)
+
+asked : (stored : Stored) → all_ask insert plan (now_at (terms_with stored) log) ≡ true
+unfolding on_logs
+asked stored = refl
+
+pub asks-worked : (stored : Stored) → AsksSo (terms_with stored) log
+asks-worked stored = asks-so (terms_with stored) insert route refl (λ m. refl) refl log (asked stored)
+
+one-route : (a b : Route) → ◌≡◌ {A = Option Route} (Some a) (Some b) → a ≡ b
+one-route a b is = cc
+
+pub copies-none : CopiesNothing plan
+copies-none m other is = subst (λ (r : Route). r.mirror ≡ None) (one-route route other is) refl
+
+abbrev refused : OwnAnswer
+refused = record { from = 8; payloads = connection_refused ∷ [] }
+
+one-answer : (a b : OwnAnswer) → ◌≡◌ {A = Option OwnAnswer} (Some a) (Some b) → a ≡ b
+one-answer a b is = cc
+
+no-answer : {A : Type 0} (a : OwnAnswer) → ◌≡◌ {A = Option OwnAnswer} None (Some a) → A
+no-answer a is = absurd (cc)
+
+no-word : {A : Type 0} (a : LastWord) → ◌≡◌ {A = Option LastWord} None (Some a) → A
+no-word a is = absurd (cc)
+
+answer-so : (client : ClientNo) (is_first : Bool) (answer : OwnAnswer) → ◌≡◌ {A = Option OwnAnswer} (if is_first then Some refused else None) (Some answer)
+    → IsOwn router.rules client answer.payloads
+answer-so client true answer is = subst (λ (a : OwnAnswer). IsOwn router.rules client a.payloads) (one-answer refused answer is) (GivesUp connection_refused NoLink)
+answer-so client false answer is = no-answer answer is
+
+pub speaks-worked : SpeaksOwn router.rules plan
+speaks-worked = record {
+  own = λ m answer is. answer-so m.client (is_message m (message 1 1)) answer is;
+  words = λ c word is. no-word word is;
+}

@@ -1,0 +1,15 @@
+use Rattle.apart_cases.proofs.worked.kept_is_apart.Goals as goal
+
+pub returns : goal.returns
+returns c = λ terms log keeps speaks waits asks copies. record {
+  router = keeps.router;
+  fits = keeps.fits;
+  who = keeps.who;
+  said = c.said_log.ensures terms log keeps;
+  lawful = keeps.lawful;
+  due = keeps.due;
+  speaks = speaks;
+  waits = waits;
+  asks = asks;
+  copies = copies;
+}

@@ -1,0 +1,62 @@
+-- Tests of a log: where the loop waits, while no statement is on its way; and of a text that all clients ask for.
+use Rattle.std.specs.Prelude.{Bool, true, false, not, ◌&&◌, ◌||◌, ◌++◌, bytes_eq, drop, take, ℕ, List}
+use Rattle.std.specs.List.{list_all}
+use Rattle.std.specs.Option.{option_map_or}
+use Rattle.mx_base.specs.declared.names.LinkId.{LinkId}
+use Rattle.mx_base.specs.declared.names.Port.TheVariants.{Admin, Traffic}
+use Rattle.mx_wire.specs.Log.{Log, is_open, written_of}
+use Rattle.mx_wire.specs.declared.entry.Entry.{Entry}
+use Rattle.mx_wire.specs.declared.entry.Entry.TheVariants.{Over, WaitFailed, Woke}
+use Rattle.core_promises.specs.Waits.{error_to}
+use Rattle.packet_frame.specs.Packets.{Framed}
+use Rattle.ready_loop.specs.Drained.{all_accepted, all_named, read_dry, write_dry}
+use Rattle.log_story.specs.Owed.{messages, name_of}
+use Rattle.log_story.specs.Plan.{Plan, Route}
+use Rattle.log_story.specs.Tale.{Client}
+use Rattle.router_promises.specs.Due.{due_to}
+use Rattle.router_promises.specs.Dues.{is_unsent}
+use Rattle.router_promises.specs.Ends.{was_answered}
+use Rattle.router_promises.specs.Now.{Now, present_now}
+use Rattle.router_promises.specs.Rest.{is_ahead}
+use Rattle.router_promises.specs.Terms.{Terms, plan_in, setup_in}
+
+-- its statement waits for a link
+abbrev pub is_in_line : Terms → Now → Client → Route → Bool
+is_in_line terms now client route = is_unsent terms now.tale (present_now (setup_in terms) now client.number route.hostgroup)
+
+abbrev pub is_told : Terms → Log → Now → Client → Bool
+is_told terms log now client =
+    bytes_eq (written_of client.link log ++ error_to terms now client) (due_to terms now client) || write_dry client.link log
+
+abbrev pub is_worked : Terms → Now → Client → Bool
+is_worked terms now client =
+    was_answered terms now client
+    || option_map_or (is_in_line terms now client) ((plan_in terms).routes (name_of client client.taken)) false
+
+abbrev pub is_served : Terms → Log → Now → Client → Bool
+is_served terms log now client =
+    not (is_open client.link log)
+    || (is_told terms log now client
+    && ((read_dry client.link log || is_ahead terms now client) && is_worked terms now client))
+
+-- nothing is left to read of a server
+abbrev pub is_heard : Log → LinkId → Bool
+is_heard log link = not (is_open link log) || read_dry link log
+
+abbrev pub is_done : Terms → Log → Now → Bool
+is_done terms log now =
+    (all_accepted Traffic log && (all_accepted Admin log && all_named log))
+    && (list_all (is_heard log) now.tale.links && list_all (is_served terms log now) now.tale.clients)
+
+abbrev pub waits : Terms → Log → Now → Entry → Bool
+waits terms log now (Woke until_ms now_ms) = is_done terms log now
+waits terms log now WaitFailed = is_done terms log now
+waits terms log now Over = is_done terms log now
+waits terms log now _ = true
+
+-- what was taken up of a client is this text
+abbrev pub asks_this : (text : List ℕ) → Plan → Client → Bool
+asks_this text plan client = list_all (λ (message : Framed). bytes_eq (drop 1 message.payload) text) (take client.taken (messages plan client))
+
+abbrev pub all_ask : (text : List ℕ) → Plan → Now → Bool
+all_ask text plan now = list_all (asks_this text plan) now.tale.clients

@@ -1,0 +1,32 @@
+// A log that keeps clients apart.
+ghost use Rattle.core_promises.specs.Asks.{AsksSo, CopiesNothing};
+ghost use Rattle.core_promises.specs.Sessions.{KeepsApart, Separates};
+ghost use Rattle.core_promises.specs.Waits.{WaitsSo};
+ghost use Rattle.mx_wire.specs.Log.{Log};
+ghost use Rattle.mx_wire.specs.Moments.{AllLawful};
+ghost use Rattle.own_words.specs.Own.{SpeaksOwn};
+ghost use Rattle.router_cases.specs.Worked.{log, router};
+ghost use Rattle.router_promises.specs.Headline.{Keeps};
+ghost use Rattle.router_promises.specs.Terms.{Terms, plan_in};
+
+use promise_tests::kept_by_test;
+use router_promises::said_log;
+
+/// A log that keeps the whole promise keeps this one, where the router speaks its own words, waits only with all done, and asks for clients' own
+/// texts, each of one server.
+pub fn kept_is_apart()
+    ensures { (terms : Terms) (log : Log) → Keeps terms log
+        → SpeaksOwn terms.router.rules (plan_in terms)
+        → AllLawful (WaitsSo terms) log → AsksSo terms log
+        → CopiesNothing (plan_in terms) → KeepsApart terms log }
+{
+    said_log();
+}
+
+/// The promise can be kept: in this log two clients share the one link to a server, after one statement was given up.
+pub fn can_be_kept_apart()
+    ensures { Separates router log }
+{
+    kept_by_test();
+    kept_is_apart();
+}

@@ -1,0 +1,72 @@
+-- Words for routers that are wrong: what no log has that keeps clients apart.
+use Rattle.std.specs.Prelude.{◌≡◌, ℕ, suc, ◌<◌, true, false, List, ◌∷◌, ◌++◌, length, slice_get, slice_index_or, Some}
+use Rattle.mx_wire.specs.Log.{Log, is_open}
+use Rattle.mx_wire.specs.declared.entry.Entry.{Entry}
+use Rattle.packet_frame.specs.Packets.{Framed}
+use Rattle.private_model.specs.Names.{SessionName}
+use Rattle.private_model.specs.Story.{Happening, Story}
+use Rattle.log_story.specs.Owed.{messages, name_of}
+use Rattle.log_story.specs.Plan.{Route}
+use Rattle.log_story.specs.Tale.{Client}
+use Rattle.router_promises.specs.Dues.{is_unsent}
+use Rattle.router_promises.specs.Ends.{was_answered}
+use Rattle.router_promises.specs.Now.{now_at, present_now}
+use Rattle.router_promises.specs.Terms.{Terms, plan_in, setup_in, tale_at}
+use Rattle.router_promises.specs.Wakes.{has_ended}
+use Rattle.router_promises.specs.Wrong.{IsWait}
+use Rattle.core_promises.specs.Sessions.{KeepsApart}
+
+-- the entry is one of a log that keeps clients apart, behind these
+pub record Has (terms : Terms) (before : Log) (e : Entry) : Type 0 where
+  pub more : Log
+  pub keeps : KeepsApart terms (before ++ e ∷ more)
+
+-- it is one of its story, behind these
+pub record Tells (terms : Terms) (past : Story) (e : Happening) : Type 0 where
+  pub log : Log
+  pub keeps : KeepsApart terms log
+  pub later : Story
+  pub story : (tale_at terms log).story ≡ later ++ e ∷ past
+
+-- the loop waits there
+pub record HasWait (terms : Terms) (before : Log) : Type 0 where
+  pub e : Entry
+  pub has : Has terms before e
+  pub is : IsWait e
+
+-- and this is a client that goes on, whose link is open
+pub record GoesOn (terms : Terms) (before : Log) (client : Client) : Type 0 where
+  pub place : ℕ
+  pub within : place < length (now_at terms before).tale.clients
+  pub is : slice_index_or (now_at terms before).tale.clients place client ≡ client
+  pub stays : has_ended terms (now_at terms before) client ≡ false
+  pub opened : is_open client.link before ≡ true
+
+-- the session of a client to which a route leads
+abbrev pub session_for : Terms → Log → Client → Route → SessionName
+session_for terms before client route = present_now (setup_in terms) (now_at terms before) client.number route.hostgroup
+
+-- the loop waits, and the client's last message that was taken up is a statement that isn't answered and doesn't wait for a link
+pub record Expects (terms : Terms) (before : Log) (client : Client) (route : Route) : Type 0 where
+  pub wait : HasWait terms before
+  pub goes : GoesOn terms before client
+  pub unanswered : was_answered terms (now_at terms before) client ≡ false
+  pub goes_to : (plan_in terms).routes (name_of client client.taken) ≡ Some route
+  pub sent : is_unsent terms (now_at terms before).tale (session_for terms before client route) ≡ false
+
+-- a message with this payload was taken up of a client, and goes to a server as this text
+pub record AsksFor (terms : Terms) (payload text : List ℕ) : Type 0 where
+  pub log : Log
+  pub keeps : KeepsApart terms log
+  pub client : Client
+  pub place : ℕ
+  pub within : place < length (tale_at terms log).clients
+  pub is : slice_index_or (tale_at terms log).clients place client ≡ client
+  pub count : ℕ
+  pub taken : count < client.taken
+  pub message : Framed
+  pub there : slice_get (messages (plan_in terms) client) count ≡ Some message
+  pub has : message.payload ≡ payload
+  pub route : Route
+  pub goes : (plan_in terms).routes (name_of client (suc count)) ≡ Some route
+  pub as_text : route.text ≡ Some text
