@@ -6,3 +6,4 @@ pub mod OfLinks
 pub mod OfWakes
 pub mod OfRouters
 pub mod OfEntering
+pub mod OfWaits

@@ -14,3 +14,4 @@ pub mod Walking
 pub mod Unseen
 pub mod Coming
 pub mod Counting
+pub mod Finding

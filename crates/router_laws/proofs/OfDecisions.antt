@@ -1,6 +1,8 @@
 pub mod Fates
 pub mod Recording
+pub mod Asking
 pub mod Keeping
+pub mod Speaking
 pub mod Planning
 pub mod Listing
 pub mod Gathering
@@ -8,3 +10,4 @@ pub mod Working
 pub mod Tallying
 pub mod Router
 pub mod Staying
+pub mod AskedOn

@@ -10,3 +10,4 @@ pub mod Rows
 pub mod Onward
 pub mod Router
 pub mod Made
+pub mod Asked

@@ -10,7 +10,9 @@ pub mod Homed
 pub mod Called
 pub mod Given
 pub mod Fated
+pub mod Asked
 pub mod Entered
 pub mod Woken
 pub mod Known
 pub mod Told
+pub mod Saying

@@ -3,6 +3,7 @@ pub mod quiet
 pub mod clients
 pub mod reading
 pub mod links
+pub mod waits
 pub mod wakes
 pub mod routers
 pub mod entering

@@ -7,3 +7,4 @@ pub mod Leaves
 pub mod Writes
 pub mod Parts
 pub mod Counted
+pub mod Finds

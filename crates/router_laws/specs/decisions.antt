@@ -3,5 +3,8 @@ pub mod Records
 pub mod Plans
 pub mod Links
 pub mod Counting
+pub mod Speaks
+pub mod Asks
 pub mod Routers
 pub mod Goings
+pub mod Rulings

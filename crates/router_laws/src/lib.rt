@@ -15,4 +15,5 @@ pub mod links;
 pub mod quiet;
 pub mod reading;
 pub mod routers;
+pub mod waits;
 pub mod wakes;

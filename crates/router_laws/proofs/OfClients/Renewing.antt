@@ -180,7 +180,7 @@ module _ (service : Service) (default : List ℕ) (g : Ground) (t now : Tabled) 
 
   -- what follows for it
 
-  names : record { client = c; ordinal = ordinal } ≡ name_of it (suc it.taken)
+  pub names : record { client = c; ordinal = ordinal } ≡ name_of it (suc it.taken)
   names = λ i. record { client = sym it_number i; ordinal = (so.next ∙ ap suc (arrived_there g it so.row own unended)) i }
 
   pub going_on : (freed : Tale) → freed.moment ≡ suc g.tale.moment → IsOfOne g.setup g.plan g.tale e it (ended_by halt parting it.number) freed

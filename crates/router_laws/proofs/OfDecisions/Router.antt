@@ -6,7 +6,8 @@ use Rattle.mx_wire.specs.Log.{Log}
 use Rattle.mx_wire.specs.Moments.{lawful-more}
 use Rattle.mx_wire.specs.Tells.{MayFollow}
 use Rattle.mx_wire.specs.declared.entry.Entry.{Entry}
-use Rattle.client_session.specs.Setups.{Setup as Service}
+use Rattle.core_service.specs.declared.service.Service.{Service}
+use Rattle.client_session.specs.Setups.{Setup as Serving}
 use Rattle.private_model.specs.Names.{ClientNo}
 use Rattle.private_model.specs.View.{Setup}
 use Rattle.link_laws.specs.Stands.{Codes}
@@ -23,13 +24,22 @@ use Rattle.core_laws.specs.entry.Dues.{AreWrittenTo, IsWrittenTo}
 use Rattle.core_laws.specs.entry.Grows.{IsHeardMore, IsMoreBy}
 use Rattle.core_laws.specs.entry.Safe.{IsSafe}
 use Rattle.core_laws.specs.entry.Tells.{Fits, IsOf, ground}
+use Rattle.core_promises.specs.Asks.{AsksOwnOf}
+use Rattle.router_laws.proofs.OfDecisions.Asking.{asked_then}
 use Rattle.router_laws.proofs.OfDecisions.Fates.{false_true}
 use Rattle.router_laws.proofs.OfDecisions.Gathering.{plans_so}
 use Rattle.router_laws.proofs.OfDecisions.Keeping.{first_so, recorded_then}
 use Rattle.router_laws.proofs.OfDecisions.Recording.{is_more, one_more}
-use Rattle.router_laws.specs.decisions.Deeds.{AreAlone, Counts, Deeds, among, counts_with, decided_with, known_with, no_counts}
+use Rattle.query_rules.specs.Passing.{rules_of}
+use Rattle.router_promises.specs.Terms.{plan_in, setup_in}
+use Rattle.core_promises.specs.Waits.{AreDoneBy, WaitsSo}
+use Rattle.router_laws.proofs.OfDecisions.Speaking.{first_spoken, ours_alone, spoken_then}
+use Rattle.core_promises.specs.Asks.{AsksBy}
+use Rattle.router_laws.specs.decisions.Asks.{AsksThen}
+use Rattle.router_laws.specs.decisions.Speaks.{AreOurs}
+use Rattle.router_laws.specs.decisions.Deeds.{Counts, Deeds, among, counts_with, decided_with, known_with, no_counts}
 use Rattle.router_laws.specs.decisions.Records.{AreCountsOf, IsRecorded, first_deciding}
-use Rattle.router_laws.specs.decisions.Routers.{AreOpenJust, IsBefore, GoesSo, GoesSoBy, IsRouter}
+use Rattle.router_laws.specs.decisions.Routers.{AreOpenJust, IsBefore, GoesSo, GoesSoBy, IsRouter, WaitsThen}
 
 pub more_with : (d : Decided) (n : Counts) (log : Log) (e : Entry) (deeds : Deeds) → IsRecorded d n log
     → IsMoreBy (length log) d (decided_with deeds n log e d)
@@ -51,27 +61,28 @@ fits_before setup codes plan default log e heard fits = record {
   single = fits.single;
 }
 
-module _ (service : Service) (default : List ℕ) (log : Log) (e : Entry) (deeds : Deeds) (t now : Tabled) (roomy room : ClientNo → Bool)
-    (router : IsRouter service default log t roomy) (may : MayFollow log e) (alone : AreAlone deeds)
-    (goes : GoesSoBy service default log e router.core.decided router.counts deeds t now roomy room) where
+module _ (service : Service) (log : Log) (e : Entry) (deeds : Deeds) (t now : Tabled) (roomy room : ClientNo → Bool)
+    (router : IsRouter service log t roomy) (may : MayFollow log e) (ours : AreOurs (rules_of service.rules) deeds)
+    (waits : WaitsThen service log e router.core.decided) (asks : AsksThen service log e router.core.decided router.counts deeds)
+    (goes : GoesSoBy service.setup service.default_schema log e router.core.decided router.counts deeds t now roomy room) where
   abbrev new : Decided
   new = decided_with deeds router.counts log e router.core.decided
 
   module _ (setup : Setup) (codes : Codes) (plan : Plan) (of : IsOf new (length (with_entry log e)) plan)
-      (fits : Fits setup codes plan default (tale_of setup plan (with_entry log e))) where
-    so : GoesSo service setup codes plan log e router.core.decided router.counts deeds t now roomy room
+      (fits : Fits setup codes plan service.default_schema (tale_of setup plan (with_entry log e))) where
+    so : GoesSo service.setup setup codes plan log e router.core.decided router.counts deeds t now roomy room
     so = goes setup codes plan of fits
 
     of_then : IsOf router.core.decided (length log) plan
     of_then = plan_before router.core.decided router.counts log e deeds plan router.recorded of
 
-    fits_then : Fits setup codes plan default (tale_of setup plan log)
-    fits_then = fits_before setup codes plan default log e so.goes.heard fits
+    fits_then : Fits setup codes plan service.default_schema (tale_of setup plan log)
+    fits_then = fits_before setup codes plan service.default_schema log e so.goes.heard fits
 
-    rests_then : Rests service (ground setup codes plan router.core.decided log) t roomy
+    rests_then : Rests service.setup (ground setup codes plan router.core.decided log) t roomy
     rests_then = router.core.rests setup codes plan of_then fits_then
 
-    rests_now : Rests service (ground setup codes plan new (with_entry log e)) now room
+    rests_now : Rests service.setup (ground setup codes plan new (with_entry log e)) now room
     rests_now = so.goes.rests rests_then
 
     written_now : AreWrittenTo (ground setup codes plan new (with_entry log e)) (with_entry log e)
@@ -83,28 +94,44 @@ module _ (service : Service) (default : List ℕ) (log : Log) (e : Entry) (deeds
     counts_now : AreCountsOf (counts_with deeds router.counts log e) (tale_of setup plan (with_entry log e))
     counts_now = so.counts
 
-  pub router_goes_on : AreOpenJust (with_entry log e) now → IsRouter service default (with_entry log e) now room
+  waited_now : AreDoneBy service.default_schema new (with_entry log e)
+  waited_now terms codes of fits =
+      let then : IsOf router.core.decided (length log) (plan_in terms) = of_then (setup_in terms) codes (plan_in terms) of fits in
+      let fitted = fits_then (setup_in terms) codes (plan_in terms) of fits in
+      lawful-more (WaitsSo terms) log e (router.waited terms codes then fitted) (waits terms codes then fitted)
+
+  asked_now : AsksBy (rules_of service.rules) service.default_schema new (with_entry log e)
+  asked_now setup codes plan of fits =
+      let then : IsOf router.core.decided (length log) plan = of_then setup codes plan of fits in
+      let fitted : Fits setup codes plan service.default_schema (tale_of setup plan log) = fits_then setup codes plan of fits in
+      asked_then service log e router.core.decided router.counts deeds router.recorded setup plan of (router.counted setup codes plan then fitted)
+      (counts_now setup codes plan of fits) (router.asked setup codes plan then fitted) (λ client seated. asks setup codes plan of fits client seated)
+
+  pub router_goes_on : AreOpenJust (with_entry log e) now → IsRouter service (with_entry log e) now room
   router_goes_on open_just = record {
     core = record { decided = new; rests = rests_now; safe = safe_now; written = written_now; opened = λ l there. sym (open_just l) ∙ there };
     counts = counts_with deeds router.counts log e;
-    recorded = recorded_then router.core.decided router.counts log e deeds router.recorded alone;
+    recorded = recorded_then router.core.decided router.counts log e deeds router.recorded (ours_alone (rules_of service.rules) deeds ours);
     counted = counts_now;
     lawful = lawful-more MayFollow log e router.lawful may;
     open_just = open_just;
+    spoken = spoken_then (rules_of service.rules) router.core.decided router.counts log e deeds router.spoken ours;
+    waited = waited_now;
+    asked = asked_now;
   }
 
-module _ (service : Service) (default : List ℕ) (log : Log) (e : Entry) (t : Tabled) (roomy : ClientNo → Bool) (deeds : Deeds) (setup : Setup)
-    (codes : Codes) (plan : Plan) (router : IsRouter service default log t roomy) (may : MayFollow log e)
+module _ (service : Service) (log : Log) (e : Entry) (t : Tabled) (roomy : ClientNo → Bool) (deeds : Deeds) (setup : Setup)
+    (codes : Codes) (plan : Plan) (router : IsRouter service log t roomy) (may : MayFollow log e)
     (of : IsOf (decided_with deeds router.counts log e router.core.decided) (length (with_entry log e)) plan)
-    (fits : Fits setup codes plan default (tale_of setup plan (with_entry log e)))
+    (fits : Fits setup codes plan service.default_schema (tale_of setup plan (with_entry log e)))
     (heard : All (λ (client : Client). IsHeardMore (tale_of setup plan (with_entry log e)) client) (tale_of setup plan log).clients) where
   of_old : IsOf router.core.decided (length log) plan
   of_old = plan_before router.core.decided router.counts log e deeds plan router.recorded of
 
-  fits_old : Fits setup codes plan default (tale_of setup plan log)
-  fits_old = fits_before setup codes plan default log e heard fits
+  fits_old : Fits setup codes plan service.default_schema (tale_of setup plan log)
+  fits_old = fits_before setup codes plan service.default_schema log e heard fits
 
-  pub stood_before : IsBefore service default log e t roomy router deeds setup codes plan
+  pub stood_before : IsBefore service log e t roomy router deeds setup codes plan
   stood_before = record {
     of = of_old;
     fits = fits_old;
@@ -112,14 +139,14 @@ module _ (service : Service) (default : List ℕ) (log : Log) (e : Entry) (t : T
     written = router.core.written setup codes plan of_old fits_old;
     safe = router.core.safe setup codes plan of_old fits_old;
     counts = router.counted setup codes plan of_old fits_old;
-    so = plans_so default router.core.decided router.counts log e deeds setup codes plan router.recorded may of fits_old
+    so = plans_so service.default_schema router.core.decided router.counts log e deeds setup codes plan router.recorded may of fits_old
         (router.counted setup codes plan of_old fits_old);
   }
 
-pub changed : (service : Service) (default : List ℕ) (log : Log) (t now : Tabled) (roomy room : ClientNo → Bool)
-    → IsRouter service default log t roomy → ((g : Ground) → Rests service g t roomy → Rests service g now room) → AreOpenJust log now
-    → IsRouter service default log now room
-changed service default log t now roomy room router rests open_just = record {
+pub changed : (service : Service) (log : Log) (t now : Tabled) (roomy room : ClientNo → Bool)
+    → IsRouter service log t roomy → ((g : Ground) → Rests service.setup g t roomy → Rests service.setup g now room) → AreOpenJust log now
+    → IsRouter service log now room
+changed service log t now roomy room router rests open_just = record {
   core = record {
     decided = router.core.decided;
     rests = λ setup codes plan of fits.
@@ -133,9 +160,12 @@ changed service default log t now roomy room router rests open_just = record {
   counted = router.counted;
   lawful = router.lawful;
   open_just = open_just;
+  spoken = router.spoken;
+  waited = router.waited;
+  asked = router.asked;
 }
 
-roomier : (service : Service) (g : Ground) (t : Tabled) (roomy room : ClientNo → Bool) → ((c : ClientNo) → roomy c ≡ true → room c ≡ true)
+roomier : (service : Serving) (g : Ground) (t : Tabled) (roomy room : ClientNo → Bool) → ((c : ClientNo) → roomy c ≡ true → room c ≡ true)
     → Rests service g t roomy → Rests service g t room
 roomier service g t roomy room more rests = record {
   stands = rests.stands;
@@ -149,10 +179,10 @@ roomier service g t roomy room more rests = record {
   by c full true is = false_true (room c) full (more c is)
   by c full false is = is
 
-pub grows_roomier : (service : Service) (default : List ℕ) (log : Log) (t : Tabled) (roomy room : ClientNo → Bool)
-    → IsRouter service default log t roomy → ((c : ClientNo) → roomy c ≡ true → room c ≡ true) → IsRouter service default log t room
-grows_roomier service default log t roomy room router more =
-    changed service default log t t roomy room router (λ g rests. roomier service g t roomy room more rests) router.open_just
+pub grows_roomier : (service : Service) (log : Log) (t : Tabled) (roomy room : ClientNo → Bool)
+    → IsRouter service log t roomy → ((c : ClientNo) → roomy c ≡ true → room c ≡ true) → IsRouter service log t room
+grows_roomier service log t roomy room router more =
+    changed service log t t roomy room router (λ g rests. roomier service.setup g t roomy room more rests) router.open_just
 
 -- The empty log.
 
@@ -176,23 +206,26 @@ not_by_now : (at : Option ℕ) → ((n : ℕ) → at ≡ Some n → 0 < n) → i
 not_by_now None later = refl
 not_by_now (Some n) later = let more : 0 < n = later n refl in grind arith
 
-pub router_of_none : (service : Service) (default : List ℕ) (roomy : ClientNo → Bool)
-    → ((setup : Setup) (codes : Codes) (plan : Plan) → plan.service ≡ service → plan.room ≡ 1048576
-    → ((c : ClientNo) → is_by_now 0 (plan.ends c) ≡ false) → Rests service (first_ground setup codes plan) no_tables roomy)
-    → IsRouter service default [] no_tables roomy
-router_of_none service default roomy stands = record {
+pub router_of_none : (service : Service) (roomy : ClientNo → Bool)
+    → ((setup : Setup) (codes : Codes) (plan : Plan) → plan.service ≡ service.setup → plan.room ≡ 1048576
+    → ((c : ClientNo) → is_by_now 0 (plan.ends c) ≡ false) → Rests service.setup (first_ground setup codes plan) no_tables roomy)
+    → IsRouter service [] no_tables roomy
+router_of_none service roomy stands = record {
   core = record {
-    decided = first_deciding service;
+    decided = first_deciding service.setup;
     rests = λ setup codes plan of fits.
         stands setup codes plan of.agrees.service of.agrees.room (λ c. not_by_now (plan.ends c) (λ n is. of.agrees.going c n refl is));
     safe = λ setup codes plan of fits. first_safe setup plan;
-    written = λ setup codes plan of fits. All-nil (IsWrittenTo (ground setup codes plan (first_deciding service) []) []);
+    written = λ setup codes plan of fits. All-nil (IsWrittenTo (ground setup codes plan (first_deciding service.setup) []) []);
     opened = λ l there. false_true false refl there;
   };
   counts = no_counts;
-  recorded = first_so service;
+  recorded = first_so service.setup;
   counted = λ setup codes plan of fits.
       record { taken = All-nil (λ (client : Client). client.taken ≡ 0); begun = λ l. refl };
   lawful = tt;
   open_just = λ l. refl;
+  spoken = first_spoken (rules_of service.rules) service.setup;
+  waited = λ terms codes of fits. tt;
+  asked = λ setup codes plan of fits. All-nil (AsksOwnOf (rules_of service.rules) plan);
 }

@@ -4,11 +4,12 @@ use Rattle.std.proofs.Common.{refl, sym, ap, ◌∙◌, subst, arith, length-app
 use Rattle.std.proofs.lemmas.List.Elements.{All-nil, filter_map-append}
 use Rattle.mx_base.specs.declared.names.LinkId.{LinkId}
 use Rattle.mx_base.specs.declared.names.Port.{Port}
+use Rattle.mx_base.specs.declared.names.Port.TheVariants.{Admin, Traffic}
 use Rattle.mx_wire.specs.Log.{Log, accepted_link, accepted_links}
 use Rattle.mx_wire.specs.Tells.{MayFollow}
 use Rattle.mx_wire.specs.declared.entry.Entry.{Entry}
 use Rattle.mx_wire.specs.declared.entry.Entry.TheVariants.{Accepted}
-use Rattle.client_session.specs.Setups.{Setup as Service}
+use Rattle.core_service.specs.declared.service.Service.{Service}
 use Rattle.private_model.proofs.Maps.{same_number}
 use Rattle.private_model.specs.Names.{ClientNo}
 use Rattle.private_model.specs.View.{Setup}
@@ -22,11 +23,15 @@ use Rattle.core_laws.specs.entry.Cores.{GoesOn, with_entry}
 use Rattle.core_laws.specs.entry.Tells.{IsOf, ground}
 use Rattle.core_laws.specs.clients.Turns.{Rests as Resting}
 use Rattle.router_laws.specs.clients.Plans.{FitsThen, PlansAway, PlansComing, ends_of, nobody, over_by}
+use Rattle.router_laws.proofs.OfDecisions.Asking.{asks_of_none}
 use Rattle.router_laws.proofs.OfDecisions.Router.{router_goes_on}
 use Rattle.router_laws.proofs.OfDecisions.Staying.{counts_kept}
+use Rattle.query_rules.specs.Passing.{rules_of}
+use Rattle.own_words.specs.Own.{TurnedAway}
+use Rattle.router_laws.specs.decisions.Speaks.{IsEndOurs, IsOurs}
 use Rattle.router_laws.specs.decisions.Counting.{CallsNone}
 use Rattle.router_laws.specs.decisions.Deeds as ds
-use Rattle.router_laws.specs.decisions.Deeds.{IsAlone, Word, known_with, taken_by}
+use Rattle.router_laws.specs.decisions.Deeds.{Word, known_with, taken_by}
 use Rattle.router_laws.specs.decisions.Plans.{HasNewcomer}
 use Rattle.router_laws.specs.decisions.Routers.{AreOpenJust, GoesSo, IsBefore, IsRouter}
 use Rattle.router_laws.proofs.OfEntering.Deciding as deciding
@@ -39,17 +44,21 @@ known_more log port link salt =
 abbrev pub away : Port → Option (Option Word)
 away port = Some (Some (record { place = Alone; payloads = away_payloads port }))
 
-module _ (service : Service) (default : List ℕ) (log : Log) (t now : Tabled) (roomy : ClientNo → Bool) (port : Port) (link : LinkId) (salt : List ℕ)
-    (c : ClientNo) (router : IsRouter service default log t roomy) (may : MayFollow log (Accepted port link salt))
-    (count : c.0 ≡ length (accepted_links log) + 1) (last : Option (Option Word)) where
+pub away_ours : (port : Port) → IsEndOurs (away port)
+away_ours Traffic = TurnedAway Traffic
+away_ours Admin = TurnedAway Admin
+
+module _ (service : Service) (log : Log) (t now : Tabled) (roomy : ClientNo → Bool) (port : Port) (link : LinkId) (salt : List ℕ)
+    (c : ClientNo) (router : IsRouter service log t roomy) (may : MayFollow log (Accepted port link salt))
+    (count : c.0 ≡ length (accepted_links log) + 1) (last : Option (Option Word)) (said_ours : IsEndOurs last) where
   abbrev e : Entry
   e = Accepted port link salt
 
   abbrev deeds : ds.Deeds
-  deeds = deciding.deeds service default log e t now roomy roomy router may c [] Resting last (All-nil IsAlone)
+  deeds = deciding.deeds service log e t now roomy roomy router may c [] Resting last (All-nil (IsOurs (rules_of service.rules) c)) said_ours
 
   abbrev pub new : Decided
-  new = deciding.new service default log e t now roomy roomy router may c [] Resting last (All-nil IsAlone)
+  new = deciding.new service log e t now roomy roomy router may c [] Resting last (All-nil (IsOurs (rules_of service.rules) c)) said_ours
 
   nothing : (q : Bool) → taken_by (if q then [] else []) (if q then Resting else Resting) ≡ 0
   nothing true = refl
@@ -58,7 +67,7 @@ module _ (service : Service) (default : List ℕ) (log : Log) (t now : Tabled) (
   none_called : CallsNone deeds
   none_called = record { given = λ x. refl; none_taken = λ x. nothing (nat_eq c.0 x.0) }
 
-  module _ (setup : Setup) (codes : Codes) (plan : Plan) (of : IsOf new (length (with_entry log e)) plan) (fits : FitsThen setup codes plan default log e) where
+  module _ (setup : Setup) (codes : Codes) (plan : Plan) (of : IsOf new (length (with_entry log e)) plan) (fits : FitsThen setup codes plan service.default_schema log e) where
     abbrev pub g : Ground
     g = ground setup codes plan router.core.decided log
 
@@ -67,20 +76,20 @@ module _ (service : Service) (default : List ℕ) (log : Log) (t now : Tabled) (
 
     newcomer : HasNewcomer g deeds c
     newcomer =
-        (deciding.so service default log e t now roomy roomy router may c [] Resting last (All-nil IsAlone) setup codes plan of fits).newcomer c
+        (deciding.so service log e t now roomy roomy router may c [] Resting last (All-nil (IsOurs (rules_of service.rules) c)) said_ours setup codes plan of fits).newcomer c
         (omega (arith, count)) came
 
     pub coming : PlansComing g c (ends_of c (is_some last)) (over_by new)
     coming = record {
-      decided = deciding.decided service default log e t now roomy roomy router may c [] Resting last (All-nil IsAlone) setup codes plan of fits came newcomer.going;
-      unrouted = (deciding.so service default log e t now roomy roomy router may c [] Resting last (All-nil IsAlone) setup codes plan of fits).nowhere c;
+      decided = deciding.decided service log e t now roomy roomy router may c [] Resting last (All-nil (IsOurs (rules_of service.rules) c)) said_ours setup codes plan of fits came newcomer.going;
+      unrouted = (deciding.so service log e t now roomy roomy router may c [] Resting last (All-nil (IsOurs (rules_of service.rules) c)) said_ours setup codes plan of fits).nowhere c;
       kept = newcomer.keeps refl;
       going = newcomer.going;
     }
 
     pub coming_on : last ≡ None → PlansComing g c nobody (over_by new)
     coming_on none = record {
-      decided = deciding.decided_none service default log e t now roomy roomy router may c [] Resting last (All-nil IsAlone) setup codes plan of fits none refl;
+      decided = deciding.decided_none service log e t now roomy roomy router may c [] Resting last (All-nil (IsOurs (rules_of service.rules) c)) said_ours setup codes plan of fits none refl;
       unrouted = coming.unrouted;
       kept = coming.kept;
       going = coming.going;
@@ -98,18 +107,19 @@ module _ (service : Service) (default : List ℕ) (log : Log) (t now : Tabled) (
 
   abbrev pub GoesBy : Type 0
   GoesBy =
-      (setup : Setup) (codes : Codes) (plan : Plan) (of : IsOf new (length (with_entry log e)) plan) (fits : FitsThen setup codes plan default log e)
-      → GoesOn service setup codes plan log e router.core.decided new t now roomy roomy
+      (setup : Setup) (codes : Codes) (plan : Plan) (of : IsOf new (length (with_entry log e)) plan) (fits : FitsThen setup codes plan service.default_schema log e)
+      → GoesOn service.setup setup codes plan log e router.core.decided new t now roomy roomy
 
-  pub comes_routed : GoesBy → AreOpenJust (with_entry log e) now → IsRouter service default (with_entry log e) now roomy
+  pub comes_routed : GoesBy → AreOpenJust (with_entry log e) now → IsRouter service (with_entry log e) now roomy
   comes_routed goes =
-      router_goes_on service default log e deeds t now roomy roomy router may
-      (deciding.alone service default log e t now roomy roomy router may c [] Resting last (All-nil IsAlone)) goes_so where
-        goes_so : (setup : Setup) (codes : Codes) (plan : Plan) → IsOf new (length (with_entry log e)) plan → FitsThen setup codes plan default log e
-            → GoesSo service setup codes plan log e router.core.decided router.counts deeds t now roomy roomy
+      router_goes_on service log e deeds t now roomy roomy router may
+      (deciding.ours service log e t now roomy roomy router may c [] Resting last (All-nil (IsOurs (rules_of service.rules) c)) said_ours) (λ terms codes of fits. tt)
+      (asks_of_none service log e router.core.decided router.counts c Resting last) goes_so where
+        goes_so : (setup : Setup) (codes : Codes) (plan : Plan) → IsOf new (length (with_entry log e)) plan → FitsThen setup codes plan service.default_schema log e
+            → GoesSo service.setup setup codes plan log e router.core.decided router.counts deeds t now roomy roomy
         goes_so setup codes plan of fits =
-            let was : IsBefore service default log e t roomy router deeds setup codes plan =
-            deciding.before service default log e t now roomy roomy router may c [] Resting last (All-nil IsAlone) setup codes plan of fits in
+            let was : IsBefore service log e t roomy router deeds setup codes plan =
+            deciding.before service log e t now roomy roomy router may c [] Resting last (All-nil (IsOurs (rules_of service.rules) c)) said_ours setup codes plan of fits in
             record {
               goes = goes setup codes plan of fits;
               counts = counts_kept setup plan router.core.decided router.counts log e deeds router.recorded may of was.counts refl none_called tt;

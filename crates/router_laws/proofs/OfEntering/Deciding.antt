@@ -7,7 +7,8 @@ use Rattle.std.proofs.lemmas.Option.{none-some, same_Some}
 use Rattle.mx_wire.specs.Log.{Log, accepted_links}
 use Rattle.mx_wire.specs.Tells.{MayFollow}
 use Rattle.mx_wire.specs.declared.entry.Entry.{Entry}
-use Rattle.client_session.specs.Setups.{Setup as Service}
+use Rattle.core_service.specs.declared.service.Service.{Service}
+use Rattle.client_session.specs.Setups.{Setup as Serving}
 use Rattle.private_model.specs.Names.{ClientNo, MessageName}
 use Rattle.private_model.specs.Story.{is_client}
 use Rattle.private_model.specs.View.{Setup}
@@ -31,13 +32,15 @@ use Rattle.core_laws.specs.entry.Tells.{Fits, IsOf, ground}
 use Rattle.core_laws.specs.clients.Chosen.{PlanHas}
 use Rattle.core_laws.specs.clients.Following.{IsPartedIn, StandTold}
 use Rattle.core_laws.specs.clients.Follows.{Leaves, Parting, Stays, Tells, ends_by, parts_by, quits_by}
-use Rattle.core_laws.specs.clients.Turns.{Choice, Ends, Halt, Quits, Rests as Resting, Waits, count_by}
+use Rattle.core_laws.specs.clients.Turns.{Choice, Ends, Halt, Quits, Rests as Resting, Turns, Waits, count_by}
 use Rattle.router_laws.proofs.OfClients.Continuing.{all_were}
 use Rattle.router_laws.proofs.OfClients.Counting.{one_seated}
 use Rattle.router_laws.proofs.OfClients.Entering.{heard_always}
 use Rattle.router_laws.specs.clients.Continues.{HasCome, WasThere}
 use Rattle.router_laws.specs.clients.Counted.{GoesTaking, TakesOne}
+use Rattle.router_laws.specs.clients.Finds.{GoesFinding}
 use Rattle.router_laws.specs.clients.Plans.{FitsThen, IsDecided, PlansEnd, PlansTurns, ends_of, nobody, over_by}
+use Rattle.router_laws.proofs.OfDecisions.Asking.{asked_by, asks_taking}
 use Rattle.router_laws.proofs.OfDecisions.Gathering.{all_still, over_then, silent_at}
 use Rattle.router_laws.proofs.OfDecisions.Keeping.{more_known, recorded_then}
 use Rattle.router_laws.proofs.OfDecisions.Listing.{all_rise, counted_below, is_tale_of}
@@ -45,16 +48,21 @@ use Rattle.router_laws.proofs.OfDecisions.Recording.{one_more}
 use Rattle.router_laws.proofs.OfDecisions.Router.{router_goes_on, stood_before}
 use Rattle.router_laws.proofs.OfDecisions.Tallying.{counts_then}
 use Rattle.router_laws.proofs.OfDecisions.Working.{none_given}
+use Rattle.query_rules.specs.Passing.{rules_of}
+use Rattle.router_laws.proofs.OfDecisions.Speaking.{ours_alone, ours_of_one}
+use Rattle.core_promises.specs.Ruled.{AreRuled}
+use Rattle.router_laws.specs.decisions.Asks.{AskedFrom, AsksThen}
+use Rattle.router_laws.specs.decisions.Speaks.{AreOurs, IsEndOurs, IsOurs}
 use Rattle.router_laws.specs.decisions.Counting.{BeginsSo, TakesSo}
 use Rattle.router_laws.specs.decisions.Deeds as ds
-use Rattle.router_laws.specs.decisions.Deeds.{AreAlone, Deeds, IsAlone, Word, counts_with, decided_with, known_with, no_deeds, parting, taken_by, taking}
+use Rattle.router_laws.specs.decisions.Deeds.{AreAlone, Deeds, Word, counts_with, decided_with, known_with, no_deeds, parting, taken_by, taking}
 use Rattle.router_laws.specs.decisions.Goings.{end_of}
 use Rattle.router_laws.specs.decisions.Plans.{HasDeeds, PlansSo}
-use Rattle.router_laws.specs.decisions.Routers.{AreOpenJust, GoesSo, IsBefore, IsRouter}
+use Rattle.router_laws.specs.decisions.Routers.{AreOpenJust, GoesSo, IsBefore, IsRouter, WaitsThen}
 
 -- By its last word one stands as it is told.
 abbrev pub Told : Type 0
-Told = (service : Service) (payload : List ℕ) (g : Ground) (c : ClientNo) (moment : ℕ) (word : LastWord) → g.over c ≡ false
+Told = (service : Serving) (payload : List ℕ) (g : Ground) (c : ClientNo) (moment : ℕ) (word : LastWord) → g.over c ≡ false
     → word_at g.plan moment c ≡ Some word → word.place ≡ Behind → word.payloads ≡ payload ∷ [] → StandTold payload service g c moment
 
 -- How it ends.
@@ -102,9 +110,9 @@ and_none : (a : Bool) → (a && false) ≡ false
 and_none true = refl
 and_none false = refl
 
-module _ (service : Service) (default : List ℕ) (log : Log) (e : Entry) (t now : Tabled) (roomy room : ClientNo → Bool)
-    (router : IsRouter service default log t roomy) (may : MayFollow log e) (c : ClientNo) (choices : List Choice) (halt : Halt)
-    (last : Option (Option Word)) (all_alone : All IsAlone choices) where
+module _ (service : Service) (log : Log) (e : Entry) (t now : Tabled) (roomy room : ClientNo → Bool)
+    (router : IsRouter service log t roomy) (may : MayFollow log e) (c : ClientNo) (choices : List Choice) (halt : Halt)
+    (last : Option (Option Word)) (all_ours : All (IsOurs (rules_of service.rules) c) choices) (end_ours : IsEndOurs last) where
   abbrev pub deeds : Deeds
   deeds = parting c last (taking c choices halt no_deeds)
 
@@ -120,19 +128,18 @@ module _ (service : Service) (default : List ℕ) (log : Log) (e : Entry) (t now
   abbrev pub ends : Bool
   ends = is_some (ds.ends_by halt last)
 
-  alone_by : (b : Bool) → All IsAlone (if b then choices else [])
-  alone_by true = all_alone
-  alone_by false = All-nil IsAlone
+  pub ours : AreOurs (rules_of service.rules) deeds
+  ours = ours_of_one (rules_of service.rules) c choices halt last all_ours end_ours
 
-  pub alone : AreAlone deeds
-  alone x = alone_by (nat_eq c.0 x.0)
+  alone : AreAlone deeds
+  alone = ours_alone (rules_of service.rules) deeds ours
 
-  module _ (setup : Setup) (codes : Codes) (plan : Plan) (of : IsOf new (length (with_entry log e)) plan) (fits : FitsThen setup codes plan default log e) where
+  module _ (setup : Setup) (codes : Codes) (plan : Plan) (of : IsOf new (length (with_entry log e)) plan) (fits : FitsThen setup codes plan service.default_schema log e) where
     abbrev pub g : Ground
     g = ground setup codes plan d log
 
-    pub before : IsBefore service default log e t roomy router deeds setup codes plan
-    before = stood_before service default log e t roomy deeds setup codes plan router may of fits (heard_always setup plan log e)
+    pub before : IsBefore service log e t roomy router deeds setup codes plan
+    before = stood_before service log e t roomy deeds setup codes plan router may of fits (heard_always setup plan log e)
 
     pub so : PlansSo g log e deeds
     so = before.so (none_given g (λ x. None) (λ x. refl))
@@ -216,6 +223,10 @@ module _ (service : Service) (default : List ℕ) (log : Log) (e : Entry) (t now
           let more : length (accepted_links log) ≤ known = more_known log e in
           let same : client.number.0 ≡ c.0 = ap (λ (n : ClientNo). n.0) number in omega (arith, less, size, more, same)
 
+      pub counted_so : client.taken ≡ router.counts.taken c
+      counted_so =
+          seated_of (λ (y : tales.Client). y.taken ≡ router.counts.taken y.number) g.tale client seated before.counts.taken ∙ ap router.counts.taken number
+
       pub chosen : PlanHas choices halt plan (suc g.tale.moment) (name_of client (suc client.taken))
       chosen =
           subst (λ (q : Bool). PlanHas (if q then choices else []) (if q then halt else Resting) plan (suc g.tale.moment) (name_of client (suc client.taken)))
@@ -235,7 +246,7 @@ module _ (service : Service) (default : List ℕ) (log : Log) (e : Entry) (t now
       }
 
       pub turns_of_it : (ordinal : ℕ) (by : Parting) → ordinal ≡ suc client.taken → last ≡ end_of by → (quits_by halt ≡ true → by ≡ Stays)
-          → Told → PlansTurns service g log c ordinal choices halt by (over_by new)
+          → Told → PlansTurns service.setup g log c ordinal choices halt by (over_by new)
       turns_of_it ordinal by next same once told = record {
         decided = subst (λ (b : Bool). IsDecided g (ends_of c b) (over_by new))
             (ap (λ (x : Option (Option Word)). is_some (ds.ends_by halt x)) same ∙ ends_alike halt by) (decided came_so going);
@@ -250,11 +261,11 @@ module _ (service : Service) (default : List ℕ) (log : Log) (e : Entry) (t now
         word_by p is = word ∙ ap (λ (x : Option (Option Word)). ds.said_at (suc g.tale.moment) (ds.ends_by halt x)) is
 
         parted : (p : Parting) → last ≡ end_of p → (quits_by halt ≡ true → p ≡ Stays)
-            → IsPartedIn p service g c (suc g.tale.moment)
+            → IsPartedIn p service.setup g c (suc g.tale.moment)
         parted Stays is only = tt
         parted Leaves is only = word_by Leaves is ∙ wordless_by halt (suc g.tale.moment)
         parted (Tells payload) is only =
-            told service payload g c (suc g.tale.moment) (record { from = suc g.tale.moment; place = Behind; payloads = payload ∷ [] }) going
+            told service.setup payload g c (suc g.tale.moment) (record { from = suc g.tale.moment; place = Behind; payloads = payload ∷ [] }) going
             (word_by (Tells payload) is ∙ told_by halt payload (suc g.tale.moment) only) refl refl
 
     -- what it takes up
@@ -294,19 +305,48 @@ module _ (service : Service) (default : List ℕ) (log : Log) (e : Entry) (t now
 
   abbrev pub GoesBy : Type 0
   GoesBy =
-      (setup : Setup) (codes : Codes) (plan : Plan) (of : IsOf new (length (with_entry log e)) plan) (fits : FitsThen setup codes plan default log e)
-      → GoesTaking service setup codes plan log e d new t now roomy room c (taken_by choices halt)
+      (setup : Setup) (codes : Codes) (plan : Plan) (of : IsOf new (length (with_entry log e)) plan) (fits : FitsThen setup codes plan service.default_schema log e)
+      → GoesTaking service.setup setup codes plan log e d new t now roomy room c (taken_by choices halt)
 
-  pub goes_router : GoesBy → ((tale : Tale) (x : tales.Client) → HasCome tale e x → ⊥) → ((setup : Setup) (tale : Tale) → BeginsSo setup tale e deeds)
-      → AreOpenJust (with_entry log e) now → IsRouter service default (with_entry log e) now room
-  goes_router goes uncome begins = router_goes_on service default log e deeds t now roomy room router may alone goes_so where
-    goes_so : (setup : Setup) (codes : Codes) (plan : Plan) → IsOf new (length (with_entry log e)) plan → FitsThen setup codes plan default log e
-        → GoesSo service setup codes plan log e d router.counts deeds t now roomy room
+  pub goes_router : WaitsThen service log e router.core.decided → AsksThen service log e router.core.decided router.counts deeds → GoesBy → ((tale : Tale) (x : tales.Client) → HasCome tale e x → ⊥) → ((setup : Setup) (tale : Tale) → BeginsSo setup tale e deeds)
+      → AreOpenJust (with_entry log e) now → IsRouter service (with_entry log e) now room
+  goes_router waits asks goes uncome begins = router_goes_on service log e deeds t now roomy room router may ours waits asks goes_so where
+    goes_so : (setup : Setup) (codes : Codes) (plan : Plan) → IsOf new (length (with_entry log e)) plan → FitsThen setup codes plan service.default_schema log e
+        → GoesSo service.setup setup codes plan log e d router.counts deeds t now roomy room
     goes_so setup codes plan of fits =
-        let taking_it : GoesTaking service setup codes plan log e d new t now roomy room c (taken_by choices halt) = goes setup codes plan of fits in
-        let was : IsBefore service default log e t roomy router deeds setup codes plan = before setup codes plan of fits in
+        let taking_it : GoesTaking service.setup setup codes plan log e d new t now roomy room c (taken_by choices halt) = goes setup codes plan of fits in
+        let was : IsBefore service log e t roomy router deeds setup codes plan = before setup codes plan of fits in
         record {
           goes = taking_it.goes;
           counts = counts_then setup plan d router.counts log e deeds router.recorded was.counts may
               (takes_so setup codes plan of fits (uncome (tale_of setup plan log)) (taking_it.takes was.rests)) (begins setup (tale_of setup plan log));
         }
+
+  -- and what it asks for is ruled
+
+  module _ (ordinal : ℕ) (mid turned : Tabled) (turns : Turns choices halt service.setup service.default_schema c mid turned)
+      (ruled : AreRuled (rules_of service.rules) choices halt service.setup service.default_schema c mid turned turns) where
+    pub record Finds (setup : Setup) (codes : Codes) (plan : Plan) : Type 0 where
+      pub so : GoesFinding service.setup service.default_schema setup codes plan log e d new t now roomy room c ordinal choices halt mid turned turns
+      pub next : ordinal ≡ suc (router.counts.taken c)
+
+    abbrev pub FindsBy : Type 0
+    FindsBy =
+        (setup : Setup) (codes : Codes) (plan : Plan) (of : IsOf new (length (with_entry log e)) plan)
+        (fits : FitsThen setup codes plan service.default_schema log e) → Finds setup codes plan
+
+    pub finds_router : WaitsThen service log e router.core.decided → FindsBy → ((tale : Tale) (x : tales.Client) → HasCome tale e x → ⊥)
+        → ((setup : Setup) (tale : Tale) → BeginsSo setup tale e deeds) → AreOpenJust (with_entry log e) now → IsRouter service (with_entry log e) now room
+    finds_router waits finds = goes_router waits (asks_taking service log e d router.counts c choices halt last asked) goes where
+      goes : GoesBy
+      goes setup codes plan of fits =
+          subst (λ (k : ℕ). GoesTaking service.setup setup codes plan log e d new t now roomy room c k) (count_alike choices halt)
+          (finds setup codes plan of fits).so.goes
+
+      asked : (setup : Setup) (codes : Codes) (plan : Plan) → IsOf new (length (with_entry log e)) plan → FitsThen setup codes plan service.default_schema log e
+          → (client : tales.Client) → IsSeated (tale_of setup plan (with_entry log e)) client → client.number ≡ c
+          → AskedFrom (rules_of service.rules) plan client (router.counts.taken c) choices
+      asked setup codes plan of fits client seated number =
+          asked_by (rules_of service.rules) plan client (router.counts.taken c) choices halt service.setup service.default_schema c mid turned turns
+          ((finds setup codes plan of fits).so.finds (before setup codes plan of fits).rests (router.counts.taken c) (finds setup codes plan of fits).next
+          client seated number) ruled

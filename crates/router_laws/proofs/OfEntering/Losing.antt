@@ -7,7 +7,8 @@ use Rattle.mx_base.specs.declared.names.LinkId.{LinkId}
 use Rattle.mx_wire.specs.Log.{Log}
 use Rattle.mx_wire.specs.Tells.{MayFollow}
 use Rattle.mx_wire.specs.declared.entry.Entry.{Entry}
-use Rattle.client_session.specs.Setups.{Setup as Service}
+use Rattle.core_service.specs.declared.service.Service.{Service}
+use Rattle.client_session.specs.Setups.{Setup as Serving}
 use Rattle.client_seat.specs.Seats.{account_in, is_ended}
 use Rattle.client_seat.specs.declared.phase.Phase.{Phase}
 use Rattle.client_seat.specs.declared.phase.Phase.TheVariants as phase
@@ -23,36 +24,43 @@ use Rattle.core_tables.specs.Tables.{Tabled}
 use Rattle.core_stands.specs.Grounds.{Ground}
 use Rattle.core_stands.specs.Stands.{IsKnown}
 use Rattle.router_laws.specs.decisions.Counting.{BeginsSo}
-use Rattle.router_laws.specs.decisions.Deeds.{Deeds, IsAlone}
+use Rattle.router_laws.specs.decisions.Deeds.{Deeds}
+use Rattle.query_rules.specs.Passing.{rules_of}
+use Rattle.router_laws.proofs.OfDecisions.Asking.{asks_of_none}
+use Rattle.router_laws.proofs.OfDecisions.Speaking.{end_ours}
+use Rattle.router_laws.proofs.OfWaits.Then.{loss_waits}
+use Rattle.core_promises.specs.Ruled.{AreRuled}
+use Rattle.router_laws.specs.decisions.Speaks.{IsOurs, IsPartingOurs}
 use Rattle.router_laws.specs.decisions.Goings.{end_of}
 use Rattle.router_laws.specs.decisions.Routers.{IsBefore, IsRouter}
 use Rattle.core_laws.specs.entry.Cores.{with_entry}
 use Rattle.core_laws.specs.entry.Safe.{IsSafe}
 use Rattle.core_laws.specs.entry.Tells.{ground}
 use Rattle.core_laws.specs.clients.Follows.{Parting}
-use Rattle.core_laws.specs.clients.Turns.{Choice, Halt, Rests as Resting, count_by}
+use Rattle.core_laws.specs.clients.Turns.{Choice, Halt, Rests as Resting}
 use Rattle.router_laws.proofs.OfClients.Closing.{over_there}
 use Rattle.router_laws.proofs.OfClients.Leaving.{IsLoss, loss_of}
 use Rattle.router_laws.proofs.OfClients.Linking.{client_there, is_client_row, known}
 use Rattle.router_laws.proofs.OfClients.Saying.{arrived_there, goes_there}
 use Rattle.router_laws.specs.clients.Counted.{GoesTaking}
+use Rattle.router_laws.specs.clients.Finds.{GoesFinding}
 use Rattle.router_laws.specs.clients.Leaves.{IsLossOf, LeavesAgain, LeavesAtOnce, LeavesGoing, is_at_rest}
 use Rattle.router_laws.specs.clients.Plans.{FitsThen, IsDecided, PlansEnd, PlansTurns, nobody, over_by}
 use Rattle.router_laws.proofs.OfEntering.Deciding as deciding
-use Rattle.router_laws.proofs.OfEntering.Deciding.{Told, count_alike}
+use Rattle.router_laws.proofs.OfEntering.Deciding.{Told}
 use Rattle.router_laws.proofs.OfEntering.Opening.{again_keeps, at_once_keeps, going_keeps, loss_opens, opens_kept}
 use Rattle.router_laws.specs.entering.Rooms.{OthersLack}
 
 -- The laws by which it goes.
 
 abbrev Again : Type 0
-Again = (service : Service) (default : List ℕ) (setup : Setup) (codes : Codes) (plan : Plan) (log : Log) (e : Entry) (old new : Decided)
+Again = (service : Serving) (default : List ℕ) (setup : Setup) (codes : Codes) (plan : Plan) (log : Log) (e : Entry) (old new : Decided)
     (t now : Tabled) (roomy : ClientNo → Bool) (link : LinkId) (c : ClientNo) → FitsThen setup codes plan default log e → IsLossOf link e
     → IsSafe setup plan log → IsDecided (ground setup codes plan old log) nobody (over_by new) → LeavesAgain link c t now
     → GoesTaking service setup codes plan log e old new t now roomy roomy c 0
 
 abbrev AtOnce : Type 0
-AtOnce = (service : Service) (default : List ℕ) (setup : Setup) (codes : Codes) (plan : Plan) (log : Log) (e : Entry) (old new : Decided)
+AtOnce = (service : Serving) (default : List ℕ) (setup : Setup) (codes : Codes) (plan : Plan) (log : Log) (e : Entry) (old new : Decided)
     (t now : Tabled) (roomy room : ClientNo → Bool) (link : LinkId) (c : ClientNo) (links : List LinkId)
     → FitsThen setup codes plan default log e → IsLossOf link e → IsSafe setup plan log
     → PlansEnd (ground setup codes plan old log) log c (over_by new) → LeavesAtOnce link links c roomy t now
@@ -60,13 +68,13 @@ AtOnce = (service : Service) (default : List ℕ) (setup : Setup) (codes : Codes
     → GoesTaking service setup codes plan log e old new t now roomy room c 0
 
 abbrev Going : Type 0
-Going = (service : Service) (default : List ℕ) (setup : Setup) (codes : Codes) (plan : Plan) (log : Log) (e : Entry) (old new : Decided)
+Going = (service : Serving) (default : List ℕ) (setup : Setup) (codes : Codes) (plan : Plan) (log : Log) (e : Entry) (old new : Decided)
     (t now : Tabled) (roomy room : ClientNo → Bool) (link : LinkId) (c : ClientNo) (links : List LinkId) (ordinal : ℕ) (choices : List Choice)
     (halt : Halt) (parting : Parting) → FitsThen setup codes plan default log e → IsLossOf link e → IsSafe setup plan log
     → PlansTurns service (ground setup codes plan old log) log c ordinal choices halt parting (over_by new)
-    → LeavesGoing service default link links ordinal choices halt parting c t now
+    → (so : LeavesGoing service default link links ordinal choices halt parting c t now)
     → ((other : ClientNo) → is_client c other ≡ false → room other ≡ false → roomy other ≡ false)
-    → GoesTaking service setup codes plan log e old new t now roomy room c (count_by choices halt)
+    → GoesFinding service default setup codes plan log e old new t now roomy room c ordinal choices halt so.between so.follows.turned so.follows.turns
 
 loss_begins : (link : LinkId) (e : Entry) → IsLossOf link e → (deeds : Deeds) (setup : Setup) (tale : Tale) → BeginsSo setup tale e deeds
 loss_begins link e (inl same) deeds setup tale = subst (λ (x : Entry). BeginsSo setup tale x deeds) (sym same) tt
@@ -78,62 +86,71 @@ serves phase.LoggingIn b is = refl
 serves (phase.Serving account) b is = refl
 serves phase.Ended b is = absurd (false≢true is)
 
-pub again_routed : Again → (service : Service) (default : List ℕ) (log : Log) (e : Entry) (t now : Tabled) (roomy : ClientNo → Bool) (link : LinkId) (c : ClientNo)
-    → IsRouter service default log t roomy → MayFollow log e → IsLossOf link e → LeavesAgain link c t now
-    → IsRouter service default (with_entry log e) now roomy
-again_routed law service default log e t now roomy link c router may lost so =
-    deciding.goes_router service default log e t now roomy roomy router may c [] Resting None (All-nil IsAlone)
+pub again_routed : Again → (service : Service) (log : Log) (e : Entry) (t now : Tabled) (roomy : ClientNo → Bool) (link : LinkId) (c : ClientNo)
+    → IsRouter service log t roomy → MayFollow log e → IsLossOf link e → LeavesAgain link c t now
+    → IsRouter service (with_entry log e) now roomy
+again_routed law service log e t now roomy link c router may lost so =
+    deciding.goes_router service log e t now roomy roomy router may c [] Resting None (All-nil (IsOurs (rules_of service.rules) c)) tt (loss_waits service log e link router.core.decided lost)
+    (asks_of_none service log e router.core.decided router.counts c Resting None)
     (λ setup codes plan of fits.
-    let was = deciding.before service default log e t now roomy roomy router may c [] Resting None (All-nil IsAlone) setup codes plan of fits in
-    law service default setup codes plan log e router.core.decided
-    (deciding.new service default log e t now roomy roomy router may c [] Resting None (All-nil IsAlone)) t now roomy link c fits lost was.safe
-    (deciding.decided_none service default log e t now roomy roomy router may c [] Resting None (All-nil IsAlone) setup codes plan of fits refl refl) so)
+    let was = deciding.before service log e t now roomy roomy router may c [] Resting None (All-nil (IsOurs (rules_of service.rules) c)) tt setup codes plan of fits in
+    law service.setup service.default_schema setup codes plan log e router.core.decided
+    (deciding.new service log e t now roomy roomy router may c [] Resting None (All-nil (IsOurs (rules_of service.rules) c)) tt) t now roomy link c fits lost was.safe
+    (deciding.decided_none service log e t now roomy roomy router may c [] Resting None (All-nil (IsOurs (rules_of service.rules) c)) tt setup codes plan of fits refl refl) so)
     ((loss_of link e lost).none_comes) (loss_begins link e lost _)
     (opens_kept log e t now (loss_opens link e lost) (again_keeps link c t now so) router.open_just)
 
-pub at_once_routed : AtOnce → (service : Service) (default : List ℕ) (log : Log) (e : Entry) (t now : Tabled) (roomy room : ClientNo → Bool) (link : LinkId)
-    (c : ClientNo) (links : List LinkId) → IsRouter service default log t roomy → MayFollow log e → IsLossOf link e
-    → LeavesAtOnce link links c roomy t now → OthersLack c roomy room → IsRouter service default (with_entry log e) now room
-at_once_routed law service default log e t now roomy room link c links router may lost so others =
-    deciding.goes_router service default log e t now roomy room router may c [] Resting (Some None) (All-nil IsAlone)
+pub at_once_routed : AtOnce → (service : Service) (log : Log) (e : Entry) (t now : Tabled) (roomy room : ClientNo → Bool) (link : LinkId)
+    (c : ClientNo) (links : List LinkId) → IsRouter service log t roomy → MayFollow log e → IsLossOf link e
+    → LeavesAtOnce link links c roomy t now → OthersLack c roomy room → IsRouter service (with_entry log e) now room
+at_once_routed law service log e t now roomy room link c links router may lost so others =
+    deciding.goes_router service log e t now roomy room router may c [] Resting (Some None) (All-nil (IsOurs (rules_of service.rules) c)) tt (loss_waits service log e link router.core.decided lost)
+    (asks_of_none service log e router.core.decided router.counts c Resting (Some None))
     (λ setup codes plan of fits.
-    let was = deciding.before service default log e t now roomy room router may c [] Resting (Some None) (All-nil IsAlone) setup codes plan of fits in
+    let was = deciding.before service log e t now roomy room router may c [] Resting (Some None) (All-nil (IsOurs (rules_of service.rules) c)) tt setup codes plan of fits in
     let g : Ground = ground setup codes plan router.core.decided log in
-    let client : tales.Client = client_there service g t link c so.row was.rests.stands so.its in
-    let is : IsKnown g c client = known service g t link c so.row was.rests.stands so.its in
-    let own = is_client_row service g t link c so.row was.rests.stands so.its in
+    let client : tales.Client = client_there service.setup g t link c so.row was.rests.stands so.its in
+    let is : IsKnown g c client = known service.setup g t link c so.row was.rests.stands so.its in
+    let own = is_client_row service.setup g t link c so.row was.rests.stands so.its in
     let going : g.over client.number ≡ false = goes_there g client so.row own so.going in
     let still : g.over c ≡ false = ap g.over (sym is.number) ∙ going in
-    law service default setup codes plan log e router.core.decided
-    (deciding.new service default log e t now roomy room router may c [] Resting (Some None) (All-nil IsAlone)) t now roomy room link c links fits lost was.safe
-    (deciding.end_of_it service default log e t now roomy room router may c [] Resting (Some None) (All-nil IsAlone) setup codes plan of fits client is.seated
+    law service.setup service.default_schema setup codes plan log e router.core.decided
+    (deciding.new service log e t now roomy room router may c [] Resting (Some None) (All-nil (IsOurs (rules_of service.rules) c)) tt) t now roomy room link c links fits lost was.safe
+    (deciding.end_of_it service log e t now roomy room router may c [] Resting (Some None) (All-nil (IsOurs (rules_of service.rules) c)) tt setup codes plan of fits client is.seated
     is.number still refl refl) so others)
     ((loss_of link e lost).none_comes) (loss_begins link e lost _)
     (opens_kept log e t now (loss_opens link e lost) (at_once_keeps link links c roomy t now so) router.open_just)
 
-pub going_routed : Going → Told → (service : Service) (default : List ℕ) (log : Log) (e : Entry) (t now : Tabled) (roomy room : ClientNo → Bool) (link : LinkId)
+pub going_routed : Going → Told → (service : Service) (log : Log) (e : Entry) (t now : Tabled) (roomy room : ClientNo → Bool) (link : LinkId)
     (c : ClientNo) (links : List LinkId) (ordinal : ℕ) (choices : List Choice) (halt : Halt) (parting : Parting)
-    → IsRouter service default log t roomy → MayFollow log e → IsLossOf link e
-    → LeavesGoing service default link links ordinal choices halt parting c t now → All IsAlone choices
-    → OthersLack c roomy room → IsRouter service default (with_entry log e) now room
-going_routed law told service default log e t now roomy room link c links ordinal choices halt parting router may lost so alone others =
-    deciding.goes_router service default log e t now roomy room router may c choices halt (end_of parting) alone
+    → IsRouter service log t roomy → MayFollow log e → IsLossOf link e
+    → (so : LeavesGoing service.setup service.default_schema link links ordinal choices halt parting c t now)
+    → All (IsOurs (rules_of service.rules) c) choices → IsPartingOurs parting
+    → OthersLack c roomy room
+    → AreRuled (rules_of service.rules) choices halt service.setup service.default_schema c so.between so.follows.turned so.follows.turns
+    → IsRouter service (with_entry log e) now room
+going_routed law told service log e t now roomy room link c links ordinal choices halt parting router may lost so ours told_ours others ruled =
+    deciding.finds_router service log e t now roomy room router may c choices halt (end_of parting) ours (end_ours parting told_ours) ordinal so.between
+    so.follows.turned so.follows.turns ruled (loss_waits service log e link router.core.decided lost)
     (λ setup codes plan of fits.
-    let was = deciding.before service default log e t now roomy room router may c choices halt (end_of parting) alone setup codes plan of fits in
+    let was = deciding.before service log e t now roomy room router may c choices halt (end_of parting) ours (end_ours parting told_ours) setup codes plan of fits in
     let g : Ground = ground setup codes plan router.core.decided log in
-    let client : tales.Client = client_there service g t link c so.row was.rests.stands so.its in
-    let is : IsKnown g c client = known service g t link c so.row was.rests.stands so.its in
-    let own = is_client_row service g t link c so.row was.rests.stands so.its in
+    let client : tales.Client = client_there service.setup g t link c so.row was.rests.stands so.its in
+    let is : IsKnown g c client = known service.setup g t link c so.row was.rests.stands so.its in
+    let own = is_client_row service.setup g t link c so.row was.rests.stands so.its in
     let lives : is_ended so.row.desk.seat.phase ≡ false = serves so.row.desk.seat.phase so.row.desk.seat.answered so.rests in
     let going : g.over client.number ≡ false = goes_there g client so.row own lives in
     let still : g.over c ≡ false = ap g.over (sym is.number) ∙ going in
-    subst (λ (k : ℕ). GoesTaking service setup codes plan log e router.core.decided
-    (deciding.new service default log e t now roomy room router may c choices halt (end_of parting) alone) t now roomy room c k) (count_alike choices halt)
-    (law service default setup codes plan log e router.core.decided
-    (deciding.new service default log e t now roomy room router may c choices halt (end_of parting) alone) t now roomy room link c links ordinal choices halt
-    parting fits lost was.safe
-    (deciding.turns_of_it service default log e t now roomy room router may c choices halt (end_of parting) alone setup codes plan of fits client is.seated is.number
-    still ordinal parting (so.next ∙ ap suc (arrived_there g client so.row own lives)) refl so.follows.once told) so others))
+    let arrived : so.row.desk.seat.client.arrived ≡ client.taken = arrived_there g client so.row own lives in
+    record {
+      so = law service.setup service.default_schema setup codes plan log e router.core.decided
+          (deciding.new service log e t now roomy room router may c choices halt (end_of parting) ours (end_ours parting told_ours)) t now roomy room link c links ordinal choices halt
+          parting fits lost was.safe
+          (deciding.turns_of_it service log e t now roomy room router may c choices halt (end_of parting) ours (end_ours parting told_ours) setup codes plan of fits client is.seated is.number
+          still ordinal parting (so.next ∙ ap suc arrived) refl so.follows.once told) so others;
+      next = so.next ∙ ap suc (arrived ∙ deciding.counted_so service log e t now roomy room router may c choices halt (end_of parting) ours
+          (end_ours parting told_ours) setup codes plan of fits client is.seated is.number still);
+    })
     ((loss_of link e lost).none_comes) (loss_begins link e lost _)
     (opens_kept log e t now (loss_opens link e lost)
-    (going_keeps service default link links ordinal choices halt parting c t now so) router.open_just)
+    (going_keeps service.setup service.default_schema link links ordinal choices halt parting c t now so) router.open_just)

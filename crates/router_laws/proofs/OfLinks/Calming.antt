@@ -4,7 +4,7 @@ use Rattle.std.proofs.Common.{refl, sym, ap, ◌∙◌, subst, arith}
 use Rattle.mx_wire.specs.Log.{Log}
 use Rattle.mx_wire.specs.Tells.{MayFollow}
 use Rattle.mx_wire.specs.declared.entry.Entry.{Entry}
-use Rattle.client_session.specs.Setups.{Setup as Service}
+use Rattle.core_service.specs.declared.service.Service.{Service}
 use Rattle.private_model.specs.Names.{ClientNo}
 use Rattle.private_model.specs.View.{Setup}
 use Rattle.link_laws.specs.Stands.{Codes}
@@ -26,22 +26,28 @@ use Rattle.router_laws.proofs.OfDecisions.Gathering.{over_then, silent_at, uneve
 use Rattle.router_laws.proofs.OfDecisions.Keeping.{recorded_then}
 use Rattle.router_laws.proofs.OfDecisions.Listing.{is_tale_of}
 use Rattle.router_laws.proofs.OfDecisions.Recording.{one_more}
+use Rattle.router_laws.proofs.OfDecisions.Asking.{asks_none, none_taken}
 use Rattle.router_laws.proofs.OfDecisions.Router.{router_goes_on, stood_before}
 use Rattle.router_laws.proofs.OfDecisions.Tallying.{counts_then}
 use Rattle.router_laws.proofs.OfDecisions.Working.{none_given}
+use Rattle.query_rules.specs.Passing.{rules_of}
+use Rattle.query_rules.specs.declared.rule.Rule.{Rule}
+use Rattle.router_laws.specs.decisions.Speaks.{AreOurs}
 use Rattle.router_laws.specs.decisions.Counting.{BeginsSo}
 use Rattle.router_laws.specs.decisions.Deeds.{AreAlone, Deeds, counts_with, decided_with, taken_by}
 use Rattle.router_laws.specs.decisions.Plans.{EndsNone, PlansSo}
-use Rattle.router_laws.specs.decisions.Routers.{AreOpenJust, GoesSo, IsBefore, IsRouter}
+use Rattle.router_laws.specs.decisions.Routers.{AreOpenJust, GoesSo, IsBefore, IsRouter, WaitsThen}
 
 -- nobody has anything to take up by these
 pub record IsIdleBy (deeds : Deeds) : Type 0 where
   pub alone : AreAlone deeds
+  pub ours : (rules : List Rule) → AreOurs rules deeds
   pub none : EndsNone deeds
   pub takes : (c : ClientNo) → taken_by (deeds.calls c) (deeds.halts c) ≡ 0
 
-module _ (service : Service) (default : List ℕ) (log : Log) (e : Entry) (deeds : Deeds) (t now : Tabled) (roomy room : ClientNo → Bool)
-    (router : IsRouter service default log t roomy) (may : MayFollow log e) (idle : IsIdleBy deeds) where
+module _ (service : Service) (log : Log) (e : Entry) (deeds : Deeds) (t now : Tabled) (roomy room : ClientNo → Bool)
+    (router : IsRouter service log t roomy) (may : MayFollow log e) (idle : IsIdleBy deeds)
+    (waits : WaitsThen service log e router.core.decided) where
   abbrev d : Decided
   d = router.core.decided
 
@@ -50,23 +56,23 @@ module _ (service : Service) (default : List ℕ) (log : Log) (e : Entry) (deeds
 
   -- what there is by one setup and plan
   pub record IsKnown (setup : Setup) (codes : Codes) (plan : Plan) : Type 0 where
-    pub stood : IsBefore service default log e t roomy router deeds setup codes plan
+    pub stood : IsBefore service log e t roomy router deeds setup codes plan
     pub so : PlansSo (ground setup codes plan d log) log e deeds
     pub decided : IsDecided (ground setup codes plan d log) nobody (over_by new)
 
   -- and what a kind of entry makes of it
   pub record GoesCalm (setup : Setup) (codes : Codes) (plan : Plan) : Type 0 where
-    pub goes : GoesOn service setup codes plan log e d new t now roomy room
+    pub goes : GoesOn service.setup setup codes plan log e d new t now roomy room
     pub clients : (tale_step setup plan (tale_of setup plan log) e).clients ≡ (tale_of setup plan log).clients
     pub begins : BeginsSo setup (tale_of setup plan log) e deeds
 
   module _ (setup : Setup) (codes : Codes) (plan : Plan) (of : IsOf new (length (with_entry log e)) plan)
-      (fits : Fits setup codes plan default (tale_of setup plan (with_entry log e))) where
+      (fits : Fits setup codes plan service.default_schema (tale_of setup plan (with_entry log e))) where
     abbrev g : Ground
     g = ground setup codes plan d log
 
-    stood_so : IsBefore service default log e t roomy router deeds setup codes plan
-    stood_so = stood_before service default log e t roomy deeds setup codes plan router may of fits (heard_always setup plan log e)
+    stood_so : IsBefore service log e t roomy router deeds setup codes plan
+    stood_so = stood_before service log e t roomy deeds setup codes plan router may of fits (heard_always setup plan log e)
 
     plans : PlansSo g log e deeds
     plans = stood_so.so (none_given g deeds.given idle.none.given)
@@ -98,14 +104,15 @@ module _ (service : Service) (default : List ℕ) (log : Log) (e : Entry) (deeds
           seated_of (λ (x : Client). x.taken ≡ router.counts.taken x.number) g.tale client there stood_so.counts.taken in
           omega (arith, same, idle.takes client.number)
 
-      goes_so : GoesSo service setup codes plan log e d router.counts deeds t now roomy room
+      goes_so : GoesSo service.setup setup codes plan log e d router.counts deeds t now roomy room
       goes_so = record {
         goes = made.goes;
         counts = counts_then setup plan d router.counts log e deeds router.recorded stood_so.counts may takes_none made.begins;
       }
 
   pub calm_router : ((setup : Setup) (codes : Codes) (plan : Plan) → IsKnown setup codes plan → GoesCalm setup codes plan) → AreOpenJust (with_entry log e) now
-      → IsRouter service default (with_entry log e) now room
+      → IsRouter service (with_entry log e) now room
   calm_router makes rows =
-      router_goes_on service default log e deeds t now roomy room router may idle.alone
+      router_goes_on service log e deeds t now roomy room router may (idle.ours (rules_of service.rules)) waits
+      (asks_none service log e d router.counts deeds (λ c. none_taken (deeds.calls c) (deeds.halts c) (idle.takes c)))
       (λ setup codes plan of fits. goes_so setup codes plan of fits (makes setup codes plan (known setup codes plan of fits))) rows

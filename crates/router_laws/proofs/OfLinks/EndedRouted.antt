@@ -7,7 +7,7 @@ use Rattle.mx_base.specs.declared.names.LinkId.{LinkId}
 use Rattle.mx_wire.specs.Log.{Log}
 use Rattle.mx_wire.specs.Tells.{MayFollow}
 use Rattle.mx_wire.specs.declared.entry.Entry.{Entry}
-use Rattle.client_session.specs.Setups.{Setup as Service}
+use Rattle.core_service.specs.declared.service.Service.{Service}
 use Rattle.private_model.specs.Names.{ClientNo}
 use Rattle.log_story.specs.Plan.{word_at}
 use Rattle.log_story.specs.Tale as tales
@@ -38,7 +38,10 @@ use Rattle.router_laws.proofs.OfLinks.EndedRests.{ended_goes}
 use Rattle.router_laws.proofs.OfLinks.LossOnward.{loses_open, lost_begins, lost_keeps}
 use Rattle.router_laws.specs.clients.Counted.{GoesTaking}
 use Rattle.router_laws.specs.clients.Plans.{IsDecided, PlansEnd, ends_of, over_by}
-use Rattle.router_laws.specs.decisions.Deeds.{IsAlone}
+use Rattle.query_rules.specs.Passing.{rules_of}
+use Rattle.router_laws.proofs.OfDecisions.Asking.{asks_of_none}
+use Rattle.router_laws.proofs.OfWaits.Then.{break_waits}
+use Rattle.router_laws.specs.decisions.Speaks.{IsOurs}
 use Rattle.router_laws.specs.decisions.Routers.{IsRouter}
 use Rattle.router_laws.specs.links.Loses.{Break, LosesEnded, entry_by}
 
@@ -55,36 +58,37 @@ works_going : (g : Ground) (client : tales.Client) (row : Client) (work : Work) 
 works_going g client row work works true is = absurd (none-some work (sym is.idle ∙ works))
 works_going g client row work works false is = is.going
 
-module _ (laws : Laws) (service : Service) (default : List ℕ) (log : Log) (t now : Tabled) (roomy : ClientNo → Bool) (l : LinkId) (how : Break)
-    (c : ClientNo) (links : List LinkId) (router : IsRouter service default log t roomy) (may : MayFollow log (entry_by how l))
+module _ (laws : Laws) (service : Service) (log : Log) (t now : Tabled) (roomy : ClientNo → Bool) (l : LinkId) (how : Break)
+    (c : ClientNo) (links : List LinkId) (router : IsRouter service log t roomy) (may : MayFollow log (entry_by how l))
     (so : LosesEnded l c links t now) where
   abbrev e : Entry
   e = entry_by how l
 
   abbrev new : Decided
-  new = deciding.new service default log e t now roomy roomy router may c [] Resting (Some None) (All-nil IsAlone)
+  new = deciding.new service log e t now roomy roomy router may c [] Resting (Some None) (All-nil (IsOurs (rules_of service.rules) c)) tt
 
-  goes : deciding.GoesBy service default log e t now roomy roomy router may c [] Resting (Some None) (All-nil IsAlone)
+  goes : deciding.GoesBy service log e t now roomy roomy router may c [] Resting (Some None) (All-nil (IsOurs (rules_of service.rules) c)) tt
   goes setup codes plan of fits =
-      let was = deciding.before service default log e t now roomy roomy router may c [] Resting (Some None) (All-nil IsAlone) setup codes plan of fits in
+      let was = deciding.before service log e t now roomy roomy router may c [] Resting (Some None) (All-nil (IsOurs (rules_of service.rules) c)) tt setup codes plan of fits in
       let g : Ground = ground setup codes plan router.core.decided log in
-      let found = known_so service g t c so.row was.rests.stands so.at_work.there in
+      let found = known_so service.setup g t c so.row was.rests.stands so.at_work.there in
       let client : tales.Client = found.0 in
       let is : IsKnown g c client = found.1 in
       let row : IsClient g client so.row = found.2 in
       let going : g.over client.number ≡ false = works_going g client so.row so.work so.at_work.in_work (is_ended so.row.desk.seat.phase) row.phase in
       let ends : PlansEnd g log c (over_by new) =
-      deciding.end_of_it service default log e t now roomy roomy router may c [] Resting (Some None) (All-nil IsAlone) setup codes plan of fits client is.seated
+      deciding.end_of_it service log e t now roomy roomy router may c [] Resting (Some None) (All-nil (IsOurs (rules_of service.rules) c)) tt setup codes plan of fits client is.seated
       is.number (ap g.over (sym is.number) ∙ going) refl refl in
-      subst (λ (n : ClientNo). GoesTaking service setup codes plan log e router.core.decided new t now roomy roomy n 0) is.number
-      (ended_goes laws service setup codes plan log l how router.core.decided new t now roomy client links was.rests is.seated
+      subst (λ (n : ClientNo). GoesTaking service.setup setup codes plan log e router.core.decided new t now roomy roomy n 0) is.number
+      (ended_goes laws service.setup setup codes plan log l how router.core.decided new t now roomy client links was.rests is.seated
       (subst (λ (n : ClientNo). LosesEnded l n links t now) (sym is.number) so)
       (subst (λ (n : ClientNo). IsDecided g (ends_of n true) (over_by new)) (sym is.number) ends.decided)
       (ap (word_at plan (suc g.tale.moment)) is.number ∙ ends.wordless_now) (λ m route its routed. fits.single m route routed)
       (subst (λ (ks : List LinkId). Ascend (λ k. k.0) ks) (sym (log_links setup plan log first_tale)) ends.rising))
 
-  pub ended_routed : IsRouter service default (with_entry log e) now roomy
+  pub ended_routed : IsRouter service (with_entry log e) now roomy
   ended_routed =
-      deciding.goes_router service default log e t now roomy roomy router may c [] Resting (Some None) (All-nil IsAlone) goes
+      deciding.goes_router service log e t now roomy roomy router may c [] Resting (Some None) (All-nil (IsOurs (rules_of service.rules) c)) tt (break_waits service log how l router.core.decided)
+      (asks_of_none service log e router.core.decided router.counts c Resting (Some None)) goes
       (λ tale x come. (lost_plain tale how l).comes x come) (λ setup tale. lost_begins setup tale how l _)
       (loses_open log t now how l router.open_just (ended_keeps l c links t now so))

@@ -1,52 +1,53 @@
 -- The core closes a link to a server behind the one write that was offered there.
 use Rattle.std.specs.Prelude.{◌≡◌, ◌<◌, ◌≤◌, ◌+◌, ◌++◌, ℕ, zero, suc, Bool, true, false, not, length, take, if◌then◌else◌, List, [], ◌∷◌, Option, Some, None}
 use Rattle.std.specs.Option.{option_map}
-use Rattle.std.proofs.Common.{refl, sym, ap, ◌∙◌, subst, arith, append_assoc}
-use Rattle.std.proofs.lemmas.Bool.{false≢true, true≢false}
-use Rattle.std.proofs.lemmas.Option.{none-some, same_Some}
+use Rattle.std.proofs.Common.{refl, sym, ap, ◌∙◌, subst, arith}
+use Rattle.std.proofs.lemmas.Bool.{false≢true}
+use Rattle.std.proofs.lemmas.Option.{none-some}
 use Rattle.mx_base.specs.Sent.{Sent}
 use Rattle.mx_base.specs.declared.tag.Tag.{Tag}
 use Rattle.mx_wire.specs.Log.{AreMarks, Log}
 use Rattle.mx_wire.specs.Tells.{MayFollow}
 use Rattle.mx_wire.specs.declared.entry.Entry.{Entry}
 use Rattle.mx_wire.specs.declared.entry.Entry.TheVariants as entry
-use Rattle.client_session.specs.Setups.{Setup as Service}
+use Rattle.core_service.specs.declared.service.Service.{Service}
 use Rattle.private_model.specs.Names.{ClientNo, LinkId}
 use Rattle.session_state.specs.declared.names.SessionName.{SessionName}
 use Rattle.core_tables.specs.Parting.{given_row, given_up_in, lost_in, name_in, unlinked}
 use Rattle.core_tables.specs.declared.client.Client.{Client}
-use Rattle.core_tables.specs.Passing.{sends}
 use Rattle.core_tables.specs.Tables.{IsSame, Tabled}
 use Rattle.core_tables.specs.Writing.{wrote_on}
-use Rattle.router_laws.specs.decisions.Deeds.{AreAlone}
-use Rattle.router_laws.specs.decisions.Goings.{deeds_of}
+use Rattle.query_rules.specs.Passing.{rules_of}
+use Rattle.router_laws.specs.decisions.Rulings.{IsRuledOn}
+use Rattle.router_laws.specs.decisions.Speaks.{AreGivenOurs, AreGoingOurs}
 use Rattle.router_laws.specs.decisions.Routers.{IsRouter}
 use Rattle.core_laws.specs.entry.Cores.{with_entry}
 use Rattle.core_laws.specs.clients.Going.{GivenUp, Going, IsCalled, is_going, told_to}
 use Rattle.router_laws.specs.quiet.Quiet.{is_quiet}
 use Rattle.ready_loop.specs.Machine.{IsFarewell, IsPartOf}
-use Rattle.router_laws.proofs.OfLinks.Routing.{none_idle}
 use Rattle.router_laws.proofs.OfLinks.Saying.{closes_lost, closes_then, wrote_before}
 use Rattle.router_laws.specs.links.Closes.{ClosesSo, IsLentThere, MayClose, MaySayFarewell}
 use Rattle.router_laws.specs.links.Loses.{Break, LosesSo, WriteFails, entry_by}
 use Rattle.router_laws.specs.links.Writes.{WritesSo}
+use Rattle.router_laws.specs.waits.Drained.{IsDrainedAt}
 
 -- The laws by which it goes.
 pub record Laws : Type 0 where
-  pub marks : (service : Service) (default : List ℕ) (log marks : Log) (t : Tabled) (roomy : ClientNo → Bool) → IsRouter service default log t roomy
-      → AreMarks marks → length (log ++ marks) < 281474976710656 → IsRouter service default (log ++ marks) t roomy
-  pub quiet : (service : Service) (default : List ℕ) (log : Log) (e : Entry) (t : Tabled) (roomy : ClientNo → Bool)
-      → IsRouter service default log t roomy → MayFollow log e → is_quiet e ≡ true → IsRouter service default (with_entry log e) t roomy
-  pub writes : (service : Service) (default : List ℕ) (log : Log) (t now : Tabled) (roomy : ClientNo → Bool) (l : LinkId) (offer : Sent) (count : ℕ)
-      → IsRouter service default log t roomy → MayFollow log (entry.Wrote l offer.tag (take count offer.bytes)) → WritesSo l offer count t now
-      → IsRouter service default (with_entry log (entry.Wrote l offer.tag (take count offer.bytes))) now roomy
-  pub loses : (service : Service) (default : List ℕ) (log : Log) (t now : Tabled) (roomy : ClientNo → Bool) (l : LinkId) (how : Break)
-      (given : Option GivenUp) (going : Option Going) → IsRouter service default log t roomy → MayFollow log (entry_by how l)
-      → AreAlone (deeds_of given going) → LosesSo service default l given going t now
-      → IsRouter service default (with_entry log (entry_by how l)) now roomy
-  pub closes : (service : Service) (default : List ℕ) (log : Log) (t now : Tabled) (roomy room : ClientNo → Bool) (l : LinkId)
-      → IsRouter service default log t roomy → MayFollow log (entry.Closed l) → ((c : ClientNo) → room c ≡ false → roomy c ≡ false)
-      → ClosesSo l room t now → IsRouter service default (with_entry log (entry.Closed l)) now room
+  pub marks : (service : Service) (log marks : Log) (t : Tabled) (roomy : ClientNo → Bool) → IsRouter service log t roomy
+      → AreMarks marks → length (log ++ marks) < 281474976710656 → IsRouter service (log ++ marks) t roomy
+  pub quiet : (service : Service) (log : Log) (e : Entry) (t : Tabled) (roomy : ClientNo → Bool)
+      → IsRouter service log t roomy → MayFollow log e → is_quiet e ≡ true → IsDrainedAt t log e → IsRouter service (with_entry log e) t roomy
+  pub writes : (service : Service) (log : Log) (t now : Tabled) (roomy : ClientNo → Bool) (l : LinkId) (offer : Sent) (count : ℕ)
+      → IsRouter service log t roomy → MayFollow log (entry.Wrote l offer.tag (take count offer.bytes)) → WritesSo l offer count t now
+      → IsRouter service (with_entry log (entry.Wrote l offer.tag (take count offer.bytes))) now roomy
+  pub loses : (service : Service) (log : Log) (t now : Tabled) (roomy : ClientNo → Bool) (l : LinkId) (how : Break)
+      (given : Option GivenUp) (going : Option Going) → IsRouter service log t roomy → MayFollow log (entry_by how l)
+      → AreGivenOurs given → AreGoingOurs (rules_of service.rules) going → (so : LosesSo service.setup service.default_schema l given going t now)
+      → IsRuledOn (rules_of service.rules) going service.setup service.default_schema so.lost now so.goes
+      → IsRouter service (with_entry log (entry_by how l)) now roomy
+  pub closes : (service : Service) (log : Log) (t now : Tabled) (roomy room : ClientNo → Bool) (l : LinkId)
+      → IsRouter service log t roomy → MayFollow log (entry.Closed l) → ((c : ClientNo) → room c ≡ false → roomy c ≡ false)
+      → ClosesSo l room t now → IsRouter service (with_entry log (entry.Closed l)) now room
 
 -- No more is taken than there is.
 
@@ -74,8 +75,8 @@ is_not : (b : Bool) → not b ≡ true → b ≡ false
 is_not false is = refl
 is_not true is = absurd (false≢true is)
 
-module _ (laws : Laws) (service : Service) (default : List ℕ) (log marks : Log) (t : Tabled) (roomy room : ClientNo → Bool) (l : LinkId)
-    (lent : Option Sent) (router : IsRouter service default log t roomy) (only : AreMarks marks)
+module _ (laws : Laws) (service : Service) (log marks : Log) (t : Tabled) (roomy room : ClientNo → Bool) (l : LinkId)
+    (lent : Option Sent) (router : IsRouter service log t roomy) (only : AreMarks marks)
     (rooms : (c : ClientNo) → room c ≡ false → roomy c ≡ false) (may : MayClose l room t)
     (says : MaySayFarewell l (λ (c : ClientNo). not (is_going (t.clients c))) t) (lends : IsLentThere l lent t) where
   abbrev now : Tabled
@@ -84,15 +85,15 @@ module _ (laws : Laws) (service : Service) (default : List ℕ) (log marks : Log
   abbrev Goes : Entry → Type 0
   Goes e =
       MayFollow log e → MayFollow (log ++ e ∷ [] ++ marks) (entry.Closed l)
-      → IsRouter service default (log ++ e ∷ [] ++ marks ++ entry.Closed l ∷ []) now room
+      → IsRouter service (log ++ e ∷ [] ++ marks ++ entry.Closed l ∷ []) now room
 
   -- behind the write
-  behind : (e : Entry) (x : Tabled) → MayFollow (log ++ e ∷ [] ++ marks) (entry.Closed l) → IsRouter service default (with_entry log e) x roomy
-      → ClosesSo l room x now → IsRouter service default (log ++ e ∷ [] ++ marks ++ entry.Closed l ∷ []) now room
+  behind : (e : Entry) (x : Tabled) → MayFollow (log ++ e ∷ [] ++ marks) (entry.Closed l) → IsRouter service (with_entry log e) x roomy
+      → ClosesSo l room x now → IsRouter service (log ++ e ∷ [] ++ marks ++ entry.Closed l ∷ []) now room
   behind e x follow stood so =
       let size : length (log ++ e ∷ [] ++ marks) + 1 < 281474976710656 = follow.bounded in
-      laws.closes service default (log ++ e ∷ [] ++ marks) x now roomy room l
-      (laws.marks service default (with_entry log e) marks x roomy stood only (less (length (log ++ e ∷ [] ++ marks)) size)) follow rooms so
+      laws.closes service (log ++ e ∷ [] ++ marks) x now roomy room l
+      (laws.marks service (with_entry log e) marks x roomy stood only (less (length (log ++ e ∷ [] ++ marks)) size)) follow rooms so
     where
       less : (n : ℕ) → n + 1 < 281474976710656 → n < 281474976710656
       less n is = omega (arith, is)
@@ -100,7 +101,7 @@ module _ (laws : Laws) (service : Service) (default : List ℕ) (log marks : Log
   -- nothing was written
   nothing : Goes (entry.WriteNothing l)
   nothing follow last =
-      behind (entry.WriteNothing l) t last (laws.quiet service default log (entry.WriteNothing l) t roomy router follow refl)
+      behind (entry.WriteNothing l) t last (laws.quiet service log (entry.WriteNothing l) t roomy router follow refl tt)
       (record { may = may; same = same_itself now })
 
   -- so much was
@@ -110,7 +111,7 @@ module _ (laws : Laws) (service : Service) (default : List ℕ) (log marks : Log
       let x : Tabled = wrote_on l count 0 t in
       let some : 0 < count = subst (λ (xs : List ℕ). 0 < length xs) (least_taken n sent.bytes) follow.fits.some in
       behind (entry.Wrote l sent.tag (take count sent.bytes)) x last
-      (laws.writes service default log t x roomy l sent count router follow (record {
+      (laws.writes service log t x roomy l sent count router follow (record {
         server = says.server;
         there = says.there;
         lent = lends.lends sent is;
@@ -134,7 +135,7 @@ module _ (laws : Laws) (service : Service) (default : List ℕ) (log marks : Log
   failed follow last =
       let x : Tabled = lost_in l t in
       behind (entry.WriteFailed l) x last
-      (laws.loses service default log t x roomy l WriteFails None None router follow none_idle.alone (record {
+      (laws.loses service log t x roomy l WriteFails None None router follow tt tt (record {
         server = says.server;
         there = says.there;
         may = tt;
@@ -143,7 +144,7 @@ module _ (laws : Laws) (service : Service) (default : List ℕ) (log marks : Log
         loses = given_nobody x;
         called = none_called (name_in says.server.row.link.state.carries) refl;
         goes = same_itself x;
-      }))
+      }) tt)
       (closes_lost l room t x may (same_itself x))
 
   part_of : (to : LinkId) (tag : Tag) (bytes : List ℕ) → to ≡ l → IsPartOf lent tag bytes → Goes (entry.Wrote to tag bytes)

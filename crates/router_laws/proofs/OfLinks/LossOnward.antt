@@ -10,7 +10,8 @@ use Rattle.mx_wire.specs.Moments.{AllLawful}
 use Rattle.mx_wire.specs.Tells.{MayFollow}
 use Rattle.mx_wire.specs.declared.entry.Entry.{Entry}
 use Rattle.mx_wire.specs.Log as logs
-use Rattle.client_session.specs.Setups.{Setup as Service}
+use Rattle.core_service.specs.declared.service.Service.{Service}
+use Rattle.client_session.specs.Setups.{Setup as Serving}
 use Rattle.private_model.proofs.Maps.{link_of}
 use Rattle.private_model.specs.Names.{ClientNo, LinkId}
 use Rattle.private_model.specs.Story.{is_link_id}
@@ -79,9 +80,9 @@ use Rattle.router_laws.specs.links.Loses.{Break, LosesSo, ReadEnds, ReadFails, W
 pub record Laws : Type 0 where
   pub losses : losses.Laws
   pub follows : Follows
-  pub ungiven : (service : Service) (g : Ground) (t : Tabled) (given : ClientNo → Option (List ℕ)) (excepted : LinkId → Bool) → Stands service g t
+  pub ungiven : (service : Serving) (g : Ground) (t : Tabled) (given : ClientNo → Option (List ℕ)) (excepted : LinkId → Bool) → Stands service g t
       → AreGivenUp given excepted t → AreUngiven g (λ c. is_some (given c))
-  pub unreplied : (service : Service) (g : Ground) (t : Tabled) (given : ClientNo → Option (List ℕ)) (excepted : LinkId → Bool)
+  pub unreplied : (service : Serving) (g : Ground) (t : Tabled) (given : ClientNo → Option (List ℕ)) (excepted : LinkId → Bool)
       → Stands service g t → AreGivenUp given excepted t → AreUnreplied g (λ c. is_some (given c))
   pub kept : (g : Ground) (log : Log) (e : Entry) (deeds : Deeds) → PlansSo g log e deeds → AreUnreplied g (λ c. is_some (deeds.given c))
       → All (KeepsAnswers g) g.tale.clients
@@ -92,12 +93,12 @@ pub record Laws : Type 0 where
       → AreCountsOf n (tale_of setup plan log) → TakesSo n deeds (tale_step setup plan (tale_of setup plan log) e)
       → BeginsSo setup (tale_of setup plan log) e deeds
       → AreCountsOf (counts_with deeds n log e) (tale_of setup plan (with_entry log e))
-  pub stood : (service : Service) (default : List ℕ) (log : Log) (e : Entry) (t : Tabled) (roomy : ClientNo → Bool) (deeds : Deeds)
-      (setup : Setup) (codes : Codes) (plan : Plan) → (router : IsRouter service default log t roomy) → MayFollow log e
+  pub stood : (service : Service) (log : Log) (e : Entry) (t : Tabled) (roomy : ClientNo → Bool) (deeds : Deeds)
+      (setup : Setup) (codes : Codes) (plan : Plan) → (router : IsRouter service log t roomy) → MayFollow log e
       → IsOf (decided_with deeds router.counts log e router.core.decided) (length (with_entry log e)) plan
-      → Fits setup codes plan default (tale_of setup plan (with_entry log e))
+      → Fits setup codes plan service.default_schema (tale_of setup plan (with_entry log e))
       → All (λ (client : tales.Client). IsHeardMore (tale_of setup plan (with_entry log e)) client) (tale_of setup plan log).clients
-      → IsBefore service default log e t roomy router deeds setup codes plan
+      → IsBefore service log e t roomy router deeds setup codes plan
   pub rise : (setup : Setup) (plan : Plan) (log : Log) → AllLawful MayFollow log → Ascend (λ l. l.0) (tale_of setup plan log).links
 
 -- What a loss is for the rest.
@@ -129,7 +130,7 @@ lost_keeps given l t =
     (keeps_link l lost_row gone))
     (record { clients = λ c. some_mapped (given_row (given c)) (lost.clients c); links = λ k. refl; numbers = λ k. refl })
 
-pub loses_keep_rows : (service : Service) (default : List ℕ) (l : LinkId) (given : Option GivenUp) (going : Option Going) (old new : Tabled)
+pub loses_keep_rows : (service : Serving) (default : List ℕ) (l : LinkId) (given : Option GivenUp) (going : Option Going) (old new : Tabled)
     → LosesSo service default l given going old new → KeepsRows old new
 loses_keep_rows service default l given going old new so =
     keeps_along old so.lost new (keeps_same old _ so.lost (lost_keeps (told_to given) l old) so.loses)
@@ -152,11 +153,11 @@ loses_open log t now how l rows keeps =
     let same : (k : LinkId) → has_row now k ≡ has_row t k = λ k. λ i. keeps.links k i || is_some (keeps.numbers k i) in
     open_one log t now rows (entry_by how l) l (lost_link how l) (lost_open how l (is_open l log) ∙ rows l ∙ sym (same l)) (λ k apart. same k)
 
-module _ (laws : Laws) (service : Service) (default : List ℕ) (log : Log) (t now : Tabled) (roomy : ClientNo → Bool) (l : LinkId) (how : Break)
-    (given : Option GivenUp) (going : Option Going) (router : IsRouter service default log t roomy) (follow : MayFollow log (entry_by how l))
-    (so : LosesSo service default l given going t now) (tells : TellsSo going service) (setup : Setup) (codes : Codes) (plan : Plan)
+module _ (laws : Laws) (service : Service) (log : Log) (t now : Tabled) (roomy : ClientNo → Bool) (l : LinkId) (how : Break)
+    (given : Option GivenUp) (going : Option Going) (router : IsRouter service log t roomy) (follow : MayFollow log (entry_by how l))
+    (so : LosesSo service.setup service.default_schema l given going t now) (tells : TellsSo going service.setup) (setup : Setup) (codes : Codes) (plan : Plan)
     (of : IsOf (decided_with (deeds_of given going) router.counts log (entry_by how l) router.core.decided) (length (with_entry log (entry_by how l))) plan)
-    (fits : Fits setup codes plan default (tale_of setup plan (with_entry log (entry_by how l)))) where
+    (fits : Fits setup codes plan service.default_schema (tale_of setup plan (with_entry log (entry_by how l)))) where
   abbrev e : Entry
   e = entry_by how l
 
@@ -178,21 +179,21 @@ module _ (laws : Laws) (service : Service) (default : List ℕ) (log : Log) (t n
   abbrev over : ClientNo → Bool
   over = over_by later
 
-  before : IsBefore service default log e t roomy router its_deeds setup codes plan
-  before = laws.stood service default log e t roomy its_deeds setup codes plan router follow of fits (heard_always setup plan log e)
+  pub before : IsBefore service log e t roomy router its_deeds setup codes plan
+  before = laws.stood service log e t roomy its_deeds setup codes plan router follow of fits (heard_always setup plan log e)
 
   gives : AreGivenUp (told_to given) (λ (other : LinkId). is_link_id other l) t
-  gives = given_up_with service g t l given before.rests.stands so.may
+  gives = given_up_with service.setup g t l given before.rests.stands so.may
 
   -- what is given up wasn't answered before
 
   plans : PlansSo g log e its_deeds
-  plans = before.so (laws.ungiven service g t (told_to given) (λ (other : LinkId). is_link_id other l) before.rests.stands gives)
+  plans = before.so (laws.ungiven service.setup g t (told_to given) (λ (other : LinkId). is_link_id other l) before.rests.stands gives)
 
   unreplied : AreUnreplied g (λ (c : ClientNo). is_some (told_to given c))
-  unreplied = laws.unreplied service g t (told_to given) (λ (other : LinkId). is_link_id other l) before.rests.stands gives
+  unreplied = laws.unreplied service.setup g t (told_to given) (λ (other : LinkId). is_link_id other l) before.rests.stands gives
 
-  is : IsLoss service default g log e given going
+  pub is : IsLoss service.setup service.default_schema g log e given going
   is = record {
     plans = plans;
     classes = before.fits.classes;
@@ -204,8 +205,8 @@ module _ (laws : Laws) (service : Service) (default : List ℕ) (log : Log) (t n
   overs : (c : ClientNo) → over c ≡ (g.over c || ends_now plan (suc g.tale.moment) c)
   overs = laws.ends d n log e its_deeds setup codes plan router.recorded of
 
-  lost : AreLost service g e its_deeds over roomy now
-  lost = going_lost laws.losses laws.follows service default g log t now roomy roomy over l how given going before.rests is so overs (λ c full. full)
+  lost : AreLost service.setup g e its_deeds over roomy now
+  lost = going_lost laws.losses laws.follows service.setup service.default_schema g log t now roomy roomy over l how given going before.rests is so overs (λ c full. full)
 
   -- who is ended, and told
 
@@ -222,7 +223,7 @@ module _ (laws : Laws) (service : Service) (default : List ℕ) (log : Log) (t n
       ∙ ap (λ (b : Bool). not b && is_some (deeds.ends_in its_deeds was.number)) is) ∙ ends))
 
   kept_rows : KeepsRows t now
-  kept_rows = loses_keep_rows service default l given going t now so
+  kept_rows = loses_keep_rows service.setup service.default_schema l given going t now so
 
   row_there : (was : tales.Client) → IsSeated g.tale was → whose was.number ≡ true → is_some (now.clients was.number) ≡ true
   row_there was seated ends =
@@ -271,7 +272,7 @@ module _ (laws : Laws) (service : Service) (default : List ℕ) (log : Log) (t n
   abbrev Were : tales.Client → Type 0
   Were client = WasThere plan g.tale e client ⊎ HasCome g.tale e client
 
-  were : All Were last.clients
+  pub were : All Were last.clients
   were = all_were setup plan g.tale e before.rests.stands.clients.counted
 
   silent_at : (client : tales.Client) → Were client → over client.number ≡ false → word_at plan last.moment client.number ≡ None
@@ -285,7 +286,7 @@ module _ (laws : Laws) (service : Service) (default : List ℕ) (log : Log) (t n
       All-weaker Were (λ (client : tales.Client). over client.number ≡ false → word_at plan last.moment client.number ≡ None) silent_at last.clients were
 
   same : ground setup codes plan later (with_entry log e) ≡ behind g e over
-  same = with_is service setup codes plan log e d later t now roomy roomy whose
+  same = with_is service.setup setup codes plan log e d later t now roomy roomy whose
 
   silent : AreSilent (ground setup codes plan later (with_entry log e))
   silent = subst AreSilent (sym same) silent_last
@@ -301,14 +302,14 @@ module _ (laws : Laws) (service : Service) (default : List ℕ) (log : Log) (t n
         (sym (tale_more setup plan log e)) (off_spoken setup plan g.tale e now (lost_off g.tale how l));
   }
 
-  goes : GoesOn service setup codes plan log e d later t now roomy roomy
+  goes : GoesOn service.setup setup codes plan log e d later t now roomy roomy
   goes = record {
     heard = heard_always setup plan log e;
-    rests = λ rests. subst (λ (x : Ground). Rests service x now roomy) (sym same) lost.rests;
+    rests = λ rests. subst (λ (x : Ground). Rests service.setup x now roomy) (sym same) lost.rests;
     written = λ rests behind_it to.
         subst (λ (x : Ground). AreWrittenTo x (with_entry log e)) (sym same)
-        (written_with service g t now roomy log e whose over before.rests lost.rests.stands kept overs due to);
-    safe = λ rests behind_it to safe. log_goes_on service setup codes plan later log e now safe (safely safe.runless) behind_it.stands silent to;
+        (written_with service.setup g t now roomy log e whose over before.rests lost.rests.stands kept overs due to);
+    safe = λ rests behind_it to safe. log_goes_on service.setup setup codes plan later log e now safe (safely safe.runless) behind_it.stands silent to;
   }
 
   -- as many were taken up
@@ -325,7 +326,7 @@ module _ (laws : Laws) (service : Service) (default : List ℕ) (log : Log) (t n
   takes : TakesSo n its_deeds last
   takes client seated = takes_by client seated (seated_of Were last client seated were)
 
-  pub goes_so : GoesSo service setup codes plan log e d n its_deeds t now roomy roomy
+  pub goes_so : GoesSo service.setup setup codes plan log e d n its_deeds t now roomy roomy
   goes_so = record {
     goes = goes;
     counts = laws.counts setup plan d n log e its_deeds router.recorded follow before.counts takes (lost_begins setup g.tale how l its_deeds);

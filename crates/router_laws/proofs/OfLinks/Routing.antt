@@ -38,6 +38,7 @@ use Rattle.router_laws.specs.decisions.Routers.{AreOpenJust}
 use Rattle.core_laws.specs.entry.Cores.{with_entry}
 use Rattle.router_laws.proofs.OfLinks.Calming.{IsIdleBy}
 use Rattle.core_laws.proofs.OfLinks.Desks.{begun_links}
+use Rattle.router_laws.proofs.OfDecisions.Speaking.{ours_of_link, ours_of_none}
 use Rattle.router_laws.specs.links.Closes.{ClosesSo}
 use Rattle.router_laws.specs.links.Opens.{OpensSo}
 use Rattle.router_laws.specs.links.Writes.{WritesSo}
@@ -54,6 +55,7 @@ writing begun = record no_deeds { begun = begun }
 pub opening_idle : (login : Login) → IsIdleBy (opening login)
 opening_idle login = record {
   alone = λ c. All-nil IsAlone;
+  ours = λ rules. ours_of_link rules (Some login) None;
   none = record { given = λ c. refl; ends = λ c. refl };
   takes = λ c. refl;
 }
@@ -61,6 +63,7 @@ opening_idle login = record {
 pub writing_idle : (begun : Option (Option StepText)) → IsIdleBy (writing begun)
 writing_idle begun = record {
   alone = λ c. All-nil IsAlone;
+  ours = λ rules. ours_of_link rules None begun;
   none = record { given = λ c. refl; ends = λ c. refl };
   takes = λ c. refl;
 }
@@ -68,6 +71,7 @@ writing_idle begun = record {
 pub none_idle : IsIdleBy no_deeds
 none_idle = record {
   alone = λ c. All-nil IsAlone;
+  ours = λ rules. ours_of_none rules;
   none = record { given = λ c. refl; ends = λ c. refl };
   takes = λ c. refl;
 }

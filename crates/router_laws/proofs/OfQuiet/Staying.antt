@@ -6,7 +6,8 @@ use Rattle.mx_wire.specs.Log.{AreMarks, IsMark, Log, is_link, is_open, link_of, 
 use Rattle.mx_wire.specs.Tells.{MayFollow}
 use Rattle.mx_wire.specs.declared.entry.Entry.{Entry}
 use Rattle.mx_wire.specs.declared.entry.Entry.TheVariants as entry
-use Rattle.client_session.specs.Setups.{Setup as Service}
+use Rattle.core_service.specs.declared.service.Service.{Service}
+use Rattle.client_session.specs.Setups.{Setup as Serving}
 use Rattle.private_model.specs.Names.{ClientNo, LinkId}
 use Rattle.private_model.specs.View.{Setup}
 use Rattle.link_laws.specs.Stands.{Codes}
@@ -35,31 +36,33 @@ use Rattle.router_laws.proofs.OfDecisions.Gathering.{over_then, silent_at, uneve
 use Rattle.router_laws.proofs.OfDecisions.Keeping.{recorded_then}
 use Rattle.router_laws.proofs.OfDecisions.Listing.{is_tale_of, open_with}
 use Rattle.router_laws.proofs.OfDecisions.Recording.{one_more}
+use Rattle.router_laws.proofs.OfDecisions.Asking.{asks_none}
 use Rattle.router_laws.proofs.OfDecisions.Router.{router_goes_on, stood_before}
+use Rattle.query_rules.specs.Passing.{rules_of}
+use Rattle.router_laws.proofs.OfDecisions.Speaking.{ours_of_none}
 use Rattle.router_laws.proofs.OfDecisions.Tallying.{counts_then}
 use Rattle.router_laws.proofs.OfDecisions.Working.{none_given}
-use Rattle.router_laws.specs.decisions.Deeds.{AreAlone, IsAlone, counts_with, decided_with, no_deeds}
+use Rattle.router_laws.specs.decisions.Deeds.{IsAlone, counts_with, decided_with, no_deeds}
 use Rattle.router_laws.specs.decisions.Plans.{EndsNone, PlansSo}
-use Rattle.router_laws.specs.decisions.Routers.{AreOpenJust, GoesSo, IsBefore, IsRouter}
+use Rattle.router_laws.specs.decisions.Routers.{AreOpenJust, GoesSo, IsBefore, IsRouter, WaitsThen}
 use Rattle.router_laws.proofs.OfQuiet.Making.{IsMade, IsOfNoLink, is_made, none_written, open_alike, of_no_link, rests_then, step_is}
 use Rattle.router_laws.specs.quiet.Quiet.{is_quiet}
+use Rattle.router_laws.specs.waits.Drained.{IsDrainedAt}
 
 -- What is known of the tables' standing.
-pub record Knows (service : Service) : Type 0 where
+pub record Knows (service : Serving) : Type 0 where
   pub counting : Counting service
   pub testing : Testing service
   pub runs : (g : Ground) (t : Tabled) (l : LinkId) → Stands service g t → is_to_server g.tale l ≡ true
       → Stands service (on g (told g.setup g.plan g.tale (entry.Exec l))) t
   pub drops : (g : Ground) (t : Tabled) (l : LinkId) → Stands service g t → Stands service (on g (told g.setup g.plan g.tale (entry.Drop l))) t
 
-none_alone : AreAlone no_deeds
-none_alone c = All-nil IsAlone
-
 none_end : EndsNone no_deeds
 none_end = record { given = λ c. refl; ends = λ c. refl }
 
-module _ (service : Service) (knows : Knows service) (default : List ℕ) (log : Log) (e : Entry) (t : Tabled) (roomy : ClientNo → Bool)
-    (router : IsRouter service default log t roomy) (may : MayFollow log e) (quiet : is_quiet e ≡ true) where
+module _ (service : Service) (knows : Knows service.setup) (log : Log) (e : Entry) (t : Tabled) (roomy : ClientNo → Bool)
+    (router : IsRouter service log t roomy) (may : MayFollow log e) (quiet : is_quiet e ≡ true)
+    (waits : WaitsThen service log e router.core.decided) where
   abbrev d : Decided
   d = router.core.decided
 
@@ -67,12 +70,12 @@ module _ (service : Service) (knows : Knows service) (default : List ℕ) (log :
   new = decided_with no_deeds router.counts log e d
 
   module _ (setup : Setup) (codes : Codes) (plan : Plan) (of : IsOf new (length (with_entry log e)) plan)
-      (fits : Fits setup codes plan default (tale_of setup plan (with_entry log e))) where
+      (fits : Fits setup codes plan service.default_schema (tale_of setup plan (with_entry log e))) where
     abbrev g : Ground
     g = ground setup codes plan d log
 
-    stood : IsBefore service default log e t roomy router no_deeds setup codes plan
-    stood = stood_before service default log e t roomy no_deeds setup codes plan router may of fits (heard_always setup plan log e)
+    stood : IsBefore service log e t roomy router no_deeds setup codes plan
+    stood = stood_before service log e t roomy no_deeds setup codes plan router may of fits (heard_always setup plan log e)
 
     so : PlansSo g log e no_deeds
     so = stood.so (none_given g (λ c. None) (λ c. refl))
@@ -83,13 +86,13 @@ module _ (service : Service) (knows : Knows service) (default : List ℕ) (log :
     aside : IsOfNoLink setup no_deeds g.tale e
     aside = of_no_link setup no_deeds g.tale e quiet
 
-    made : IsMade service g t e
+    made : IsMade service.setup g t e
     made =
-        is_made service g t calm stood.rests.stands stood.rests.rested e quiet (sound_so setup plan log stood.safe.tested).outside
+        is_made service.setup g t calm stood.rests.stands stood.rests.rested e quiet (sound_so setup plan log stood.safe.tested).outside
         (λ l server. knows.runs g t l stood.rests.stands server) (λ l. knows.drops g t l stood.rests.stands)
 
     steps : tale_step setup plan g.tale e ≡ counted made.made
-    steps = step_is service knows.counting knows.testing g t roomy e stood.rests calm made aside.of_none aside.aside
+    steps = step_is service.setup knows.counting knows.testing g t roomy e stood.rests calm made aside.of_none aside.aside
 
     over_is : (c : ClientNo) → over_by new c ≡ (g.over c || nobody c)
     over_is c = over_then d router.counts log e no_deeds setup codes plan router.recorded of c ∙ ap (λ (b : Bool). g.over c || b) (calm.endless c)
@@ -109,7 +112,7 @@ module _ (service : Service) (knows : Knows service) (default : List ℕ) (log :
       wordless = λ c going.
           ap (λ (m : ℕ). word_at plan m c) (ap suc (is_tale_of setup plan log).moment ∙ sym (one_more log e))
           ∙ silent_at new (counts_with no_deeds router.counts log e) (with_entry log e) plan
-          (recorded_then d router.counts log e no_deeds router.recorded none_alone) of c going;
+          (recorded_then d router.counts log e no_deeds router.recorded (λ c. All-nil IsAlone)) of c going;
     }
 
     due : IsDueBehind g log e nobody (over_by new) t
@@ -121,12 +124,12 @@ module _ (service : Service) (knows : Knows service) (default : List ℕ) (log :
       comes = λ client seated come. absurd (aside.uncome client come);
     }
 
-    behind_rests : Rests service (behind g e (over_by new)) t roomy
+    behind_rests : Rests service.setup (behind g e (over_by new)) t roomy
     behind_rests =
-        subst (λ (over : ClientNo → Bool). Rests service (behind g e over) t roomy) (sym over_same)
-        (rests_then service knows.counting knows.testing g t roomy e stood.rests calm made aside.of_none aside.aside)
+        subst (λ (over : ClientNo → Bool). Rests service.setup (behind g e over) t roomy) (sym over_same)
+        (rests_then service.setup knows.counting knows.testing g t roomy e stood.rests calm made aside.of_none aside.aside)
 
-    entered : IsEntered service g log e nobody (over_by new) t t roomy roomy
+    entered : IsEntered service.setup g log e nobody (over_by new) t t roomy roomy
     entered = record {
       rests = λ rests. behind_rests;
       due = λ rests. due;
@@ -143,9 +146,9 @@ module _ (service : Service) (knows : Knows service) (default : List ℕ) (log :
         seated_of (λ (x : Client). x.taken ≡ router.counts.taken x.number) g.tale client there stood.counts.taken in
         omega (arith, same)
 
-    goes_so : GoesSo service setup codes plan log e d router.counts no_deeds t t roomy roomy
+    goes_so : GoesSo service.setup setup codes plan log e d router.counts no_deeds t t roomy roomy
     goes_so = record {
-      goes = entered_goes_on service setup codes plan log e d new t t roomy roomy nobody decided entered;
+      goes = entered_goes_on service.setup setup codes plan log e d new t t roomy roomy nobody decided entered;
       counts = counts_then setup plan d router.counts log e no_deeds router.recorded stood.counts may taken_by_none aside.begins;
     }
 
@@ -156,8 +159,9 @@ module _ (service : Service) (knows : Knows service) (default : List ℕ) (log :
   open_same : AreOpenJust (with_entry log e) t
   open_same l = open_with log e l ∙ open_by l (is_link l (link_of e)) ∙ router.open_just l
 
-  pub quiet_router : IsRouter service default (with_entry log e) t roomy
-  quiet_router = router_goes_on service default log e no_deeds t t roomy roomy router may none_alone goes_so open_same
+  pub quiet_router : IsRouter service (with_entry log e) t roomy
+  quiet_router = router_goes_on service log e no_deeds t t roomy roomy router may (ours_of_none (rules_of service.rules)) waits
+      (asks_none service log e d router.counts no_deeds (λ c. refl)) goes_so open_same
 
 -- As many marks as a log may have.
 
@@ -171,16 +175,22 @@ mark_may log (entry.Exec link) mark few = record { bounded = few; fits = tt }
 mark_may log (entry.Drop link) mark few = record { bounded = few; fits = tt }
 mark_may log _ mark few = absurd mark
 
-pub with_marks : (service : Service) (default : List ℕ) (t : Tabled) (roomy : ClientNo → Bool)
-    → ((log : Log) (e : Entry) → IsRouter service default log t roomy → MayFollow log e → is_quiet e ≡ true → IsRouter service default (with_entry log e) t roomy)
-    → (log marks : Log) → IsRouter service default log t roomy → AreMarks marks → length (log ++ marks) < 281474976710656
-    → IsRouter service default (log ++ marks) t roomy
-with_marks service default t roomy quiets log [] router are few =
-    subst (λ (all : Log). IsRouter service default all t roomy) (sym (append-nil log)) router
-with_marks service default t roomy quiets log (e ∷ marks) router are few =
+mark_drained : (t : Tabled) (log : Log) (e : Entry) → IsMark e → IsDrainedAt t log e
+mark_drained t log (entry.Exec link) mark = tt
+mark_drained t log (entry.Drop link) mark = tt
+mark_drained t log _ mark = absurd mark
+
+pub with_marks : (service : Service) (t : Tabled) (roomy : ClientNo → Bool)
+    → ((log : Log) (e : Entry) → IsRouter service log t roomy → MayFollow log e → is_quiet e ≡ true → IsDrainedAt t log e
+    → IsRouter service (with_entry log e) t roomy)
+    → (log marks : Log) → IsRouter service log t roomy → AreMarks marks → length (log ++ marks) < 281474976710656
+    → IsRouter service (log ++ marks) t roomy
+with_marks service t roomy quiets log [] router are few =
+    subst (λ (all : Log). IsRouter service all t roomy) (sym (append-nil log)) router
+with_marks service t roomy quiets log (e ∷ marks) router are few =
     let size : length (log ++ e ∷ marks) ≡ length log + length (e ∷ marks) = length-append log (e ∷ marks) in
-    let next : IsRouter service default (with_entry log e) t roomy =
-    quiets log e router (mark_may log e are.0 (omega (arith, size, few))) (mark_quiet e are.0) in
+    let next : IsRouter service (with_entry log e) t roomy =
+    quiets log e router (mark_may log e are.0 (omega (arith, size, few))) (mark_quiet e are.0) (mark_drained t log e are.0) in
     let same : (log ++ e ∷ []) ++ marks ≡ log ++ e ∷ marks = append_assoc log (e ∷ []) marks in
-    subst (λ (all : Log). IsRouter service default all t roomy) same
-    (with_marks service default t roomy quiets (with_entry log e) marks next are.1 (subst (λ (all : Log). length all < 281474976710656) (sym same) few))
+    subst (λ (all : Log). IsRouter service all t roomy) same
+    (with_marks service t roomy quiets (with_entry log e) marks next are.1 (subst (λ (all : Log). length all < 281474976710656) (sym same) few))

@@ -8,6 +8,7 @@ use Rattle.mx_base.specs.declared.names.LinkId.{LinkId}
 use Rattle.client_session.specs.Setups.{Setup as Service}
 use Rattle.session_state.specs.declared.names.SessionName.{SessionName}
 use Rattle.client_seat.specs.Seats.{is_ended}
+use Rattle.query_rules.specs.declared.rule.Rule.{Rule}
 use Rattle.core_tables.specs.Hearing.{IsHeard, IsHeardBy}
 use Rattle.core_tables.specs.Parting.{changed_for, freed_in, freed_of, freed_row, given_row, given_up_in, is_done_in, name_in, present_in}
 use Rattle.core_tables.specs.Tables.{IsSame, Tabled}
@@ -15,8 +16,9 @@ use Rattle.core_tables.specs.declared.client.Client.{Client}
 use Rattle.core_tables.specs.declared.said.Said.{Said}
 use Rattle.core_tables.specs.declared.server.Server.{Server}
 use Rattle.core_laws.specs.clients.Going.{GivenUp, GoesSo, Going, IsCalled, is_going, told_to}
+use Rattle.router_laws.specs.decisions.Rulings.{IsRuledOn}
 use Rattle.router_laws.specs.reading.Givings.{MayGiveUp}
-use Rattle.router_laws.specs.reading.Hears.{HearsSo}
+use Rattle.router_laws.specs.reading.Hears.{HearsRuled}
 
 -- tables that are the same are one
 tables_are : (a b : Tabled) → IsSame a b → a ≡ b
@@ -26,25 +28,29 @@ tables_are a b same = λ i. record {
   links = λ (l : LinkId). same.links l i;
 }
 
-pub made_so : (service : Service) (default : List ℕ) (l : LinkId) (bytes : List ℕ) (clock : ℕ) (given : Option GivenUp) (going : Option Going)
+pub made_so : (rules : List Rule) (service : Service) (default : List ℕ) (l : LinkId) (bytes : List ℕ) (clock : ℕ) (given : Option GivenUp) (going : Option Going)
     (server : Server) (said : Said) (old heard mid freed now : Tabled) → old.links l ≡ Some server → server.row.lost ≡ false
     → server.row.link.spoilt ≡ false → IsHeard l bytes clock said heard old → MayGiveUp given heard
     → IsSame mid (given_up_in (told_to given) heard) → IsSame freed (freed_in l mid)
     → IsCalled (name_in server.row.link.state.carries) given freed (option_map (λ (g : Going). g.client) going)
-    → GoesSo going service default freed now → HearsSo service default l bytes clock given going old now
-made_so service default l bytes clock given going server said old heard mid freed now there whole sound hears may gives frees called goes = record {
-  server = server;
-  there = there;
-  whole = whole;
-  sound = sound;
-  said = said;
-  heard = heard;
-  hears = subst (λ (row : Option Server). IsHeardBy row l bytes clock said heard old) there hears;
-  may = may;
-  freed = freed;
-  frees = subst (λ (t : Tabled). IsSame freed (freed_in l t)) (tables_are mid (given_up_in (told_to given) heard) gives) frees;
-  called = called;
-  goes = goes;
+    → (goes : GoesSo going service default freed now) → IsRuledOn rules going service default freed now goes
+    → HearsRuled rules service default l bytes clock given going old now
+made_so rules service default l bytes clock given going server said old heard mid freed now there whole sound hears may gives frees called goes ruled = record {
+  so = record {
+    server = server;
+    there = there;
+    whole = whole;
+    sound = sound;
+    said = said;
+    heard = heard;
+    hears = subst (λ (row : Option Server). IsHeardBy row l bytes clock said heard old) there hears;
+    may = may;
+    freed = freed;
+    frees = subst (λ (t : Tabled). IsSame freed (freed_in l t)) (tables_are mid (given_up_in (told_to given) heard) gives) frees;
+    called = called;
+    goes = goes;
+  };
+  ruled = ruled;
 }
 
 -- Who goes on still does: no statement that is given up, and no link that is given back, ends a client.

@@ -11,7 +11,8 @@ use Rattle.mx_wire.specs.Moments.{AllLawful}
 use Rattle.mx_wire.specs.Tells.{MayFollow}
 use Rattle.mx_wire.specs.declared.entry.Entry.{Entry}
 use Rattle.mx_wire.specs.declared.entry.Entry.TheVariants as entry
-use Rattle.client_session.specs.Setups.{Setup as Service}
+use Rattle.core_service.specs.declared.service.Service.{Service}
+use Rattle.client_session.specs.Setups.{Setup as Serving}
 use Rattle.private_model.proofs.Maps.{link_of}
 use Rattle.private_model.specs.Names.{ClientNo, LinkId, MessageName}
 use Rattle.private_model.specs.Story.{is_link_id}
@@ -79,9 +80,9 @@ use Rattle.router_laws.specs.reading.Hears.{HearsSo}
 pub record Laws : Type 0 where
   pub reads : hearing.Laws
   pub follows : Follows
-  pub ungiven : (service : Service) (g : Ground) (t : Tabled) (given : ClientNo → Option (List ℕ)) (excepted : LinkId → Bool) → Stands service g t
+  pub ungiven : (service : Serving) (g : Ground) (t : Tabled) (given : ClientNo → Option (List ℕ)) (excepted : LinkId → Bool) → Stands service g t
       → AreGivenUp given excepted t → AreUngiven g (λ c. is_some (given c))
-  pub unreplied : (service : Service) (g : Ground) (t : Tabled) (given : ClientNo → Option (List ℕ)) (excepted : LinkId → Bool)
+  pub unreplied : (service : Serving) (g : Ground) (t : Tabled) (given : ClientNo → Option (List ℕ)) (excepted : LinkId → Bool)
       → Stands service g t → AreGivenUp given excepted t → AreUnreplied g (λ c. is_some (given c))
   pub kept : (g : Ground) (log : Log) (e : Entry) (deeds : Deeds) → PlansSo g log e deeds → AreUnreplied g (λ c. is_some (deeds.given c))
       → All (KeepsAnswers g) g.tale.clients
@@ -92,25 +93,25 @@ pub record Laws : Type 0 where
       → AreCountsOf n (tale_of setup plan log) → TakesSo n deeds (tale_step setup plan (tale_of setup plan log) e)
       → BeginsSo setup (tale_of setup plan log) e deeds
       → AreCountsOf (counts_with deeds n log e) (tale_of setup plan (with_entry log e))
-  pub stood : (service : Service) (default : List ℕ) (log : Log) (e : Entry) (t : Tabled) (roomy : ClientNo → Bool) (deeds : Deeds)
-      (setup : Setup) (codes : Codes) (plan : Plan) → (router : IsRouter service default log t roomy) → MayFollow log e
+  pub stood : (service : Service) (log : Log) (e : Entry) (t : Tabled) (roomy : ClientNo → Bool) (deeds : Deeds)
+      (setup : Setup) (codes : Codes) (plan : Plan) → (router : IsRouter service log t roomy) → MayFollow log e
       → IsOf (decided_with deeds router.counts log e router.core.decided) (length (with_entry log e)) plan
-      → Fits setup codes plan default (tale_of setup plan (with_entry log e))
+      → Fits setup codes plan service.default_schema (tale_of setup plan (with_entry log e))
       → All (λ (client : tales.Client). IsHeardMore (tale_of setup plan (with_entry log e)) client) (tale_of setup plan log).clients
-      → IsBefore service default log e t roomy router deeds setup codes plan
+      → IsBefore service log e t roomy router deeds setup codes plan
   pub rise : (setup : Setup) (plan : Plan) (log : Log) → AllLawful MayFollow log → Ascend (λ l. l.0) (tale_of setup plan log).links
-  pub tells : (service : Service) (payload : List ℕ) (g : Ground) (c : ClientNo) (moment : ℕ) (word : LastWord) → g.over c ≡ false
+  pub tells : (service : Serving) (payload : List ℕ) (g : Ground) (c : ClientNo) (moment : ℕ) (word : LastWord) → g.over c ≡ false
       → word_at g.plan moment c ≡ Some word → word.place ≡ Behind → word.payloads ≡ payload ∷ [] → StandTold payload service g c moment
 
 -- who is told its last word stands as it is told
 
-tells_for : Laws → (parting : Parting) (service : Service) (c : ClientNo) → TellsFor parting service c
+tells_for : Laws → (parting : Parting) (service : Serving) (c : ClientNo) → TellsFor parting service c
 tells_for laws Stays service c = tt
 tells_for laws Leaves service c = tt
 tells_for laws (Tells payload) service c =
     λ g moment over looked said. laws.tells service payload g c moment (last_word moment payload) over said refl refl
 
-tells_so : Laws → (going : Option Going) (service : Service) → TellsSo going service
+tells_so : Laws → (going : Option Going) (service : Serving) → TellsSo going service
 tells_so laws None service = tt
 tells_so laws (Some going) service = tells_for laws going.parting service going.client
 
@@ -161,12 +162,12 @@ pub there_by : (g : Ground) (client : tales.Client) (found : Option Client) → 
 there_by g client None is going = absurd (true≢false (sym is.over ∙ going))
 there_by g client (Some row) is going = refl
 
-module _ (laws : Laws) (service : Service) (default : List ℕ) (log : Log) (t now : Tabled) (roomy : ClientNo → Bool) (l : LinkId) (bytes : List ℕ)
-    (clock : ℕ) (given : Option GivenUp) (going : Option Going) (router : IsRouter service default log t roomy) (follow : MayFollow log (entry.Got l bytes))
-    (bytes_are : AreBytes bytes) (so : HearsSo service default l bytes clock given going t now) (setup : Setup)
+module _ (laws : Laws) (service : Service) (log : Log) (t now : Tabled) (roomy : ClientNo → Bool) (l : LinkId) (bytes : List ℕ)
+    (clock : ℕ) (given : Option GivenUp) (going : Option Going) (router : IsRouter service log t roomy) (follow : MayFollow log (entry.Got l bytes))
+    (bytes_are : AreBytes bytes) (so : HearsSo service.setup service.default_schema l bytes clock given going t now) (setup : Setup)
     (codes : Codes) (plan : Plan)
     (of : IsOf (decided_with (deeds_of given going) router.counts log (entry.Got l bytes) router.core.decided) (length (with_entry log (entry.Got l bytes))) plan)
-    (fits : Fits setup codes plan default (tale_of setup plan (with_entry log (entry.Got l bytes)))) where
+    (fits : Fits setup codes plan service.default_schema (tale_of setup plan (with_entry log (entry.Got l bytes)))) where
   abbrev e : Entry
   e = entry.Got l bytes
 
@@ -191,20 +192,20 @@ module _ (laws : Laws) (service : Service) (default : List ℕ) (log : Log) (t n
   abbrev said : Tale
   said = told setup plan g.tale e
 
-  before : IsBefore service default log e t roomy router its_deeds setup codes plan
-  before = laws.stood service default log e t roomy its_deeds setup codes plan router follow of fits (heard_always setup plan log e)
+  pub before : IsBefore service log e t roomy router its_deeds setup codes plan
+  before = laws.stood service log e t roomy its_deeds setup codes plan router follow of fits (heard_always setup plan log e)
 
-  stands : Stands service (on g said) so.heard
+  stands : Stands service.setup (on g said) so.heard
   stands =
-      hearing.read_stands laws.reads service default g t now roomy l bytes clock given going before.rests before.fits.apart bytes_are follow.fits.some so
+      hearing.read_stands laws.reads service.setup service.default_schema g t now roomy l bytes clock given going before.rests before.fits.apart bytes_are follow.fits.some so
 
   gives : AreGivenUp (told_to given) (λ (other : LinkId). false) so.heard
   gives =
-      hearing.read_gives laws.reads service default g t now roomy l bytes clock given going before.rests before.fits.apart bytes_are follow.fits.some so
+      hearing.read_gives laws.reads service.setup service.default_schema g t now roomy l bytes clock given going before.rests before.fits.apart bytes_are follow.fits.some so
 
   there : is_to_server g.tale l ≡ true
   there =
-      hearing.read_there laws.reads service default g t now roomy l bytes clock given going before.rests before.fits.apart bytes_are follow.fits.some so
+      hearing.read_there laws.reads service.setup service.default_schema g t now roomy l bytes clock given going before.rests before.fits.apart bytes_are follow.fits.some so
 
   said_clients : said.clients ≡ g.tale.clients
   said_clients = read_clients g l bytes there
@@ -220,7 +221,7 @@ module _ (laws : Laws) (service : Service) (default : List ℕ) (log : Log) (t n
       → own_at plan m (name_of client client.taken) ≡ None) g.tale.clients) said_moment
       (subst (All (λ (client : tales.Client). is_some (told_to given client.number) ≡ true
       → own_at plan said.moment (name_of client client.taken) ≡ None)) said_clients
-      (laws.ungiven service (on g said) so.heard (told_to given) (λ (other : LinkId). false) stands gives))
+      (laws.ungiven service.setup (on g said) so.heard (told_to given) (λ (other : LinkId). false) stands gives))
 
   unreplied : AreUnreplied g (λ (c : ClientNo). is_some (told_to given c))
   unreplied =
@@ -229,12 +230,12 @@ module _ (laws : Laws) (service : Service) (default : List ℕ) (log : Log) (t n
       (λ client none is. told_none g l bytes there (name_of client client.taken) (none is)) g.tale.clients
       (subst (All (λ (client : tales.Client). is_some (told_to given client.number) ≡ true
       → (view_on (on g said)).replies (name_of client client.taken) ≡ None)) said_clients
-      (laws.unreplied service (on g said) so.heard (told_to given) (λ (other : LinkId). false) stands gives))
+      (laws.unreplied service.setup (on g said) so.heard (told_to given) (λ (other : LinkId). false) stands gives))
 
   plans : PlansSo g log e its_deeds
   plans = before.so ungiven
 
-  is : IsHearing service default g log l bytes given going
+  pub is : IsHearing service.setup service.default_schema g log l bytes given going
   is = record {
     plans = plans;
     apart = before.fits.apart;
@@ -243,15 +244,15 @@ module _ (laws : Laws) (service : Service) (default : List ℕ) (log : Log) (t n
     bytes_are = bytes_are;
     some = follow.fits.some;
     rising = laws.rise setup plan log router.lawful;
-    tells = tells_so laws going service;
+    tells = tells_so laws going service.setup;
   }
 
   overs : (c : ClientNo) → over c ≡ (g.over c || ends_now plan (suc g.tale.moment) c)
   overs = laws.ends d n log e its_deeds setup codes plan router.recorded of
 
-  heard : AreHeard service g l bytes its_deeds over roomy now
+  heard : AreHeard service.setup g l bytes its_deeds over roomy now
   heard =
-      going_heard laws.reads laws.follows service default g log t now roomy roomy over l bytes clock given going before.rests is so overs (λ c full. full)
+      going_heard laws.reads laws.follows service.setup service.default_schema g log t now roomy roomy over l bytes clock given going before.rests is so overs (λ c full. full)
 
   -- who is ended, and told
 
@@ -271,14 +272,14 @@ module _ (laws : Laws) (service : Service) (default : List ℕ) (log : Log) (t n
       ∙ ap (λ (b : Bool). not b && is_some (deeds.ends_in its_deeds was.number)) is) ∙ ends))
 
   kept_rows : KeepsRows t now
-  kept_rows = hears_keep_rows service default l bytes clock given going t now so
+  kept_rows = hears_keep_rows service.setup service.default_schema l bytes clock given going t now so
 
   row_there : (was : tales.Client) → IsSeated g.tale was → whose was.number ≡ true → is_some (now.clients was.number) ≡ true
   row_there was seated ends =
       kept_rows.clients was.number
       ∙ there_by g was (t.clients was.number) (at was seated).row (ended_open was seated ends (g.over was.number) refl)
 
-  unread_by : (was : tales.Client) → IsSeated g.tale was → (b : Bool) → is_link_id was.link l ≡ b → is_link_id was.link l ≡ false
+  pub unread_by : (was : tales.Client) → IsSeated g.tale was → (b : Bool) → is_link_id was.link l ≡ b → is_link_id was.link l ≡ false
   unread_by was seated false apart = apart
   unread_by was seated true here =
       absurd (true≢false (sym there ∙ ap (is_to_server g.tale) (sym (link_of was.link l here)) ∙ (at was seated).aside))
@@ -318,7 +319,7 @@ module _ (laws : Laws) (service : Service) (default : List ℕ) (log : Log) (t n
   abbrev last : Tale
   last = tale_step setup plan g.tale e
 
-  were : All (λ (client : tales.Client). WasThere plan g.tale e client ⊎ HasCome g.tale e client) last.clients
+  pub were : All (λ (client : tales.Client). WasThere plan g.tale e client ⊎ HasCome g.tale e client) last.clients
   were = all_were setup plan g.tale e before.rests.stands.clients.counted
 
   silent_at : (client : tales.Client) → WasThere plan g.tale e client ⊎ HasCome g.tale e client → over client.number ≡ false
@@ -334,7 +335,7 @@ module _ (laws : Laws) (service : Service) (default : List ℕ) (log : Log) (t n
       (λ (client : tales.Client). over client.number ≡ false → word_at plan last.moment client.number ≡ None) silent_at last.clients were
 
   same : ground setup codes plan later (with_entry log e) ≡ behind g e over
-  same = with_is service setup codes plan log e d later t now roomy roomy whose
+  same = with_is service.setup setup codes plan log e d later t now roomy roomy whose
 
   silent : AreSilent (ground setup codes plan later (with_entry log e))
   silent = subst AreSilent (sym same) silent_last
@@ -354,14 +355,14 @@ module _ (laws : Laws) (service : Service) (default : List ℕ) (log : Log) (t n
         (all_spoken setup plan g.tale l bytes there now (kept_rows.links l ∙ ap is_some so.there) links_same);
   }
 
-  goes : GoesOn service setup codes plan log e d later t now roomy roomy
+  goes : GoesOn service.setup setup codes plan log e d later t now roomy roomy
   goes = record {
     heard = heard_always setup plan log e;
-    rests = λ rests. subst (λ (x : Ground). Rests service x now roomy) (sym same) heard.rests;
+    rests = λ rests. subst (λ (x : Ground). Rests service.setup x now roomy) (sym same) heard.rests;
     written = λ rests behind_it to.
         subst (λ (x : Ground). AreWrittenTo x (with_entry log e)) (sym same)
-        (written_with service g t now roomy log e whose over before.rests heard.rests.stands kept overs due to);
-    safe = λ rests behind_it to safe. log_goes_on service setup codes plan later log e now safe (safely safe.runless) behind_it.stands silent to;
+        (written_with service.setup g t now roomy log e whose over before.rests heard.rests.stands kept overs due to);
+    safe = λ rests behind_it to safe. log_goes_on service.setup setup codes plan later log e now safe (safely safe.runless) behind_it.stands silent to;
   }
 
   -- as many were taken up
@@ -380,7 +381,7 @@ module _ (laws : Laws) (service : Service) (default : List ℕ) (log : Log) (t n
       takes_by client seated
       (seated_of (λ (x : tales.Client). WasThere plan g.tale e x ⊎ HasCome g.tale e x) last client seated were)
 
-  pub goes_so : GoesSo service setup codes plan log e d n its_deeds t now roomy roomy
+  pub goes_so : GoesSo service.setup setup codes plan log e d n its_deeds t now roomy roomy
   goes_so = record {
     goes = goes;
     counts = laws.counts setup plan d n log e its_deeds router.recorded follow before.counts takes tt;

@@ -1,27 +1,14 @@
 -- A router goes on with bytes on a link to a server.
 use Rattle.std.specs.Prelude.{◌≡◌, ◌||◌, ℕ, Bool, true, false, if◌then◌else◌, is_some, nat_eq, All, List, [], Option, Some, None}
 use Rattle.std.proofs.Common.{refl, sym, ap, ◌∙◌}
-use Rattle.std.proofs.lemmas.List.Elements.{All-nil}
 use Rattle.mx_wire.specs.Log.{Log, is_link, is_open, link_of, open_step}
 use Rattle.mx_wire.specs.declared.entry.Entry.{Entry}
 use Rattle.mx_wire.specs.declared.entry.Entry.TheVariants.{Got}
 use Rattle.private_model.specs.Names.{ClientNo, LinkId}
 use Rattle.core_tables.specs.Tables.{Tabled}
 use Rattle.core_laws.specs.entry.Cores.{with_entry}
-use Rattle.core_laws.specs.clients.Going.{GivenUp, Going}
 use Rattle.core_laws.specs.clients.Keeps.{KeepsRows}
-use Rattle.core_laws.specs.clients.Turns.{Choice}
-use Rattle.router_laws.specs.decisions.Deeds.{AreAlone, IsAlone}
-use Rattle.router_laws.specs.decisions.Goings.{deeds_of}
 use Rattle.router_laws.specs.decisions.Routers.{AreOpenJust}
-use Rattle.router_laws.specs.reading.Hearing.{AreAloneOf}
-
-pub read_alone : (given : Option GivenUp) (going : Option Going) → AreAloneOf going → AreAlone (deeds_of given going)
-read_alone given None alone c = All-nil IsAlone
-read_alone given (Some going) alone c = by (nat_eq going.client.0 c.0) where
-  by : (b : Bool) → All IsAlone (if b then going.choices else [])
-  by true = alone
-  by false = All-nil IsAlone
 
 abbrev pub Opens : Type 0
 Opens =

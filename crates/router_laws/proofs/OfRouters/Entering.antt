@@ -6,7 +6,7 @@ use Rattle.mx_wire.specs.Log.{Log}
 use Rattle.mx_wire.specs.Tells.{MayFollow}
 use Rattle.mx_wire.specs.declared.entry.Entry.{Entry}
 use Rattle.server_side.specs.Account.{Account as Login}
-use Rattle.client_session.specs.Setups.{Setup as Service}
+use Rattle.core_service.specs.declared.service.Service.{Service}
 use Rattle.private_model.specs.Names.{ClientNo}
 use Rattle.private_model.specs.View.{Setup}
 use Rattle.link_laws.specs.Stands.{Codes}
@@ -24,18 +24,21 @@ use Rattle.router_laws.proofs.OfDecisions.Gathering.{over_then, silent_at, uneve
 use Rattle.router_laws.proofs.OfDecisions.Keeping.{recorded_then}
 use Rattle.router_laws.proofs.OfDecisions.Listing.{is_tale_of}
 use Rattle.router_laws.proofs.OfDecisions.Recording.{one_more}
+use Rattle.router_laws.proofs.OfDecisions.Asking.{asks_none}
 use Rattle.router_laws.proofs.OfDecisions.Router.{router_goes_on, stood_before}
 use Rattle.router_laws.proofs.OfDecisions.Staying.{counts_kept}
 use Rattle.router_laws.proofs.OfDecisions.Working.{none_given}
+use Rattle.query_rules.specs.Passing.{rules_of}
+use Rattle.router_laws.proofs.OfDecisions.Speaking.{ours_of_link}
 use Rattle.router_laws.specs.decisions.Counting.{CallsNone, is_no_event}
 use Rattle.router_laws.specs.decisions.Deeds.{AreAlone, Deeds, IsAlone, counts_with, decided_with}
 use Rattle.router_laws.specs.decisions.Plans.{EndsNone, PlansSo}
-use Rattle.router_laws.specs.decisions.Routers.{AreOpenJust, GoesSo, IsBefore, IsRouter}
+use Rattle.router_laws.specs.decisions.Routers.{AreOpenJust, GoesSo, IsBefore, IsRouter, WaitsThen}
 use Rattle.router_laws.specs.routers.Enters.{Enters, EntersBy, of_link}
 
-module _ (service : Service) (default : List ℕ) (log : Log) (e : Entry) (login : Option Login) (begun : Option (Option StepText)) (t now : Tabled)
-    (roomy room : ClientNo → Bool) (router : IsRouter service default log t roomy) (may : MayFollow log e) (quiet : is_no_event e ≡ true)
-    (enters : EntersBy service default log e t now roomy room router (of_link login begun)) where
+module _ (service : Service) (log : Log) (e : Entry) (login : Option Login) (begun : Option (Option StepText)) (t now : Tabled)
+    (roomy room : ClientNo → Bool) (router : IsRouter service log t roomy) (may : MayFollow log e) (quiet : is_no_event e ≡ true)
+    (waits : WaitsThen service log e router.core.decided) (enters : EntersBy service log e t now roomy room router (of_link login begun)) where
   abbrev deeds : Deeds
   deeds = of_link login begun
 
@@ -55,12 +58,12 @@ module _ (service : Service) (default : List ℕ) (log : Log) (e : Entry) (login
   none_called = record { given = λ c. refl; none_taken = λ c. refl }
 
   module _ (setup : Setup) (codes : Codes) (plan : Plan) (of : IsOf new (length (with_entry log e)) plan)
-      (fits : Fits setup codes plan default (tale_of setup plan (with_entry log e))) where
+      (fits : Fits setup codes plan service.default_schema (tale_of setup plan (with_entry log e))) where
     abbrev g : Ground
     g = ground setup codes plan d log
 
-    stood : IsBefore service default log e t roomy router deeds setup codes plan
-    stood = stood_before service default log e t roomy deeds setup codes plan router may of fits (heard_always setup plan log e)
+    stood : IsBefore service log e t roomy router deeds setup codes plan
+    stood = stood_before service log e t roomy deeds setup codes plan router may of fits (heard_always setup plan log e)
 
     so : PlansSo g log e deeds
     so = stood.so (none_given g (λ c. None) (λ c. refl))
@@ -79,14 +82,15 @@ module _ (service : Service) (default : List ℕ) (log : Log) (e : Entry) (login
           (recorded_then d router.counts log e deeds router.recorded alone) of c going;
     }
 
-    entered : Enters service log e d router.counts deeds t now roomy room setup codes plan
+    entered : Enters service.setup log e d router.counts deeds t now roomy room setup codes plan
     entered = enters setup codes plan stood fits so decided
 
-    goes_so : GoesSo service setup codes plan log e d router.counts deeds t now roomy room
+    goes_so : GoesSo service.setup setup codes plan log e d router.counts deeds t now roomy room
     goes_so = record {
       goes = entered.goes;
       counts = counts_kept setup plan d router.counts log e deeds router.recorded may of stood.counts quiet none_called entered.begins;
     }
 
-  pub router_enters : AreOpenJust (with_entry log e) now → IsRouter service default (with_entry log e) now room
-  router_enters = router_goes_on service default log e deeds t now roomy room router may alone goes_so
+  pub router_enters : AreOpenJust (with_entry log e) now → IsRouter service (with_entry log e) now room
+  router_enters = router_goes_on service log e deeds t now roomy room router may (ours_of_link (rules_of service.rules) login begun) waits
+      (asks_none service log e d router.counts deeds (λ c. refl)) goes_so

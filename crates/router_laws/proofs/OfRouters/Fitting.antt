@@ -5,7 +5,8 @@ use Rattle.std.proofs.Common.{refl, sym, ap, ◌∙◌, subst}
 use Rattle.std.proofs.lemmas.List.Elements.{All-cons, All-head, All-nil, All-tail, All-weaker}
 use Rattle.mx_wire.specs.Log.{Log}
 use Rattle.client_session.specs.Answers.{account, opening_of}
-use Rattle.client_session.specs.Setups.{Setup as Service}
+use Rattle.core_service.specs.declared.service.Service.{Service}
+use Rattle.client_session.specs.Setups.{Setup as Serving}
 use Rattle.client_side.specs.Login.{Fails, Opening, Says, Waits}
 use Rattle.server_rule.specs.Classes.{router_reads}
 use Rattle.server_rule.specs.Servers.{no_capabilities}
@@ -161,22 +162,22 @@ module _ (default : List ℕ) (d : Decided) (log : Log) where
     single = single_by d.routes single;
   }
 
-module _ (service : Service) (default : List ℕ) (log : Log) (t : Tabled) (roomy : ClientNo → Bool) (router : IsRouter service default log t roomy) where
+module _ (service : Service) (log : Log) (t : Tabled) (roomy : ClientNo → Bool) (router : IsRouter service log t roomy) where
   abbrev d : Decided
   d = router.core.decided
 
   abbrev g : Ground
-  g = ground (setup default d log) no_codes (plan_of d) d log
+  g = ground (setup service.default_schema d log) no_codes (plan_of d) d log
 
-  rests_so : Rests service g t roomy
-  rests_so = router.core.rests (setup default d log) no_codes (plan_of d) (itself d (length log)) (fitting default d log router.recorded.alone)
+  rests_so : Rests service.setup g t roomy
+  rests_so = router.core.rests (setup service.default_schema d log) no_codes (plan_of d) (itself d (length log)) (fitting service.default_schema d log router.recorded.alone)
 
-  pub somehow : RestsSomehow service log t roomy
+  pub somehow : RestsSomehow service.setup log t roomy
   somehow = record { g = g; tale_is = refl; rests = rests_so }
 
 -- A client's link.
 
-module _ (service : Service) (g : Ground) (t : Tabled) (stands : Stands service g t) (l : LinkId) (c : ClientNo) (numbered : t.numbers l ≡ Some c) where
+module _ (service : Serving) (g : Ground) (t : Tabled) (stands : Stands service g t) (l : LinkId) (c : ClientNo) (numbered : t.numbers l ≡ Some c) where
   none_aside : (there : Bool) → there ≡ false → (row : Option Server) → IsServerBy there g t l row → row ≡ None
   none_aside true isnt row is = false_true true isnt refl
   none_aside false isnt row is = is

@@ -86,7 +86,7 @@ module _ (called : ClientNo → Bool) where
   apart_by x ys others apart true = (All-nil (λ (c : ClientNo). is_client x.number c ≡ false), others, apart)
   apart_by x ys others apart false = apart
 
-  kept_apart : (from : ℕ) (xs : List tales.Client) → AreCounted from (map (λ (x : tales.Client). x.number) xs) → AreApart [] (kept xs)
+  pub kept_apart : (from : ℕ) (xs : List tales.Client) → AreCounted from (map (λ (x : tales.Client). x.number) xs) → AreApart [] (kept xs)
   kept_apart from [] are = tt
   kept_apart from (x ∷ xs) are =
       let first : x.number.0 ≡ from = are.0 in
@@ -151,7 +151,7 @@ module _ (laws : Laws) (frees : Frees) (service : Service) (default : List ℕ) 
 
   -- Whom code calls.
 
-  numbered : AreCounted 1 (numbers heard)
+  pub numbered : AreCounted 1 (numbers heard)
   numbered = stands.clients.counted
 
   -- a client that code calls goes on
@@ -188,7 +188,7 @@ module _ (laws : Laws) (frees : Frees) (service : Service) (default : List ℕ) 
   all_seated : All (IsSeated heard) heard.clients
   all_seated = counted_seats heard numbered
 
-  seated_xs : All (IsSeated heard) xs
+  pub seated_xs : All (IsSeated heard) xs
   seated_xs = All-filter (λ (x : tales.Client). called x.number) (IsSeated heard) heard.clients all_seated
 
   theirs_xs : All (λ (x : tales.Client). called x.number ≡ true) xs
@@ -197,7 +197,7 @@ module _ (laws : Laws) (frees : Frees) (service : Service) (default : List ℕ) 
   abbrev HasPlan : Caller → Type 0
   HasPlan caller = (x : tales.Client) → IsSeated g.tale x → x.number ≡ caller.client → g.over x.number ≡ false → IsCaller service default g caller x
 
-  are : AreCallers service default g callers xs
+  pub are : AreCallers service default g callers xs
   are =
       callers_are service default g (λ (k : Caller). HasPlan k × IsGoing k.client) (IsSeated heard)
       (λ caller x both seated number. both.0 x seated number (ap g.over number ∙ both.1.going)) callers xs named
@@ -212,7 +212,7 @@ module _ (laws : Laws) (frees : Frees) (service : Service) (default : List ℕ) 
   abbrev First : Type 0
   First = IsAt laws service default g rests.looked is.classes is.single [] heard heard g.over mid
 
-  first : First
+  pub first : First
   first = record {
     stands = stands;
     later = later_itself g.setup heard;

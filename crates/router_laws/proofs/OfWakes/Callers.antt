@@ -101,7 +101,7 @@ module _ (laws : Laws) (service : Service) (default : List ℕ) (g : Ground) (lo
   leave_clients [] tale = refl
   leave_clients (c ∷ cs) tale = leave_clients cs (tell (Left c) tale)
 
-  seated_early : (cs : List ClientNo) (early late : Tale) (x : tales.Client) → LeftLater g.setup cs early late → IsSeated late x → IsSeated early x
+  pub seated_early : (cs : List ClientNo) (early late : Tale) (x : tales.Client) → LeftLater g.setup cs early late → IsSeated late x → IsSeated early x
   seated_early cs early late x later seated =
       ap (λ (xs : List tales.Client). seats (record early { clients = xs }) x.number) (sym later.like.clients ∙ leave_clients cs late) ∙ seated
 
@@ -165,7 +165,7 @@ module _ (laws : Laws) (service : Service) (default : List ℕ) (g : Ground) (lo
     going : over x.number ≡ false
     going = at.overs x.number ∙ (λ i. is.going i || is_in cs x.number) ∙ none_in cs x aside
 
-    may : MayGoOn service default h early x caller
+    pub may : MayGoOn service default h early x caller
     may = record {
       seated = seated_early cs early late x at.later seated;
       single = single (is_its x);
@@ -193,7 +193,7 @@ module _ (laws : Laws) (service : Service) (default : List ℕ) (g : Ground) (lo
     aside_of : (y : tales.Client) → y.number ≡ x.number → AreAside cs y
     aside_of y number = subst (λ (n : ClientNo). All (λ (c : ClientNo). is_client n c ≡ false) cs) (sym number) aside
 
-    goes_on : IsOn cs late caller x now
+    pub goes_on : IsOn cs late caller x now
     goes_on = record {
       early = early_with (is_ended_by caller) x.number (gone x early);
       over = over_with (is_ended_by caller) x.number over;
@@ -269,12 +269,12 @@ module _ (laws : Laws) (service : Service) (default : List ℕ) (g : Ground) (lo
     apart_more cs c xs apart.2 (All-tail (λ (y : tales.Client). is_client y.number c ≡ false) x xs others),
   )
 
-  apart_with : (b : Bool) (cs : List ClientNo) (c : ClientNo) (xs : List tales.Client) → AreApart cs xs → All (λ (y : tales.Client). is_client y.number c ≡ false) xs
+  pub apart_with : (b : Bool) (cs : List ClientNo) (c : ClientNo) (xs : List tales.Client) → AreApart cs xs → All (λ (y : tales.Client). is_client y.number c ≡ false) xs
       → AreApart (ended_with b c cs) xs
   apart_with true cs c xs apart others = apart_more cs c xs apart others
   apart_with false cs c xs apart others = apart
 
-  seated_still : (x : tales.Client) (xs : List tales.Client) (late : Tale) → All (λ (y : tales.Client). is_client y.number x.number ≡ false) xs
+  pub seated_still : (x : tales.Client) (xs : List tales.Client) (late : Tale) → All (λ (y : tales.Client). is_client y.number x.number ≡ false) xs
       → All (IsSeated late) xs → All (IsSeated (gone x late)) xs
   seated_still x xs late others seated =
       All-weaker (λ (y : tales.Client). (IsSeated late y) × (is_client y.number x.number ≡ false)) (IsSeated (gone x late))

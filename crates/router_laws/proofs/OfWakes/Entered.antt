@@ -1,8 +1,8 @@
 -- A router goes on with an entry that tells nothing, at which statements are given up, and clients are called.
-use Rattle.std.specs.Prelude.{◌≡◌, ◌+◌, ◌||◌, ◌&&◌, not, ℕ, suc, Bool, true, false, All, cond, is_some, nat_le, if◌then◌else◌, length, List, [], ◌∷◌, Option, Some, None}
+use Rattle.std.specs.Prelude.{◌≡◌, ◌⊎◌, ◌+◌, ◌||◌, ◌&&◌, not, ℕ, suc, Bool, true, false, All, cond, is_some, nat_le, if◌then◌else◌, length, List, [], ◌∷◌, Option, Some, None}
 use Rattle.std.specs.List.{flat_map}
 use Rattle.std.specs.Option.{option_map, option_map_or}
-use Rattle.std.proofs.Common.{refl, sym, ap, ◌∙◌, subst, arith, inl}
+use Rattle.std.proofs.Common.{refl, sym, ap, ◌∙◌, subst, arith, inl, inr}
 use Rattle.std.proofs.lemmas.Bool.{and_right, leb-false, leb-true, true≢false}
 use Rattle.std.proofs.lemmas.List.Elements.{All-weaker}
 use Rattle.mx_base.specs.declared.names.LinkId.{LinkId}
@@ -10,7 +10,7 @@ use Rattle.mx_wire.specs.Log.{Log, is_link, is_open, link_of, open_step, wrote_b
 use Rattle.mx_wire.specs.Moments.{AllLawful}
 use Rattle.mx_wire.specs.Tells.{MayFollow}
 use Rattle.mx_wire.specs.declared.entry.Entry.{Entry}
-use Rattle.client_session.specs.Setups.{Setup as Service}
+use Rattle.client_session.specs.Setups.{Setup as Serving}
 use Rattle.private_model.specs.Names.{ClientNo}
 use Rattle.private_model.specs.View.{Setup}
 use Rattle.link_laws.specs.Stands.{Codes}
@@ -22,7 +22,7 @@ use Rattle.log_story.specs.Tale as tales
 use Rattle.log_story.specs.Tale.{Tale, counted, is_to_server}
 use Rattle.log_story.specs.Telling.{tale_step, told}
 use Rattle.step_laws.specs.Freed.{Ascend, NoneDone}
-use Rattle.step_laws.specs.Seats.{IsSeated}
+use Rattle.step_laws.specs.Seats.{IsSeated, seats}
 use Rattle.step_laws.specs.Steps.{ends_now}
 use Rattle.step_laws.specs.Taken.{GivesUpNone, IsPassed, is_called as is_called_by}
 use Rattle.tale_world.specs.Decided.{Decided}
@@ -46,33 +46,45 @@ use Rattle.core_laws.proofs.OfClients.Keeping.{keeps_all_freed, keeps_along, kee
 use Rattle.core_laws.specs.clients.Chosen.{PlanHas}
 use Rattle.core_laws.specs.clients.Keeps.{KeepsRows}
 use Rattle.core_laws.specs.clients.Turns.{Rests as Resting, count_by}
+use Rattle.router_laws.proofs.OfClients.Continuing.{all_were}
 use Rattle.router_laws.proofs.OfClients.Duing.{moment_more, written_with}
 use Rattle.router_laws.proofs.OfClients.Entering.{heard_always, off_spoken}
 use Rattle.router_laws.proofs.OfClients.LetIn.{let_in_then}
 use Rattle.router_laws.specs.clients.Behind.{IsDueBehind, IsOffServers}
-use Rattle.router_laws.specs.clients.Continues.{HasCome, IsContinued, is_read_on}
+use Rattle.router_laws.specs.clients.Continues.{HasCome, IsContinued, WasThere, is_read_on}
 use Rattle.router_laws.specs.clients.Plans.{over_by}
+use Rattle.router_laws.proofs.OfDecisions.AskedOn.{TurnsAsk, asked_on}
 use Rattle.router_laws.proofs.OfDecisions.Gathering.{all_kept, all_silent, over_then}
 use Rattle.router_laws.proofs.OfDecisions.Keeping.{recorded_then}
 use Rattle.router_laws.proofs.OfDecisions.Listing.{open_with}
 use Rattle.router_laws.proofs.OfDecisions.Router.{router_goes_on, stood_before}
+use Rattle.query_rules.specs.Passing.{rules_of}
+use Rattle.query_rules.specs.declared.rule.Rule.{Rule}
+use Rattle.core_service.specs.declared.service.Service.{Service}
+use Rattle.router_laws.proofs.OfDecisions.Speaking.{ours_alone}
+use Rattle.router_laws.proofs.OfWakes.Saying.{ours_of_calls}
+use Rattle.router_laws.specs.decisions.Speaks.{AreOurs, IsGivenOurs}
 use Rattle.router_laws.proofs.OfDecisions.Tallying.{counts_then}
 use Rattle.router_laws.proofs.OfDecisions.Working.{none_replied, ungiven}
+use Rattle.router_laws.specs.decisions.Asks.{AskedFrom, AsksThen}
 use Rattle.router_laws.specs.decisions.Counting.{BeginsSo}
 use Rattle.router_laws.specs.decisions.Deeds as deeds
 use Rattle.router_laws.specs.decisions.Deeds.{AreAlone, Deeds, counts_with, decided_with, ends_in, known_with, taken_by, word_of}
 use Rattle.router_laws.specs.decisions.Goings.{end_of}
 use Rattle.router_laws.specs.decisions.Plans.{HasDeeds, PlansSo}
-use Rattle.router_laws.specs.decisions.Routers.{AreOpenJust, GoesSo, IsBefore, IsRouter}
+use Rattle.router_laws.specs.decisions.Routers.{AreOpenJust, GoesSo, IsBefore, IsRouter, WaitsThen}
+use Rattle.router_laws.specs.decisions.Rulings.{AreRuledAll}
+use Rattle.router_laws.proofs.OfReading.Asked.{one_seated}
+use Rattle.router_laws.proofs.OfWakes.Asked.{asked_of}
 use Rattle.router_laws.proofs.OfWakes.Called.{Frees, IsCalling, IsCounted, counts, keeps_seats, rests_behind, runless}
 use Rattle.router_laws.specs.reading.Hearing.{TellsFor}
 use Rattle.router_laws.proofs.OfWakes.Aligned.{called_of}
 use Rattle.router_laws.proofs.OfWakes.Callers.{IsCaller}
-use Rattle.router_laws.proofs.OfWakes.Fated.{all_found, are_alone, ends_same, none_found, parted_by, said_behind}
+use Rattle.router_laws.proofs.OfWakes.Fated.{all_found, ends_same, none_found, parted_by, said_behind}
 use Rattle.router_laws.proofs.OfWakes.Given.{all_given, all_unsent, given_rests, some_given}
 use Rattle.router_laws.proofs.OfWakes.Going.{Laws}
 use Rattle.router_laws.specs.wakes.Calling.{AllGoOn, Caller, CallsSo, GivesUpAll, IsThere, IsUnsent, is_called, is_given}
-use Rattle.router_laws.specs.wakes.Deciding.{AreAloneAll, calls_deeds, found_in, payload_in}
+use Rattle.router_laws.specs.wakes.Deciding.{IsCallerOurs, calls_deeds, found_in, payload_in}
 use Rattle.core_laws.specs.clients.Going.{GivenUp}
 
 -- The entry tells nothing, and is of no link.
@@ -88,7 +100,7 @@ pub record IsOfNoLink (e : Entry) : Type 0 where
   pub opens : (was : Bool) → open_step was e ≡ was
 
 -- What is known of the tables' standing.
-pub record Knows (service : Service) : Type 0 where
+pub record Knows (service : Serving) : Type 0 where
   pub laws : Laws
   pub frees : Frees
   pub testing : Testing service
@@ -118,7 +130,7 @@ none_written l e none = by (is_link l (link_of e)) where
 
 -- No client and no link comes or goes.
 
-all_keep : (service : Service) (default : List ℕ) (callers : List Caller) (t now : Tabled) → AllGoOn callers service default t now → KeepsRows t now
+all_keep : (service : Serving) (default : List ℕ) (callers : List Caller) (t now : Tabled) → AllGoOn callers service default t now → KeepsRows t now
 all_keep service default [] t now same = keeps_same t t now (keeps_itself t) same
 all_keep service default (k ∷ ks) t now goes =
     keeps_along t goes.0 now
@@ -126,7 +138,7 @@ all_keep service default (k ∷ ks) t now goes =
     (part_keeps service default k.client k.parting goes.1.turned goes.0 goes.1.parts))
     (all_keep service default ks goes.0 now goes.2)
 
-calls_keep : (service : Service) (default : List ℕ) (callers : List Caller) (links : List LinkId) (t now : Tabled) → CallsSo service default callers links t now
+calls_keep : (service : Serving) (default : List ℕ) (callers : List Caller) (links : List LinkId) (t now : Tabled) → CallsSo service default callers links t now
     → KeepsRows t now
 calls_keep service default callers links t now so =
     keeps_along t so.turned now (all_keep service default callers t so.turned so.going)
@@ -143,12 +155,14 @@ given_keep given t late same = keeps_same t (given_up_in given t) late (record {
   numbers = λ l. refl;
 }) same
 
-module _ (service : Service) (knows : Knows service) (default : List ℕ) (log : Log) (e : Entry) (is_entry : IsOfNoLink e) (t mid now : Tabled)
-    (roomy room : ClientNo → Bool) (given : List GivenUp) (callers : List Caller) (links : List LinkId) (router : IsRouter service default log t roomy)
+module _ (service : Service) (knows : Knows service.setup) (log : Log) (e : Entry) (is_entry : IsOfNoLink e) (t mid now : Tabled)
+    (roomy room : ClientNo → Bool) (given : List GivenUp) (callers : List Caller) (links : List LinkId) (router : IsRouter service log t roomy)
     (may : MayFollow log e) (gives : GivesUpAll given t mid) (theirs : (c : ClientNo) → is_given given c ≡ true → is_called callers c ≡ true)
-    (so_calls : CallsSo service default callers links mid now) (alone : AreAloneAll callers)
-    (tells : All (λ (k : Caller). TellsFor k.parting service k.client) callers)
-    (called_so : (g : Ground) → Rests service g t roomy → PlansSo g log e (calls_deeds given callers) → AreCalled g e (is_called callers) roomy room) where
+    (so_calls : CallsSo service.setup service.default_schema callers links mid now) (given_ours : All IsGivenOurs given)
+    (ours : All (IsCallerOurs (rules_of service.rules)) callers) (waits : WaitsThen service log e router.core.decided) (asks : TurnsAsk)
+    (ruled : AreRuledAll (rules_of service.rules) callers service.setup service.default_schema mid so_calls.turned so_calls.going)
+    (tells : All (λ (k : Caller). TellsFor k.parting service.setup k.client) callers)
+    (called_so : (g : Ground) → Rests service.setup g t roomy → PlansSo g log e (calls_deeds given callers) → AreCalled g e (is_called callers) roomy room) where
   abbrev made : Deeds
   made = calls_deeds given callers
 
@@ -164,8 +178,11 @@ module _ (service : Service) (knows : Knows service) (default : List ℕ) (log :
   abbrev given_of : ClientNo → Option (List ℕ)
   given_of = payload_in given
 
+  all_ours : AreOurs (rules_of service.rules) made
+  all_ours = ours_of_calls (rules_of service.rules) given callers given_ours ours
+
   all_alone : AreAlone made
-  all_alone = are_alone callers alone
+  all_alone = ours_alone (rules_of service.rules) made all_ours
 
   -- who isn't called isn't given up
   none_given : (c : ClientNo) → called c ≡ false → is_some (given_of c) ≡ false
@@ -176,10 +193,10 @@ module _ (service : Service) (knows : Knows service) (default : List ℕ) (log :
 
   rows_kept : KeepsRows t now
   rows_kept =
-      keeps_along t mid now (given_keep given_of t mid (all_given given t mid gives)) (calls_keep service default callers links mid now so_calls)
+      keeps_along t mid now (given_keep given_of t mid (all_given given t mid gives)) (calls_keep service.setup service.default_schema callers links mid now so_calls)
 
   module _ (setup : Setup) (codes : Codes) (plan : Plan) (of : IsOf new (length (with_entry log e)) plan)
-      (fits : Fits setup codes plan default (tale_of setup plan (with_entry log e))) where
+      (fits : Fits setup codes plan service.default_schema (tale_of setup plan (with_entry log e))) where
     abbrev g : Ground
     g = ground setup codes plan d log
 
@@ -192,14 +209,14 @@ module _ (service : Service) (knows : Knows service) (default : List ℕ) (log :
     abbrev instant : ℕ
     instant = suc g.tale.moment
 
-    stood : IsBefore service default log e t roomy router made setup codes plan
-    stood = stood_before service default log e t roomy made setup codes plan router may of fits (heard_always setup plan log e)
+    stood : IsBefore service log e t roomy router made setup codes plan
+    stood = stood_before service log e t roomy made setup codes plan router may of fits (heard_always setup plan log e)
 
     given_up : AreGivenUp given_of (λ (l : LinkId). false) t
     given_up = knows.aside g t given_of stood.rests.stands (λ c payload is. all_unsent given t mid gives c (ap is_some is))
 
     so : PlansSo g log e made
-    so = stood.so (ungiven service g t given_of (λ (l : LinkId). false) stood.rests.stands given_up)
+    so = stood.so (ungiven service.setup g t given_of (λ (l : LinkId). false) stood.rests.stands given_up)
 
     is_called_so : AreCalled g e called roomy room
     is_called_so = called_so g stood.rests so
@@ -209,34 +226,34 @@ module _ (service : Service) (knows : Knows service) (default : List ℕ) (log :
     counted_so : AreCounted g given_of
     counted_so = All-weaker (HasDeeds g made) (λ (x : tales.Client). IsCountedAt g (given_of x.number) x) (λ x has. has.counted) g.tale.clients so.each
 
-    counts_at_once : Stands service (on g heard) (given_up_in given_of t)
+    counts_at_once : Stands service.setup (on g heard) (given_up_in given_of t)
     counts_at_once = knows.counting g t given_of stood.rests.stands given_up counted_so
 
-    stands_mid : Stands service (on g heard) mid
-    stands_mid = knows.laws.same service (on g heard) (given_up_in given_of t) mid counts_at_once (all_given given t mid gives)
+    stands_mid : Stands service.setup (on g heard) mid
+    stands_mid = knows.laws.same service.setup (on g heard) (given_up_in given_of t) mid counts_at_once (all_given given t mid gives)
 
     rested : NoneDone setup plan heard
-    rested = given_rests service knows.testing g t given_of stood.rests.stands counts_at_once stood.rests.rested
+    rested = given_rests service.setup knows.testing g t given_of stood.rests.stands counts_at_once stood.rests.rested
 
     -- By the plan.
 
     has_deeds : (x : tales.Client) → IsSeated g.tale x → HasDeeds g made x
     has_deeds x seated = seated_of (HasDeeds g made) g.tale x seated so.each
 
-    who : AreWhoTheySay setup plan default (tale_step setup plan g.tale e).clients
-    who = subst (λ (tale : Tale). AreWhoTheySay setup plan default tale.clients) (tale_more setup plan log e) fits.who
+    who : AreWhoTheySay setup plan service.default_schema (tale_step setup plan g.tale e).clients
+    who = subst (λ (tale : Tale). AreWhoTheySay setup plan service.default_schema tale.clients) (tale_more setup plan log e) fits.who
 
     abbrev IsFound : Caller → Type 0
-    IsFound k = (found_in callers k.client ≡ Some k) × TellsFor k.parting service k.client
+    IsFound k = (found_in callers k.client ≡ Some k) × TellsFor k.parting service.setup k.client
 
     caller_so : (k : Caller) → IsFound k → (x : tales.Client) → IsSeated g.tale x → x.number ≡ k.client → g.over x.number ≡ false
-        → IsCaller service default g k x
+        → IsCaller service.setup service.default_schema g k x
     caller_so k is x seated number going =
         let has : HasDeeds g made x = has_deeds x seated in
         let its : found_in callers x.number ≡ Some k = ap (found_in callers) number ∙ is.0 in
         record {
           number = number;
-          let_in = let_in_then g default e x stood.rests.stands.clients.counted who
+          let_in = let_in_then g service.default_schema e x stood.rests.stands.clients.counted who
               (subst (λ (tale : Tale). IsSeated tale x) (sym (is_entry.told_same setup plan g.tale)) seated);
           going = going;
           unrouted = so.nowhere x.number;
@@ -247,8 +264,8 @@ module _ (service : Service) (knows : Knows service) (default : List ℕ) (log :
               (option_map_or (λ (j : Caller). end_of j.parting) (its i) None)))
               ∙ ends_same k.halt k.parting;
           parted = λ tale by going_on stays.
-              parted_by service (record g { tale = tale; over = by }) x.number instant going_on (λ other. refl) k.halt stays k.parting
-              (subst (λ (c : ClientNo). TellsFor k.parting service c) (sym number) is.1)
+              parted_by service.setup (record g { tale = tale; over = by }) x.number instant going_on (λ other. refl) k.halt stays k.parting
+              (subst (λ (c : ClientNo). TellsFor k.parting service.setup c) (sym number) is.1)
               (has.word going
               ∙ ap (λ (o : Option Caller). deeds.said_at instant (deeds.ends_by (option_map_or (λ (j : Caller). j.halt) o Resting)
               (option_map_or (λ (j : Caller). end_of j.parting) o None))) its);
@@ -278,13 +295,13 @@ module _ (service : Service) (knows : Knows service) (default : List ℕ) (log :
     passed_by x goes false going = goes going
     passed_by x goes true gone = gone_passed x gone
 
-    calling : IsCalling service default g e callers over roomy room
+    calling : IsCalling service.setup service.default_schema g e callers over roomy room
     calling = record {
       told_same = is_entry.told_same setup plan g.tale;
       single = λ whose m route its routed. so.single m route routed;
       classes = fits.classes;
       plans = All-weaker IsFound
-          (λ (k : Caller). (x : tales.Client) → IsSeated g.tale x → x.number ≡ k.client → g.over x.number ≡ false → IsCaller service default g k x)
+          (λ (k : Caller). (x : tales.Client) → IsSeated g.tale x → x.number ≡ k.client → g.over x.number ≡ false → IsCaller service.setup service.default_schema g k x)
           caller_so callers (λ i k within. (all_found callers so_calls.in_order i k within, tells i k within));
       keeps = All-weaker (HasDeeds g made)
           (λ (x : tales.Client). called x.number ≡ false → GivesUpNone plan instant x) (λ x has other. has.keeps (none_given x.number other)) g.tale.clients so.each;
@@ -302,11 +319,11 @@ module _ (service : Service) (knows : Knows service) (default : List ℕ) (log :
     abbrev after : Ground
     after = behind g e over
 
-    rests_now : Rests service after now room
-    rests_now = rests_behind knows.laws knows.frees service default g t mid now roomy room over e callers links stood.rests calling stands_mid rested so_calls
+    rests_now : Rests service.setup after now room
+    rests_now = rests_behind knows.laws knows.frees service.setup service.default_schema g t mid now roomy room over e callers links stood.rests calling stands_mid rested so_calls
 
     runs_none : has_runs g.tale.story ≡ false → has_runs after.tale.story ≡ false
-    runs_none = runless knows.laws knows.frees service default g t mid now roomy room over e callers links stood.rests calling stands_mid rested so_calls
+    runs_none = runless knows.laws knows.frees service.setup service.default_schema g t mid now roomy room over e callers links stood.rests calling stands_mid rested so_calls
 
     -- What is due.
 
@@ -329,7 +346,7 @@ module _ (service : Service) (knows : Knows service) (default : List ℕ) (log :
       unread = λ client seated gone. is_entry.unread client.link;
       says = λ was client seated on ends going. said_last was client seated on going;
       there = λ client seated ends.
-          (calls_keep service default callers links mid now so_calls).clients client.number
+          (calls_keep service.setup service.default_schema callers links mid now so_calls).clients client.number
           ∙ called_of (λ (c : ClientNo). is_some (mid.clients c) ≡ true) client.number callers
           (All-weaker (λ (k : Caller). IsThere mid k.client) (λ (k : Caller). is_some (mid.clients k.client) ≡ true) (λ k there. ap is_some there.there) callers
           so_calls.there) (its_call client.number ends (called client.number) refl);
@@ -365,17 +382,17 @@ module _ (service : Service) (knows : Knows service) (default : List ℕ) (log :
         all_silent new (counts_with made router.counts log e) (with_entry log e) setup codes plan
         (recorded_then d router.counts log e made router.recorded all_alone) of
 
-    goes_on : GoesOn service setup codes plan log e d new t now roomy room
+    goes_on : GoesOn service.setup setup codes plan log e d new t now roomy room
     goes_on = record {
       heard = heard_always setup plan log e;
-      rests = λ rests. subst (λ (x : Ground). Rests service x now room) (sym as_behind) rests_now;
+      rests = λ rests. subst (λ (x : Ground). Rests service.setup x now room) (sym as_behind) rests_now;
       written = λ rests behind_it to.
           subst (λ (x : Ground). AreWrittenTo x (with_entry log e)) (sym as_behind)
-          (written_with service g t now roomy log e (ends_now plan instant) over stood.rests rests_now.stands
-          (all_kept g log e made so (none_replied service g t given_of (λ (l : LinkId). false) stood.rests.stands given_up))
+          (written_with service.setup g t now roomy log e (ends_now plan instant) over stood.rests rests_now.stands
+          (all_kept g log e made so (none_replied service.setup g t given_of (λ (l : LinkId). false) stood.rests.stands given_up))
           (over_then d router.counts log e made setup codes plan router.recorded of) due to);
       safe = λ rests behind_it to safe.
-          log_goes_on service setup codes plan new log e now safe (safely (runs_none safe.runless)) behind_it.stands silent to;
+          log_goes_on service.setup setup codes plan new log e now safe (safely (runs_none safe.runless)) behind_it.stands silent to;
     }
 
     -- What is counted.
@@ -400,18 +417,53 @@ module _ (service : Service) (knows : Knows service) (default : List ℕ) (log :
 
     takes_by : (x : tales.Client) → IsSeated after.tale x → (b : Bool) → called x.number ≡ b → x.taken ≡ taken_for (found_in callers x.number) x.number
     takes_by x seated true its =
-        taken_called x (counts knows.laws knows.frees service default g t mid now roomy room over e callers links stood.rests calling stands_mid rested so_calls x seated its)
+        taken_called x (counts knows.laws knows.frees service.setup service.default_schema g t mid now roomy room over e callers links stood.rests calling stands_mid rested so_calls x seated its)
     takes_by x seated false other =
         taken_other x
-        (sym (keeps_seats knows.laws knows.frees service default g t mid now roomy room over e callers links stood.rests calling stands_mid rested so_calls x.number other)
+        (sym (keeps_seats knows.laws knows.frees service.setup service.default_schema g t mid now roomy room over e callers links stood.rests calling stands_mid rested so_calls x.number other)
         ∙ seated) other
 
-    goes_so : GoesSo service setup codes plan log e d router.counts made t now roomy room
+    goes_so : GoesSo service.setup setup codes plan log e d router.counts made t now roomy room
     goes_so = record {
       goes = goes_on;
       counts = counts_then setup plan d router.counts log e made router.recorded stood.counts may (λ x seated. takes_by x seated (called x.number) refl)
           (is_entry.begins setup g.tale made);
     }
+
+    -- What is asked.
+
+    abbrev rules : List Rule
+    rules = rules_of service.rules
+
+    abbrev IsAskedBy : tales.Client → Option Caller → Type 0
+    IsAskedBy y o = AskedFrom rules plan y (router.counts.taken y.number) (option_map_or (λ (j : Caller). j.choices) o [])
+
+    asked_by : (y : tales.Client) → WasThere plan g.tale e y → (b : Bool) → called y.number ≡ b → IsAskedBy y (found_in callers y.number)
+    asked_by y was true its =
+        let at =
+        asked_of knows.laws knows.frees asks rules service.setup service.default_schema g t mid now roomy room over e callers links stood.rests calling
+        stands_mid rested so_calls ruled y.number its in
+        let same : at.x ≡ was.was =
+        one_seated at.x was.was (seats g.tale was.was.number) (sym at.seated ∙ ap (seats g.tale) (at.number ∙ was.continued.number)) was.seated in
+        subst (IsAskedBy y) (sym at.found)
+        (asked_on rules plan g.tale e was.was y was.continued (is_entry.unread was.was.link) (router.counts.taken y.number)
+        (taken_before was.was was.seated ∙ ap router.counts.taken (sym was.continued.number)) at.caller.choices
+        (subst (λ (z : tales.Client). AskedFrom rules plan z z.taken at.caller.choices) same at.asked))
+    asked_by y was false other = subst (IsAskedBy y) (sym (none_found callers y.number other)) tt
+
+    asked_there : (y : tales.Client) → WasThere plan g.tale e y ⊎ HasCome g.tale e y → IsAskedBy y (found_in callers y.number)
+    asked_there y (inl was) = asked_by y was (called y.number) refl
+    asked_there y (inr come) = absurd (is_entry.uncome g.tale y come)
+
+    asks_of : (y : tales.Client) → IsSeated (tale_of setup plan (with_entry log e)) y → IsAskedBy y (found_in callers y.number)
+    asks_of y seated =
+        asked_there y
+        (seated_of (λ (z : tales.Client). WasThere plan g.tale e z ⊎ HasCome g.tale e z) (tale_step setup plan g.tale e) y
+        (subst (λ (tale : Tale). IsSeated tale y) (tale_more setup plan log e) seated)
+        (all_were setup plan g.tale e stood.rests.stands.clients.counted))
+
+  asks_then : AsksThen service log e d router.counts made
+  asks_then setup codes plan of fits y seated = asks_of setup codes plan of fits y seated
 
   -- no link opens or closes
 
@@ -424,5 +476,5 @@ module _ (service : Service) (knows : Knows service) (default : List ℕ) (log :
       open_with log e l ∙ open_by l (is_link l (link_of e)) ∙ router.open_just l
       ∙ sym (λ i. rows_kept.links l i || is_some (rows_kept.numbers l i))
 
-  pub calls_router : IsRouter service default (with_entry log e) now room
-  calls_router = router_goes_on service default log e made t now roomy room router may all_alone goes_so open_same
+  pub calls_router : IsRouter service (with_entry log e) now room
+  calls_router = router_goes_on service log e made t now roomy room router may all_ours waits asks_then goes_so open_same

@@ -19,7 +19,7 @@ use Rattle.router_laws.specs.decisions.Deeds as deeds
 use Rattle.router_laws.specs.decisions.Goings.{end_of}
 use Rattle.router_laws.specs.reading.Hearing.{TellsFor}
 use Rattle.router_laws.specs.wakes.Calling.{AreInOrder, Caller, is_called}
-use Rattle.router_laws.specs.wakes.Deciding.{AreAloneAll, found_in}
+use Rattle.router_laws.specs.wakes.Deciding.{found_in}
 
 -- Each is found.
 
@@ -96,18 +96,3 @@ parted_by service g c now going looked Rests stays (Tells payload) tells is =
     tells g now going looked is
 parted_by service g c now going looked Quits stays parting tells is = absurd (true≢false stays)
 parted_by service g c now going looked Ends stays parting tells is = absurd (true≢false stays)
-
--- No copies are made.
-
-alone_by : (b : Bool) (k : Caller) (ks : List Caller) (c : ClientNo) → All IsAlone k.choices
-    → All IsAlone (option_map_or (λ (j : Caller). j.choices) (found_in ks c) [])
-    → All IsAlone (option_map_or (λ (j : Caller). j.choices) (if b then Some k else found_in ks c) [])
-alone_by true k ks c alone others = alone
-alone_by false k ks c alone others = others
-
-pub are_alone : (callers : List Caller) → AreAloneAll callers → (c : ClientNo)
-    → All IsAlone (option_map_or (λ (k : Caller). k.choices) (found_in callers c) [])
-are_alone [] alone c = All-nil IsAlone
-are_alone (k ∷ ks) alone c =
-    alone_by (is_client c k.client) k ks c (All-head (λ (j : Caller). All IsAlone j.choices) k ks alone)
-    (are_alone ks (All-tail (λ (j : Caller). All IsAlone j.choices) k ks alone) c)

@@ -105,7 +105,7 @@ module _ (laws : Laws) (service : Service) (default : List ℕ) (h : Ground) (lo
   abbrev ends : Bool
   ends = ends_by caller.halt caller.parting
 
-  turning : IsTurning service default client early at_first t client
+  pub turning : IsTurning service default client early at_first t client
   turning = record {
     taking = taking_begins service at_first t client stands is.seated;
     classes = is.classes;

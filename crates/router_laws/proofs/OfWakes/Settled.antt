@@ -4,7 +4,8 @@ use Rattle.std.specs.Option.{option_map}
 use Rattle.std.proofs.Common.{refl, sym, ap, ◌∙◌}
 use Rattle.std.proofs.lemmas.Bool.{and_parts, false≢true, true≢false}
 use Rattle.mx_wire.specs.Log.{Log}
-use Rattle.client_session.specs.Setups.{Setup as Service}
+use Rattle.core_service.specs.declared.service.Service.{Service}
+use Rattle.client_session.specs.Setups.{Setup as Serving}
 use Rattle.private_model.proofs.Maps.{link_of}
 use Rattle.private_model.specs.Commands.{Command, InitDb, Query, SetId}
 use Rattle.private_model.specs.Names.{ClientNo, LinkId, SessionName}
@@ -65,20 +66,20 @@ settles_one step t now by = record { steps = step ∷ []; path = (now, by, same_
 -- What the laws of what stands next say.
 
 pub record Laws : Type 0 where
-  pub same : (service : Service) (g : Ground) (t other : Tabled) → Stands service g t → IsSame other t → Stands service g other
+  pub same : (service : Serving) (g : Ground) (t other : Tabled) → Stands service g t → IsSame other t → Stands service g other
   pub rows : RowsStay
-  pub back : (service : Service) (g : Ground) (t after : Tabled) (l : LinkId) → Stands service g t → IsSame after (next_back l t) → Stands service g after
-  pub text : (service : Service) (g : Ground) (t after : Tabled) (l : LinkId) (server : Server) (n : SessionName) (client : Client) (work : Work)
+  pub back : (service : Serving) (g : Ground) (t after : Tabled) (l : LinkId) → Stands service g t → IsSame after (next_back l t) → Stands service g after
+  pub text : (service : Serving) (g : Ground) (t after : Tabled) (l : LinkId) (server : Server) (n : SessionName) (client : Client) (work : Work)
       → Stands service g t → IsOpen g t l server → t.clients n.client ≡ Some client → client.desk.work ≡ Some work → work.sent ≡ false
       → n ≡ name_of client.desk work.hostgroup → IsSame after (text_begun l n t) → Stands service g after
-  pub step : (service : Service) (g : Ground) (t after : Tabled) (l : LinkId) (server : Server) (purpose : Purpose) (wish : Wish) (command : Command)
+  pub step : (service : Serving) (g : Ground) (t after : Tabled) (l : LinkId) (server : Server) (purpose : Purpose) (wish : Wish) (command : Command)
       → Stands service g t → IsOpen g t l server → AreClasses g.setup.reads → IsStepFor purpose → IsWished wish command
       → IsSame after (step_begun l purpose wish t) → Stands service g after
-  pub captures : (service : Service) (g : Ground) (t after : Tabled) (l : LinkId) (server : Server) (n : SessionName) → Stands service g t
+  pub captures : (service : Serving) (g : Ground) (t after : Tabled) (l : LinkId) (server : Server) (n : SessionName) → Stands service g t
       → IsOpen g t l server → IsSame after (capture_begun l n t) → Stands service g after
-  pub ends : (service : Service) (g : Ground) (t after : Tabled) (l : LinkId) (server : Server) (n : SessionName) → Stands service g t
+  pub ends : (service : Serving) (g : Ground) (t after : Tabled) (l : LinkId) (server : Server) (n : SessionName) → Stands service g t
       → IsOpen g t l server → IsSame after (end_begun l n t) → Stands service g after
-  pub quits : (service : Service) (g : Ground) (t after : Tabled) (l : LinkId) (server : Server) → Stands service g t → IsOpen g t l server
+  pub quits : (service : Serving) (g : Ground) (t after : Tabled) (l : LinkId) (server : Server) → Stands service g t → IsOpen g t l server
       → IsSame after (quit_begun l t) → Stands service g after
 
 -- Where something may begin by the row, the link is logged in.
@@ -92,7 +93,7 @@ not_false : (b : Bool) → not b ≡ true → b ≡ false
 not_false true is = absurd (false≢true is)
 not_false false is = refl
 
-module _ (service : Service) (g : Ground) (t : Tabled) (l : LinkId) (stands : Stands service g t) (may : MayBegin l t) where
+module _ (service : Serving) (g : Ground) (t : Tabled) (l : LinkId) (stands : Stands service g t) (may : MayBegin l t) where
   abbrev row : Row
   row = may.server.row
 
@@ -128,7 +129,7 @@ commanded wishes.Statement by = absurd by
 commanded (wishes.Closes number) by = absurd by
 commanded (wishes.Resets number) by = absurd by
 
-module _ (laws : Laws) (service : Service) (g : Ground) (classes : AreClasses g.setup.reads) where
+module _ (laws : Laws) (service : Serving) (g : Ground) (classes : AreClasses g.setup.reads) where
   settles_step : (step : Settling) (t : Tabled) → MaySettle step t → Stands service g t → Stands service g (settled step t)
   settles_step Stays t may is = is
   settles_step (Notes c note) t may is = stands_aside g t (settled (Notes c note) t) (noted_aside c note t) laws.rows service is
@@ -249,7 +250,7 @@ open_settled log t now by opened l there =
     let rows = rows_settled by.steps t now by.path in
     (λ i. rows.links l i || is_some (rows.numbers l i)) ∙ opened l there
 
-pub core_settled : (laws : Laws) (service : Service) (default : List ℕ) (log : Log) (t now : Tabled) (roomy : ClientNo → Bool)
+pub core_settled : (laws : Laws) (service : Serving) (default : List ℕ) (log : Log) (t now : Tabled) (roomy : ClientNo → Bool)
     → IsCore service default log t roomy → Settles t now → IsCore service default log now roomy
 core_settled laws service default log t now roomy core by = record {
   decided = core.decided;
@@ -265,14 +266,17 @@ just_settled log t now by just l =
     let rows = rows_settled by.steps t now by.path in
     just l ∙ sym (λ i. rows.links l i || is_some (rows.numbers l i))
 
-pub router_settled : (laws : Laws) (service : Service) (default : List ℕ) (log : Log) (t now : Tabled) (roomy : ClientNo → Bool)
-    → IsRouter service default log t roomy → Settles t now → IsRouter service default log now roomy
+pub router_settled : (laws : Laws) (service : Service) (log : Log) (t now : Tabled) (roomy : ClientNo → Bool)
+    → IsRouter service log t roomy → Settles t now → IsRouter service log now roomy
 unfolding core_settled
-router_settled laws service default log t now roomy router by = record {
-  core = core_settled laws service default log t now roomy router.core by;
+router_settled laws service log t now roomy router by = record {
+  core = core_settled laws service.setup service.default_schema log t now roomy router.core by;
   counts = router.counts;
   recorded = router.recorded;
   counted = router.counted;
   lawful = router.lawful;
   open_just = just_settled log t now by router.open_just;
+  spoken = router.spoken;
+  waited = router.waited;
+  asked = router.asked;
 }

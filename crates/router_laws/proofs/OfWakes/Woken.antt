@@ -10,7 +10,8 @@ use Rattle.mx_wire.specs.Log.{Log}
 use Rattle.mx_wire.specs.Tells.{MayFollow}
 use Rattle.mx_wire.specs.declared.entry.Entry.{Entry}
 use Rattle.mx_wire.specs.declared.entry.Entry.TheVariants.{OpenFailed, Woke}
-use Rattle.client_session.specs.Setups.{Setup as Service}
+use Rattle.core_service.specs.declared.service.Service.{Service}
+use Rattle.client_session.specs.Setups.{Setup as Serving}
 use Rattle.private_model.specs.Names.{ClientNo, LinkId}
 use Rattle.log_story.specs.Owed.{name_of}
 use Rattle.log_story.specs.Plan.{gives_up, is_before}
@@ -28,13 +29,17 @@ use Rattle.core_stands.specs.Grounds.{Ground, view_on}
 use Rattle.core_stands.specs.Stands.{IsAt, IsCalm, Rests}
 use Rattle.core_laws.specs.entry.Cores.{with_entry}
 use Rattle.core_laws.specs.clients.Going.{GivenUp}
+use Rattle.query_rules.specs.Passing.{rules_of}
 use Rattle.router_laws.specs.decisions.Plans.{HasDeeds, PlansSo}
-use Rattle.router_laws.specs.decisions.Routers.{IsRouter}
+use Rattle.router_laws.specs.decisions.Routers.{IsRouter, WaitsThen}
+use Rattle.router_laws.specs.decisions.Rulings.{AreRuledAll}
+use Rattle.router_laws.specs.decisions.Speaks.{IsGivenOurs}
 use Rattle.router_laws.specs.reading.Hearing.{TellsFor}
+use Rattle.router_laws.proofs.OfDecisions.AskedOn.{TurnsAsk}
 use Rattle.router_laws.proofs.OfWakes.Entered.{AreCalled, IsOfNoLink, Knows, before_by, calls_router}
 use Rattle.router_laws.proofs.OfWakes.Given.{all_given, some_given}
 use Rattle.router_laws.specs.wakes.Calling.{Caller, is_called, is_given}
-use Rattle.router_laws.specs.wakes.Deciding.{AreAloneAll, calls_deeds, payload_in}
+use Rattle.router_laws.specs.wakes.Deciding.{IsCallerOurs, calls_deeds, payload_in}
 use Rattle.router_laws.specs.wakes.Waking.{FailsSo, WakesSo}
 
 woke_tells : (until_ms now_ms : ℕ) → IsOfNoLink (Woke until_ms now_ms)
@@ -63,7 +68,7 @@ fails_tells server address = record {
   opens = λ was. refl;
 }
 
-module _ (service : Service) (given : List GivenUp) (callers : List Caller) (log : Log) (e : Entry) (t : Tabled) (roomy : ClientNo → Bool)
+module _ (service : Serving) (given : List GivenUp) (callers : List Caller) (log : Log) (e : Entry) (t : Tabled) (roomy : ClientNo → Bool)
     (theirs : (c : ClientNo) → is_given given c ≡ true → is_called callers c ≡ true) (g : Ground) (rests : Rests service g t roomy)
     (so : PlansSo g log e (calls_deeds given callers)) where
   abbrev called : ClientNo → Bool
@@ -86,20 +91,20 @@ module _ (service : Service) (given : List GivenUp) (callers : List Caller) (log
 
 -- A wake.
 
-module _ (service : Service) (default : List ℕ) (given : List GivenUp) (callers : List Caller) (links : List LinkId) (log : Log) (until_ms now_ms : ℕ)
-    (t now : Tabled) (roomy room : ClientNo → Bool) (wakes : WakesSo service default given callers links roomy t now) where
+module _ (service : Service) (given : List GivenUp) (callers : List Caller) (links : List LinkId) (log : Log) (until_ms now_ms : ℕ)
+    (t now : Tabled) (roomy room : ClientNo → Bool) (wakes : WakesSo service.setup service.default_schema given callers links roomy t now) where
   abbrev e : Entry
   e = Woke until_ms now_ms
 
   abbrev those : ClientNo → Bool
   those = is_called callers
 
-  module _ (g : Ground) (rests : Rests service g t roomy) (so : PlansSo g log e (calls_deeds given callers)) where
+  module _ (g : Ground) (rests : Rests service.setup g t roomy) (so : PlansSo g log e (calls_deeds given callers)) where
     same_row : (c : ClientNo) → those c ≡ false → wakes.late.clients c ≡ t.clients c
     same_row c other =
         (all_given given t wakes.late wakes.gives).clients c
         ∙ ap (λ (payload : Option (List ℕ)). option_map (given_row payload) (t.clients c))
-        (none_of (payload_in given c) (none_given service given callers log e t roomy wakes.all_given g rests so c other))
+        (none_of (payload_in given c) (none_given service.setup given callers log e t roomy wakes.all_given g rests so c other))
         ∙ nothing (t.clients c)
       where
         none_of : (found : Option (List ℕ)) → is_some found ≡ false → found ≡ None
@@ -132,14 +137,14 @@ module _ (service : Service) (default : List ℕ) (given : List GivenUp) (caller
         → IsPassed g.setup g.plan (view_on g) e (counted g.tale) x
     woke_idle x is other going =
         inr (idle_by g.setup g.plan x g.tale (counted g.tale)
-        (counted_apart g.setup g.plan x g.tale (keeps_of service given callers log e t roomy wakes.all_given g rests so x is.2 other)).up
+        (counted_apart g.setup g.plan x g.tale (keeps_of service.setup given callers log e t roomy wakes.all_given g rests so x is.2 other)).up
         (is.1 going (full x is.0 other going)))
 
     woke_called : AreCalled g e those roomy room
     woke_called = record {
       calls = All-weaker (HasDeeds g (calls_deeds given callers))
           (λ (x : tales.Client). g.over x.number ≡ false → those x.number ≡ true → is_called_by g.plan (suc g.tale.moment) (view_on g) e x ≡ true)
-          (λ x has going its. going_on service given callers log e t roomy wakes.all_given g rests so x going) g.tale.clients so.each;
+          (λ x has going its. going_on service.setup given callers log e t roomy wakes.all_given g rests so x going) g.tale.clients so.each;
       passes = All-weaker IsThere
           (λ (x : tales.Client). those x.number ≡ false → g.over x.number ≡ false → IsPassed g.setup g.plan (view_on g) e (counted g.tale) x) woke_idle
           g.tale.clients (λ i x within. (rests.stands.clients.each i x within, rests.calm i x within, so.each i x within));
@@ -148,23 +153,25 @@ module _ (service : Service) (default : List ℕ) (given : List GivenUp) (caller
           (λ x at other going none. full x at other going) g.tale.clients rests.stands.clients.each;
     }
 
-  pub woke_router : Knows service → IsRouter service default log t roomy → MayFollow log e → AreAloneAll callers
-      → All (λ (k : Caller). TellsFor k.parting service k.client) callers → IsRouter service default (with_entry log e) now room
-  woke_router knows router may alone tells =
-      calls_router service knows default log e (woke_tells until_ms now_ms) t wakes.late now roomy room given callers links router may wakes.gives wakes.all_given
-      wakes.calls alone tells woke_called
+  pub woke_router : Knows service.setup → (router : IsRouter service log t roomy) → MayFollow log e → All IsGivenOurs given
+      → All (IsCallerOurs (rules_of service.rules)) callers → WaitsThen service log e router.core.decided → TurnsAsk
+      → AreRuledAll (rules_of service.rules) callers service.setup service.default_schema wakes.late wakes.calls.turned wakes.calls.going
+      → All (λ (k : Caller). TellsFor k.parting service.setup k.client) callers → IsRouter service (with_entry log e) now room
+  woke_router knows router may given_ours ours waits asks ruled tells =
+      calls_router service knows log e (woke_tells until_ms now_ms) t wakes.late now roomy room given callers links router may wakes.gives wakes.all_given
+      wakes.calls given_ours ours waits asks ruled tells woke_called
 
 -- An open that failed.
 
-module _ (service : Service) (default : List ℕ) (given : List GivenUp) (callers : List Caller) (links : List LinkId) (log : Log) (server : ServerId)
-    (address : Address) (t now : Tabled) (roomy : ClientNo → Bool) (fails : FailsSo service default given callers links t now) where
+module _ (service : Service) (given : List GivenUp) (callers : List Caller) (links : List LinkId) (log : Log) (server : ServerId)
+    (address : Address) (t now : Tabled) (roomy : ClientNo → Bool) (fails : FailsSo service.setup service.default_schema given callers links t now) where
   abbrev failed : Entry
   failed = OpenFailed server address
 
   abbrev ones : ClientNo → Bool
   ones = is_called callers
 
-  module _ (g : Ground) (rests : Rests service g t roomy) (so : PlansSo g log failed (calls_deeds given callers)) where
+  module _ (g : Ground) (rests : Rests service.setup g t roomy) (so : PlansSo g log failed (calls_deeds given callers)) where
     abbrev instant : ℕ
     instant = suc g.tale.moment
 
@@ -175,13 +182,13 @@ module _ (service : Service) (default : List ℕ) (given : List GivenUp) (caller
         → is_called_by g.plan instant (view_on g) failed x ≡ true
     calls_by x has going its =
         ap (λ (b : Bool). b && not (is_before instant (g.plan.ends x.number))) (has.gives (some_given given x.number ∙ fails.none_else x.number its))
-        ∙ going_on service given callers log failed t roomy fails.all_given g rests so x going
+        ∙ going_on service.setup given callers log failed t roomy fails.all_given g rests so x going
 
     passes_by : (x : tales.Client) → HasDeeds g (calls_deeds given callers) x → ones x.number ≡ false
         → IsPassed g.setup g.plan (view_on g) failed (counted g.tale) x
     passes_by x has other =
         inl (and_left (given_up x) (not (is_before instant (g.plan.ends x.number)))
-        (keeps_of service given callers log failed t roomy fails.all_given g rests so x has other x.taken (omega arith)))
+        (keeps_of service.setup given callers log failed t roomy fails.all_given g rests so x has other x.taken (omega arith)))
 
     fails_called : AreCalled g failed ones roomy roomy
     fails_called = record {
@@ -194,8 +201,10 @@ module _ (service : Service) (default : List ℕ) (given : List GivenUp) (caller
       rooms = λ i x within. λ other going none. none;
     }
 
-  pub fails_router : Knows service → IsRouter service default log t roomy → MayFollow log failed → AreAloneAll callers
-      → All (λ (k : Caller). TellsFor k.parting service k.client) callers → IsRouter service default (with_entry log failed) now roomy
-  fails_router knows router may alone tells =
-      calls_router service knows default log failed (fails_tells server address) t fails.late now roomy roomy given callers links router may fails.gives
-      fails.all_given fails.calls alone tells fails_called
+  pub fails_router : Knows service.setup → IsRouter service log t roomy → MayFollow log failed → All IsGivenOurs given
+      → All (IsCallerOurs (rules_of service.rules)) callers → TurnsAsk
+      → AreRuledAll (rules_of service.rules) callers service.setup service.default_schema fails.late fails.calls.turned fails.calls.going
+      → All (λ (k : Caller). TellsFor k.parting service.setup k.client) callers → IsRouter service (with_entry log failed) now roomy
+  fails_router knows router may given_ours ours asks ruled tells =
+      calls_router service knows log failed (fails_tells server address) t fails.late now roomy roomy given callers links router may fails.gives
+      fails.all_given fails.calls given_ours ours (λ terms codes of fits. tt) asks ruled tells fails_called

@@ -4,7 +4,8 @@ use Rattle.mx_wire.specs.Log.{Log, is_open}
 use Rattle.mx_wire.specs.Moments.{AllLawful}
 use Rattle.mx_wire.specs.Tells.{MayFollow}
 use Rattle.mx_wire.specs.declared.entry.Entry.{Entry}
-use Rattle.client_session.specs.Setups.{Setup as Service}
+use Rattle.core_service.specs.declared.service.Service.{Service}
+use Rattle.client_session.specs.Setups.{Setup as Serving}
 use Rattle.private_model.specs.Names.{ClientNo, LinkId}
 use Rattle.private_model.specs.View.{Setup}
 use Rattle.link_laws.specs.Stands.{Codes}
@@ -18,6 +19,11 @@ use Rattle.core_laws.specs.entry.Dues.{AreWrittenTo}
 use Rattle.core_laws.specs.entry.Safe.{IsSafe}
 use Rattle.core_laws.specs.entry.Tells.{Fits, IsCore, IsOf, ground}
 use Rattle.router_laws.specs.decisions.Deeds.{Counts, Deeds, counts_with, decided_with}
+use Rattle.query_rules.specs.Passing.{rules_of}
+use Rattle.router_promises.specs.Terms.{Terms, plan_in, setup_in}
+use Rattle.core_promises.specs.Waits.{AreDoneBy, WaitsSo}
+use Rattle.core_promises.specs.Asks.{AsksBy}
+use Rattle.router_laws.specs.decisions.Speaks.{DecidesOwn}
 use Rattle.router_laws.specs.decisions.Plans.{AreUngiven, PlansSo}
 use Rattle.router_laws.specs.decisions.Records.{AreCountsBy, AreCountsOf, IsRecorded}
 
@@ -25,33 +31,42 @@ use Rattle.router_laws.specs.decisions.Records.{AreCountsBy, AreCountsOf, IsReco
 abbrev pub AreOpenJust : Log → Tabled → Type 0
 AreOpenJust log t = (l : LinkId) → is_open l log ≡ (is_some (t.links l) || is_some (t.numbers l))
 
-pub record IsRouter (service : Service) (default : List ℕ) (log : Log) (t : Tabled) (roomy : ClientNo → Bool) : Type 0 where
-  pub core : IsCore service default log t roomy
+pub record IsRouter (service : Service) (log : Log) (t : Tabled) (roomy : ClientNo → Bool) : Type 0 where
+  pub core : IsCore service.setup service.default_schema log t roomy
   pub counts : Counts
   pub recorded : IsRecorded core.decided counts log
-  pub counted : AreCountsBy default core.decided counts log
+  pub counted : AreCountsBy service.default_schema core.decided counts log
   pub lawful : AllLawful MayFollow log
   pub open_just : AreOpenJust log t
+  pub spoken : DecidesOwn (rules_of service.rules) core.decided
+  pub waited : AreDoneBy service.default_schema core.decided log
+  pub asked : AsksBy (rules_of service.rules) service.default_schema core.decided log
+
+-- where the entry is a wait, all is done
+abbrev pub WaitsThen : Service → Log → Entry → Decided → Type 0
+WaitsThen service log e d =
+    (terms : Terms) (codes : Codes) → IsOf d (length log) (plan_in terms)
+    → Fits (setup_in terms) codes (plan_in terms) service.default_schema (tale_of (setup_in terms) (plan_in terms) log) → WaitsSo terms log e
 
 -- By one setup and plan the core goes on with an entry, and the counts of its deeds are those of the tale.
-pub record GoesSo (service : Service) (setup : Setup) (codes : Codes) (plan : Plan) (log : Log) (e : Entry) (d : Decided) (n : Counts) (deeds : Deeds)
+pub record GoesSo (service : Serving) (setup : Setup) (codes : Codes) (plan : Plan) (log : Log) (e : Entry) (d : Decided) (n : Counts) (deeds : Deeds)
     (t now : Tabled) (roomy room : ClientNo → Bool) : Type 0 where
   pub goes : GoesOn service setup codes plan log e d (decided_with deeds n log e d) t now roomy room
   pub counts : AreCountsOf (counts_with deeds n log e) (tale_of setup plan (with_entry log e))
 
 -- by each that has what is decided then, and fits
-abbrev pub GoesSoBy : Service → (default : List ℕ) → Log → Entry → Decided → Counts → Deeds → (t now : Tabled) → (roomy room : ClientNo → Bool) → Type 0
+abbrev pub GoesSoBy : Serving → (default : List ℕ) → Log → Entry → Decided → Counts → Deeds → (t now : Tabled) → (roomy room : ClientNo → Bool) → Type 0
 GoesSoBy service default log e d n deeds t now roomy room =
     (setup : Setup) (codes : Codes) (plan : Plan) → IsOf (decided_with deeds n log e d) (length (with_entry log e)) plan
     → Fits setup codes plan default (tale_of setup plan (with_entry log e))
     → GoesSo service setup codes plan log e d n deeds t now roomy room
 
 -- What there was before an entry, by one setup and plan of what is decided behind it; and the plan has its deeds.
-pub record IsBefore (service : Service) (default : List ℕ) (log : Log) (e : Entry) (t : Tabled) (roomy : ClientNo → Bool)
-    (router : IsRouter service default log t roomy) (deeds : Deeds) (setup : Setup) (codes : Codes) (plan : Plan) : Type 0 where
+pub record IsBefore (service : Service) (log : Log) (e : Entry) (t : Tabled) (roomy : ClientNo → Bool)
+    (router : IsRouter service log t roomy) (deeds : Deeds) (setup : Setup) (codes : Codes) (plan : Plan) : Type 0 where
   pub of : IsOf router.core.decided (length log) plan
-  pub fits : Fits setup codes plan default (tale_of setup plan log)
-  pub rests : Rests service (ground setup codes plan router.core.decided log) t roomy
+  pub fits : Fits setup codes plan service.default_schema (tale_of setup plan log)
+  pub rests : Rests service.setup (ground setup codes plan router.core.decided log) t roomy
   pub written : AreWrittenTo (ground setup codes plan router.core.decided log) log
   pub safe : IsSafe setup plan log
   pub counts : AreCountsOf router.counts (tale_of setup plan log)

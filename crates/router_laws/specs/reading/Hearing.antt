@@ -22,7 +22,7 @@ use Rattle.core_laws.specs.entry.Tells.{AreWhoTheySay}
 use Rattle.core_laws.specs.clients.Following.{StandTold}
 use Rattle.core_laws.specs.clients.Follows.{Parting, Tells}
 use Rattle.core_laws.specs.clients.Going.{GivenUp, Going}
-use Rattle.router_laws.specs.decisions.Deeds.{Deeds, IsAlone, taken_by}
+use Rattle.router_laws.specs.decisions.Deeds.{Deeds, taken_by}
 use Rattle.router_laws.specs.decisions.Goings.{deeds_of}
 use Rattle.router_laws.specs.decisions.Plans.{PlansSo}
 
@@ -43,11 +43,6 @@ TellsFor _ service c = Unit {0}
 abbrev pub TellsSo : Option Going → Service → Type 0
 TellsSo None service = Unit {0}
 TellsSo (Some going) service = TellsFor going.parting service going.client
-
--- No copies are made of its messages.
-abbrev pub AreAloneOf : Option Going → Type 0
-AreAloneOf None = Unit {0}
-AreAloneOf (Some going) = All IsAlone going.choices
 
 -- The setup fits, the plan has what is decided, and the log may go on with these bytes.
 pub record IsHearing (service : Service) (default : List ℕ) (g : Ground) (log : Log) (l : LinkId) (bytes : List ℕ) (given : Option GivenUp) (going : Option Going)

@@ -3,12 +3,14 @@ use Rattle.std.specs.Prelude.{◌≡◌, ℕ, false, List, Option, Some}
 use Rattle.std.specs.Option.{option_map}
 use Rattle.mx_base.specs.declared.names.LinkId.{LinkId}
 use Rattle.client_session.specs.Setups.{Setup as Service}
+use Rattle.query_rules.specs.declared.rule.Rule.{Rule}
 use Rattle.core_tables.specs.Hearing.{IsHeardOn}
 use Rattle.core_tables.specs.Parting.{freed_in, given_up_in, name_in}
 use Rattle.core_tables.specs.Tables.{IsSame, Tabled}
 use Rattle.core_tables.specs.declared.said.Said.{Said}
 use Rattle.core_tables.specs.declared.server.Server.{Server}
 use Rattle.core_laws.specs.clients.Going.{GivenUp, GoesSo, Going, IsCalled, told_to}
+use Rattle.router_laws.specs.decisions.Rulings.{IsRuledOn}
 use Rattle.router_laws.specs.reading.Givings.{MayGiveUp}
 
 -- The bytes are read at this moment; what is given up is; the link is given back, if it is done with its session; and who is called goes on.
@@ -26,3 +28,9 @@ pub record HearsSo (service : Service) (default : List ℕ) (l : LinkId) (bytes 
   pub frees : IsSame freed (freed_in l (given_up_in (told_to given) heard))
   pub called : IsCalled (name_in server.row.link.state.carries) given freed (option_map (λ (g : Going). g.client) going)
   pub goes : GoesSo going service default freed new
+
+-- And the turns of the client that goes on are ruled.
+pub record HearsRuled (rules : List Rule) (service : Service) (default : List ℕ) (l : LinkId) (bytes : List ℕ) (now : ℕ) (given : Option GivenUp)
+    (going : Option Going) (old new : Tabled) : Type 0 where
+  pub so : HearsSo service default l bytes now given going old new
+  pub ruled : IsRuledOn rules going service default so.freed new so.goes

@@ -3,7 +3,8 @@ use Rattle.std.specs.Prelude.{Bool, List, Option, ℕ}
 use Rattle.mx_wire.specs.Log.{Log}
 use Rattle.mx_wire.specs.declared.entry.Entry.{Entry}
 use Rattle.server_side.specs.Account.{Account as Login}
-use Rattle.client_session.specs.Setups.{Setup as Service}
+use Rattle.core_service.specs.declared.service.Service.{Service}
+use Rattle.client_session.specs.Setups.{Setup as Serving}
 use Rattle.private_model.specs.Names.{ClientNo}
 use Rattle.private_model.specs.View.{Setup}
 use Rattle.link_laws.specs.Stands.{Codes}
@@ -24,16 +25,16 @@ abbrev pub of_link : Option Login → Option (Option StepText) → Deeds
 of_link login begun = record no_deeds { login = login; begun = begun }
 
 -- By one setup and plan.
-pub record Enters (service : Service) (log : Log) (e : Entry) (d : Decided) (n : Counts) (deeds : Deeds) (t now : Tabled) (roomy room : ClientNo → Bool)
+pub record Enters (service : Serving) (log : Log) (e : Entry) (d : Decided) (n : Counts) (deeds : Deeds) (t now : Tabled) (roomy room : ClientNo → Bool)
     (setup : Setup) (codes : Codes) (plan : Plan) : Type 0 where
   pub goes : GoesOn service setup codes plan log e d (decided_with deeds n log e d) t now roomy room
   pub begins : BeginsSo setup (tale_of setup plan log) e deeds
 
 -- by each that has what is decided then, and fits
-abbrev pub EntersBy : (service : Service) (default : List ℕ) (log : Log) (e : Entry) (t now : Tabled) (roomy room : ClientNo → Bool)
-    → IsRouter service default log t roomy → Deeds → Type 0
-EntersBy service default log e t now roomy room router deeds =
-    (setup : Setup) (codes : Codes) (plan : Plan) → IsBefore service default log e t roomy router deeds setup codes plan
-    → FitsThen setup codes plan default log e → PlansSo (ground setup codes plan router.core.decided log) log e deeds
+abbrev pub EntersBy : (service : Service) (log : Log) (e : Entry) (t now : Tabled) (roomy room : ClientNo → Bool)
+    → IsRouter service log t roomy → Deeds → Type 0
+EntersBy service log e t now roomy room router deeds =
+    (setup : Setup) (codes : Codes) (plan : Plan) → IsBefore service log e t roomy router deeds setup codes plan
+    → FitsThen setup codes plan service.default_schema log e → PlansSo (ground setup codes plan router.core.decided log) log e deeds
     → IsDecided (ground setup codes plan router.core.decided log) nobody (over_by (decided_with deeds router.counts log e router.core.decided))
-    → Enters service log e router.core.decided router.counts deeds t now roomy room setup codes plan
+    → Enters service.setup log e router.core.decided router.counts deeds t now roomy room setup codes plan

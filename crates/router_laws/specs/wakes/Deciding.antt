@@ -1,12 +1,14 @@
 -- What is decided at an entry at which statements are given up, and clients are called.
 use Rattle.std.specs.Prelude.{if◌then◌else◌, All, List, [], ◌∷◌, Option, Some, None, ℕ}
 use Rattle.std.specs.Option.{option_map_or}
+use Rattle.query_rules.specs.declared.rule.Rule.{Rule}
 use Rattle.private_model.specs.Names.{ClientNo}
 use Rattle.private_model.specs.Story.{is_client}
 use Rattle.core_laws.specs.clients.Going.{GivenUp}
 use Rattle.core_laws.specs.clients.Turns.{Rests}
-use Rattle.router_laws.specs.decisions.Deeds.{Deeds, IsAlone}
+use Rattle.router_laws.specs.decisions.Deeds.{Deeds}
 use Rattle.router_laws.specs.decisions.Goings.{end_of}
+use Rattle.router_laws.specs.decisions.Speaks.{IsOurs, IsPartingOurs}
 use Rattle.router_laws.specs.wakes.Calling.{Caller}
 
 -- what a client is told in place of a reply
@@ -29,6 +31,7 @@ calls_deeds given callers = record {
   begun = None;
 }
 
--- no copies are made of their messages
-abbrev pub AreAloneAll : List Caller → Type 0
-AreAloneAll callers = All (λ (k : Caller). All IsAlone k.choices) callers
+-- what a caller is answered, and its last word, are the router's own
+pub record IsCallerOurs (rules : List Rule) (k : Caller) : Type 0 where
+  pub choices : All (IsOurs rules k.client) k.choices
+  pub parting : IsPartingOurs k.parting

@@ -14,8 +14,9 @@ ghost use Rattle.core_tables.specs.Tables.{Tabled};
 ghost use Rattle.core_laws.specs.entry.Safe.{IsSafe};
 ghost use Rattle.core_laws.specs.entry.Tells.{ground};
 ghost use Rattle.core_laws.specs.clients.Follows.{Parting};
-ghost use Rattle.core_laws.specs.clients.Turns.{Choice, Halt, count_by};
+ghost use Rattle.core_laws.specs.clients.Turns.{Choice, Halt};
 ghost use Rattle.router_laws.specs.clients.Counted.{GoesTaking};
+ghost use Rattle.router_laws.specs.clients.Finds.{GoesFinding};
 ghost use Rattle.router_laws.specs.clients.Leaves.{IsLossOf, LeavesAgain, LeavesAtOnce, LeavesGoing};
 ghost use Rattle.router_laws.specs.clients.Plans.{FitsThen, IsDecided, PlansEnd, PlansTurns, nobody, over_by};
 
@@ -56,9 +57,10 @@ pub fn leaves_going()
         (t now : Tabled) (roomy room : ClientNo → Bool) (link : LinkId) (c : ClientNo) (links : List LinkId) (ordinal : ℕ) (choices : List Choice)
         (halt : Halt) (parting : Parting) → FitsThen setup codes plan default log e → IsLossOf link e → IsSafe setup plan log
         → PlansTurns service (ground setup codes plan old log) log c ordinal choices halt parting (over_by new)
-        → LeavesGoing service default link links ordinal choices halt parting c t now
+        → (so : LeavesGoing service default link links ordinal choices halt parting c t now)
         → ((other : ClientNo) → is_client c other ≡ false → room other ≡ false → roomy other ≡ false)
-        → GoesTaking service setup codes plan log e old new t now roomy room c (count_by choices halt) }
+        → GoesFinding service default setup codes plan log e old new t now roomy room c ordinal choices halt
+        so.between so.follows.turned so.follows.turns }
 {
     core_laws::parting::left_stands();
     core_laws::parting::lawful_homes();
@@ -68,4 +70,5 @@ pub fn leaves_going()
     core_laws::entry::counts_alone();
     core_laws::entry::links_are_given_back();
     core_laws::clients::follows_rest();
+    core_laws::clients::follows_find();
 }

@@ -14,8 +14,8 @@ ghost use Rattle.core_tables.specs.Tables.{Tabled};
 ghost use Rattle.core_laws.specs.entry.Safe.{IsSafe};
 ghost use Rattle.core_laws.specs.entry.Tells.{ground};
 ghost use Rattle.core_laws.specs.clients.Follows.{Parting};
-ghost use Rattle.core_laws.specs.clients.Turns.{Choice, Halt, count_by};
-ghost use Rattle.router_laws.specs.clients.Counted.{GoesTaking};
+ghost use Rattle.core_laws.specs.clients.Turns.{Choice, Halt};
+ghost use Rattle.router_laws.specs.clients.Finds.{GoesFinding};
 ghost use Rattle.router_laws.specs.clients.Plans.{FitsThen, PlansTurns, over_by};
 ghost use Rattle.router_laws.specs.clients.Speaks.{SpeaksSo};
 
@@ -25,13 +25,15 @@ pub fn speaks_go()
         (roomy room : ClientNo → Bool) (link : LinkId) (bytes : List ℕ) (c : ClientNo) (ordinal : ℕ) (choices : List Choice) (halt : Halt)
         (parting : Parting) (links : List LinkId) → FitsThen setup codes plan default log (Got link bytes) → IsSafe setup plan log
         → PlansTurns service (ground setup codes plan old log) log c ordinal choices halt parting (over_by new)
-        → SpeaksSo service default link bytes c ordinal choices halt parting links t now
+        → (so : SpeaksSo service default link bytes c ordinal choices halt parting links t now)
         → ((other : ClientNo) → is_client c other ≡ false → room other ≡ false → roomy other ≡ false)
-        → GoesTaking service setup codes plan log (Got link bytes) old new t now roomy room c (count_by choices halt) }
+        → GoesFinding service default setup codes plan log (Got link bytes) old new t now roomy room c ordinal choices halt
+        so.heard so.follows.turned so.follows.turns }
 {
     core_laws::arrival::clients_speak();
     core_laws::entry::counts_alone();
     core_laws::entry::counts_rest();
     core_laws::entry::entries_of_a_speaker();
     core_laws::clients::follows_rest();
+    core_laws::clients::follows_find();
 }

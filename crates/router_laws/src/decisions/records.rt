@@ -1,13 +1,15 @@
 // What was decided by the entries of a log.
-ghost use Rattle.std.specs.Prelude.{◌≤◌, [], length};
+ghost use Rattle.std.specs.Prelude.{◌≤◌, List, [], length};
 ghost use Rattle.mx_wire.specs.Log.{Log};
 ghost use Rattle.mx_wire.specs.declared.entry.Entry.{Entry};
 ghost use Rattle.client_session.specs.Setups.{Setup as Service};
+ghost use Rattle.query_rules.specs.declared.rule.Rule.{Rule};
 ghost use Rattle.tale_world.specs.Decided.{Decided};
 ghost use Rattle.core_laws.specs.entry.Cores.{with_entry};
 ghost use Rattle.core_laws.specs.entry.Grows.{IsMoreBy};
 ghost use Rattle.router_laws.specs.decisions.Deeds.{AreAlone, Counts, Deeds, counts_with, decided_with, no_counts};
 ghost use Rattle.router_laws.specs.decisions.Records.{IsRecorded, first_deciding};
+ghost use Rattle.router_laws.specs.decisions.Speaks.{AreOurs, DecidesOwn};
 
 /// With an entry's deeds more is decided.
 pub fn decisions_are_more()
@@ -24,4 +26,10 @@ pub fn first_recorded()
 pub fn decisions_are_recorded()
     ensures { (d : Decided) (n : Counts) (log : Log) (e : Entry) (deeds : Deeds) → IsRecorded d n log → AreAlone deeds
         → IsRecorded (decided_with deeds n log e d) (counts_with deeds n log e) (with_entry log e) }
+{}
+
+/// With an entry's deeds what was decided to be said stays the router's own.
+pub fn speech_goes_on()
+    ensures { (rules : List Rule) (d : Decided) (n : Counts) (log : Log) (e : Entry) (deeds : Deeds) → DecidesOwn rules d → AreOurs rules deeds
+        → DecidesOwn rules (decided_with deeds n log e d) }
 {}

@@ -3,7 +3,7 @@ ghost use Rattle.std.specs.Prelude.{All, Bool, List, [], length, true, ℕ, ◌�
 ghost use Rattle.mx_wire.specs.Log.{Log};
 ghost use Rattle.mx_wire.specs.Tells.{MayFollow};
 ghost use Rattle.mx_wire.specs.declared.entry.Entry.{Entry};
-ghost use Rattle.client_session.specs.Setups.{Setup as Service};
+ghost use Rattle.core_service.specs.declared.service.Service.{Service};
 ghost use Rattle.private_model.specs.Names.{ClientNo};
 ghost use Rattle.private_model.specs.View.{Setup};
 ghost use Rattle.link_laws.specs.Stands.{Codes};
@@ -17,23 +17,28 @@ ghost use Rattle.core_stands.specs.Stands.{Rests};
 ghost use Rattle.core_laws.specs.entry.Cores.{with_entry};
 ghost use Rattle.core_laws.specs.entry.Grows.{IsHeardMore};
 ghost use Rattle.core_laws.specs.entry.Tells.{Fits, IsOf};
-ghost use Rattle.router_laws.specs.decisions.Deeds.{AreAlone, Counts, Deeds, decided_with};
+ghost use Rattle.router_laws.specs.decisions.Deeds.{Counts, Deeds, decided_with};
+ghost use Rattle.router_laws.specs.decisions.Asks.{AsksThen};
+ghost use Rattle.router_laws.specs.decisions.Speaks.{AreOurs};
+ghost use Rattle.query_rules.specs.Passing.{rules_of};
 ghost use Rattle.router_laws.specs.decisions.Records.{IsRecorded};
-ghost use Rattle.router_laws.specs.decisions.Routers.{AreOpenJust, GoesSoBy, IsBefore, IsRouter};
+ghost use Rattle.router_laws.specs.decisions.Routers.{AreOpenJust, GoesSoBy, IsBefore, IsRouter, WaitsThen};
 
 /// Empty tables are a router's of the empty log.
 pub fn first_router()
-    ensures { (service : Service) (default : List ℕ) (roomy : ClientNo → Bool) → IsRouter service default [] no_tables roomy }
+    ensures { (service : Service) (roomy : ClientNo → Bool) → IsRouter service [] no_tables roomy }
 {
     core_stands::first_stands();
 }
 
 /// A router goes on with an entry by its deeds.
 pub fn routers_go_on()
-    ensures { (service : Service) (default : List ℕ) (log : Log) (e : Entry) (deeds : Deeds) (t now : Tabled) (roomy room : ClientNo → Bool)
-        → (router : IsRouter service default log t roomy) → MayFollow log e → AreAlone deeds
-        → GoesSoBy service default log e router.core.decided router.counts deeds t now roomy room → AreOpenJust (with_entry log e) now
-        → IsRouter service default (with_entry log e) now room }
+    ensures { (service : Service) (log : Log) (e : Entry) (deeds : Deeds) (t now : Tabled) (roomy room : ClientNo → Bool)
+        → (router : IsRouter service log t roomy) → MayFollow log e
+        → AreOurs (rules_of service.rules) deeds → WaitsThen service log e router.core.decided
+        → AsksThen service log e router.core.decided router.counts deeds
+        → GoesSoBy service.setup service.default_schema log e router.core.decided router.counts deeds t now roomy room → AreOpenJust (with_entry log e) now
+        → IsRouter service (with_entry log e) now room }
 {}
 
 /// A plan that has what is decided behind an entry, and fits there, was one and fitted before, where all clients are there of which more was read.
@@ -47,23 +52,23 @@ pub fn routers_went()
 
 /// So it stood before an entry, by a plan that has what is decided behind it.
 pub fn routers_stood()
-    ensures { (service : Service) (default : List ℕ) (log : Log) (e : Entry) (t : Tabled) (roomy : ClientNo → Bool) (deeds : Deeds)
-        (setup : Setup) (codes : Codes) (plan : Plan) → (router : IsRouter service default log t roomy) → MayFollow log e
+    ensures { (service : Service) (log : Log) (e : Entry) (t : Tabled) (roomy : ClientNo → Bool) (deeds : Deeds)
+        (setup : Setup) (codes : Codes) (plan : Plan) → (router : IsRouter service log t roomy) → MayFollow log e
         → IsOf (decided_with deeds router.counts log e router.core.decided) (length (with_entry log e)) plan
-        → Fits setup codes plan default (tale_of setup plan (with_entry log e))
+        → Fits setup codes plan service.default_schema (tale_of setup plan (with_entry log e))
         → All (λ (client : Client). IsHeardMore (tale_of setup plan (with_entry log e)) client) (tale_of setup plan log).clients
-        → IsBefore service default log e t roomy router deeds setup codes plan }
+        → IsBefore service log e t roomy router deeds setup codes plan }
 {}
 
 /// Other tables that rest wherever these did are a router's of the same log.
 pub fn routers_change()
-    ensures { (service : Service) (default : List ℕ) (log : Log) (t now : Tabled) (roomy room : ClientNo → Bool)
-        → IsRouter service default log t roomy → ((g : Ground) → Rests service g t roomy → Rests service g now room) → AreOpenJust log now
-        → IsRouter service default log now room }
+    ensures { (service : Service) (log : Log) (t now : Tabled) (roomy room : ClientNo → Bool)
+        → IsRouter service log t roomy → ((g : Ground) → Rests service.setup g t roomy → Rests service.setup g now room) → AreOpenJust log now
+        → IsRouter service log now room }
 {}
 
 /// More clients may be among those who have room again.
 pub fn routers_are_roomier()
-    ensures { (service : Service) (default : List ℕ) (log : Log) (t : Tabled) (roomy room : ClientNo → Bool)
-        → IsRouter service default log t roomy → ((c : ClientNo) → roomy c ≡ true → room c ≡ true) → IsRouter service default log t room }
+    ensures { (service : Service) (log : Log) (t : Tabled) (roomy room : ClientNo → Bool)
+        → IsRouter service log t roomy → ((c : ClientNo) → roomy c ≡ true → room c ≡ true) → IsRouter service log t room }
 {}

@@ -1,6 +1,7 @@
 // Links to servers are lost.
 ghost use Rattle.std.specs.Prelude.{◌≡◌, Some, true};
-ghost use Rattle.client_session.specs.Setups.{Setup as Service};
+ghost use Rattle.core_service.specs.declared.service.Service.{Service};
+ghost use Rattle.client_session.specs.Setups.{Setup as Serving};
 ghost use Rattle.private_model.specs.Names.{LinkId};
 ghost use Rattle.private_model.specs.Story.{is_link_id};
 ghost use Rattle.core_tables.specs.Tables.{Tabled};
@@ -15,24 +16,51 @@ ghost use Rattle.mx_wire.specs.Tells.{MayFollow};
 ghost use Rattle.private_model.specs.Names.{ClientNo};
 ghost use Rattle.core_laws.specs.entry.Cores.{with_entry};
 ghost use Rattle.core_laws.specs.clients.Going.{Going};
-ghost use Rattle.router_laws.specs.decisions.Deeds.{AreAlone};
+ghost use Rattle.query_rules.specs.Passing.{rules_of};
+ghost use Rattle.router_laws.specs.decisions.Speaks.{AreGivenOurs, AreGoingOurs};
+ghost use Rattle.router_laws.specs.decisions.Asks.{AsksThen};
 ghost use Rattle.router_laws.specs.decisions.Goings.{deeds_of};
+ghost use Rattle.router_laws.specs.decisions.Rulings.{IsRuledOn};
 ghost use Rattle.router_laws.specs.decisions.Routers.{IsRouter};
 ghost use Rattle.router_laws.specs.links.Loses.{Break, LosesEnded, LosesSo, MayGiveUpWith, entry_by};
 
 /// What is given up as a link is lost stands on no other sound link.
 pub fn given_up_with_it()
-    ensures { (service : Service) (g : Ground) (t : Tabled) (l : LinkId) (given : Option GivenUp) → Stands service g t → MayGiveUpWith l given t
+    ensures { (service : Serving) (g : Ground) (t : Tabled) (l : LinkId) (given : Option GivenUp) → Stands service g t → MayGiveUpWith l given t
         → AreGivenUp (told_to given) (λ (other : LinkId). is_link_id other l) t }
 {}
 
+/// Where the turns of the client that goes on are ruled as a link is lost, so is what is asked of its messages.
+pub fn loses_ask()
+    ensures { (service : Service) (log : Log) (t now : Tabled) (roomy : ClientNo → Bool) (l : LinkId) (how : Break)
+        (given : Option GivenUp) (going : Option Going) → (router : IsRouter service log t roomy) → MayFollow log (entry_by how l)
+        → (so : LosesSo service.setup service.default_schema l given going t now)
+        → IsRuledOn (rules_of service.rules) going service.setup service.default_schema so.lost now so.goes
+        → AsksThen service log (entry_by how l) router.core.decided router.counts (deeds_of given going) }
+{
+    core_laws::parting::lost_stands();
+    core_laws::parting::freed_stands();
+    core_laws::parting::same_stands();
+    core_laws::clients::follows_find();
+    core_laws::clients::follows_rest();
+    core_laws::clients::told_stands();
+    crate::decisions::ungiven_are_in_work();
+    crate::decisions::answers_are_kept();
+    crate::decisions::ends_go_on();
+    crate::decisions::counts_go_on();
+    crate::decisions::routers_stood();
+    crate::decisions::links_rise();
+}
+
 /// A link to a server is lost, and whoever is called goes on.
 pub fn loses_router()
-    ensures { (service : Service) (default : List ℕ) (log : Log) (t now : Tabled) (roomy : ClientNo → Bool) (l : LinkId) (how : Break)
-        (given : Option GivenUp) (going : Option Going) → IsRouter service default log t roomy → MayFollow log (entry_by how l)
-        → AreAlone (deeds_of given going) → LosesSo service default l given going t now
-        → IsRouter service default (with_entry log (entry_by how l)) now roomy }
+    ensures { (service : Service) (log : Log) (t now : Tabled) (roomy : ClientNo → Bool) (l : LinkId) (how : Break)
+        (given : Option GivenUp) (going : Option Going) → IsRouter service log t roomy → MayFollow log (entry_by how l)
+        → AreGivenOurs given → AreGoingOurs (rules_of service.rules) going → (so : LosesSo service.setup service.default_schema l given going t now)
+        → IsRuledOn (rules_of service.rules) going service.setup service.default_schema so.lost now so.goes
+        → IsRouter service (with_entry log (entry_by how l)) now roomy }
 {
+    loses_ask();
     core_laws::parting::lost_stands();
     core_laws::parting::freed_stands();
     core_laws::parting::same_stands();
@@ -49,9 +77,9 @@ pub fn loses_router()
 
 /// And with it the client ends whose present session it carries.
 pub fn loses_ended_router()
-    ensures { (service : Service) (default : List ℕ) (log : Log) (t now : Tabled) (roomy : ClientNo → Bool) (l : LinkId) (how : Break) (c : ClientNo)
-        (links : List LinkId) → IsRouter service default log t roomy → MayFollow log (entry_by how l) → LosesEnded l c links t now
-        → IsRouter service default (with_entry log (entry_by how l)) now roomy }
+    ensures { (service : Service) (log : Log) (t now : Tabled) (roomy : ClientNo → Bool) (l : LinkId) (how : Break) (c : ClientNo)
+        (links : List LinkId) → IsRouter service log t roomy → MayFollow log (entry_by how l) → LosesEnded l c links t now
+        → IsRouter service (with_entry log (entry_by how l)) now roomy }
 {
     core_laws::parting::lost_stands();
     core_laws::parting::left_stands();

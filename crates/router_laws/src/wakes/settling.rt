@@ -1,7 +1,8 @@
 // What lending and looking do between entries.
 ghost use Rattle.std.specs.Prelude.{Bool, List, ℕ};
 ghost use Rattle.mx_wire.specs.Log.{Log};
-ghost use Rattle.client_session.specs.Setups.{Setup as Service};
+ghost use Rattle.core_service.specs.declared.service.Service.{Service};
+ghost use Rattle.client_session.specs.Setups.{Setup as Serving};
 ghost use Rattle.private_model.specs.Names.{ClientNo};
 ghost use Rattle.row_laws.specs.Readied.{AreClasses};
 ghost use Rattle.core_tables.specs.Tables.{IsSame, Tabled};
@@ -13,14 +14,14 @@ ghost use Rattle.router_laws.specs.wakes.Settling.{Settles, SettlesBy, Settling}
 
 /// Tables that stand for a tale stand for it still, however they settle; and so do the core and the router of a log.
 pub fn settling_stands()
-    ensures stands { (service : Service) (g : Ground) (t now : Tabled) → AreClasses g.setup.reads → Stands service g t → Settles t now
+    ensures stands { (service : Serving) (g : Ground) (t now : Tabled) → AreClasses g.setup.reads → Stands service g t → Settles t now
         → Stands service g now }
-    ensures rests { (service : Service) (g : Ground) (t now : Tabled) (roomy : ClientNo → Bool) → AreClasses g.setup.reads
+    ensures rests { (service : Serving) (g : Ground) (t now : Tabled) (roomy : ClientNo → Bool) → AreClasses g.setup.reads
         → Rests service g t roomy → Settles t now → Rests service g now roomy }
-    ensures core { (service : Service) (default : List ℕ) (log : Log) (t now : Tabled) (roomy : ClientNo → Bool)
+    ensures core { (service : Serving) (default : List ℕ) (log : Log) (t now : Tabled) (roomy : ClientNo → Bool)
         → IsCore service default log t roomy → Settles t now → IsCore service default log now roomy }
-    ensures router { (service : Service) (default : List ℕ) (log : Log) (t now : Tabled) (roomy : ClientNo → Bool)
-        → IsRouter service default log t roomy → Settles t now → IsRouter service default log now roomy }
+    ensures router { (service : Service) (log : Log) (t now : Tabled) (roomy : ClientNo → Bool)
+        → IsRouter service log t roomy → Settles t now → IsRouter service log now roomy }
 {
     core_laws::parting::rows_of_others_stay();
     core_laws::parting::same_stands();

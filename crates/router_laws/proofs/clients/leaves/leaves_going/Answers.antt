@@ -1,7 +1,7 @@
-use Rattle.std.specs.Prelude.{◌≡◌, ◌+◌, Bool, List, []}
-use Rattle.std.proofs.Common.{refl, subst, sym}
+use Rattle.std.specs.Prelude.{◌≡◌, ◌+◌, suc, Bool, List, []}
+use Rattle.std.proofs.Common.{refl, ap, ◌∙◌, arith, subst, sym}
 use Rattle.mx_base.specs.declared.names.LinkId.{LinkId}
-use Rattle.private_model.specs.Names.{ClientNo}
+use Rattle.private_model.specs.Names.{ClientNo, MessageName}
 use Rattle.private_model.specs.Story.{Left}
 use Rattle.private_model.specs.View.{Nobody}
 use Rattle.log_story.specs.Tale as tales
@@ -21,16 +21,17 @@ use Rattle.core_laws.proofs.OfEntry.Resting.{one_seats}
 use Rattle.core_laws.proofs.OfEntry.Uneventful.{Counting, Testing}
 use Rattle.core_laws.specs.entry.Tells.{AreWhoTheySay, ground}
 use Rattle.core_laws.proofs.OfClients.Following.{ended_its}
-use Rattle.core_laws.specs.clients.Following.{IsFollowed, ended_by}
+use Rattle.core_laws.specs.clients.Following.{IsFollowed, IsFollowing, ended_by}
 use Rattle.core_laws.specs.clients.Follows.{FollowsSo, ends_by}
 use Rattle.core_laws.specs.clients.Turns.{count_by}
 use Rattle.router_laws.proofs.OfClients.Counting.{takes_called}
 use Rattle.router_laws.proofs.OfClients.Departing.{calls, moment3, of_one, rising3, runs3, seated3, seated_told, third}
 use Rattle.router_laws.proofs.OfClients.Entering.{entered_goes_on, log_numbers}
+use Rattle.router_laws.proofs.OfClients.Finding.{found_then}
 use Rattle.router_laws.proofs.OfClients.Leaving.{IsLoss, loss_of}
 use Rattle.router_laws.proofs.OfClients.LetIn.{let_in_then}
 use Rattle.router_laws.proofs.OfClients.Linking.{client_there, known, off_server}
-use Rattle.router_laws.proofs.OfClients.Renewing.{decided_it, first_anew, going_due, going_on, it_goes, its_apart, overs_then, still_anew}
+use Rattle.router_laws.proofs.OfClients.Renewing.{decided_it, first_anew, going_due, going_on, it_goes, its_apart, names, overs_then, still_anew}
 use Rattle.router_laws.proofs.OfClients.Saying.{ended_is, nobody_there}
 use Rattle.router_laws.proofs.clients.leaves.leaves_going.Goals as goal
 use Rattle.router_laws.specs.clients.Plans.{ends_of, over_by}
@@ -79,10 +80,9 @@ returns c = λ service default setup codes plan log e old new t now roomy room l
     λ rests.
     let_in_then g default e (it rests) (log_numbers setup plan log)
     (subst (λ (tale : Tale). AreWhoTheySay setup plan default tale.clients) (tale_more setup plan log e) fits.who) (told_seat rests) in
-    let followed : (rests : Rests service g t roomy) → IsFollowed service g e (it rests) freed ((it rests).taken + count_by choices halt) over room now =
+    let follow : (rests : Rests service g t roomy) → IsFollowing service default g e (it rests) freed choices halt parting =
     λ rests.
-    c.follows_rest.ensures service default g t so.between now roomy room over g.fresh e (it rests) freed choices halt parting [] rests
-    (going_on service default g t now roomy log over link n links ordinal choices halt parting e loss (on_link rests) so plans rests freed
+    going_on service default g t now roomy log over link n links ordinal choices halt parting e loss (on_link rests) so plans rests freed
     (moment3 service g t roomy link n so.row rests so.its e loss (on_link rests) plans.decided.still links so.leaves.homes (homed rests) g.over so.leaves.left
     so.between (first rests)
     (still_anew service default g t now roomy log over link n links ordinal choices halt parting e loss (on_link rests) so plans rests)
@@ -97,37 +97,51 @@ returns c = λ service default setup codes plan log e old new t now roomy room l
     (rising3 service g t roomy link n so.row rests so.its e loss (on_link rests) plans.decided.still links so.leaves.homes (homed rests) g.over so.leaves.left
     so.between (first rests)
     (still_anew service default g t now roomy log over link n links ordinal choices halt parting e loss (on_link rests) so plans rests)
-    so.leaves.freed counting testing c.same_stands.ensures c.links_are_given_back.ensures rising))
-    (λ x apart. rests.looked x) (mid rests)
+    so.leaves.freed counting testing c.same_stands.ensures c.links_are_given_back.ensures rising) in
+    let followed : (rests : Rests service g t roomy) → IsFollowed service g e (it rests) freed ((it rests).taken + count_by choices halt) over room now =
+    λ rests.
+    c.follows_rest.ensures service default g t so.between now roomy room over g.fresh e (it rests) freed choices halt parting [] rests
+    (follow rests) (λ x apart. rests.looked x) (mid rests)
     (subst (λ (k : ClientNo). FollowsSo service default k choices halt parting [] so.between now)
     (sym (known service g t link n so.row rests.stands so.its).number) so.follows)
     (overs_then service default g t now roomy log over link n links ordinal choices halt parting e loss (on_link rests) so plans rests)
     (λ x apart full.
     others x (its_apart service default g t now roomy log over link n links ordinal choices halt parting e loss (on_link rests) so plans rests x apart) full) in
     record {
-      goes =
-          entered_goes_on service setup codes plan log e old new t now roomy room (ends_of n (ends_by halt parting)) plans.decided
-          (record {
-            rests = λ rests. (followed rests).rests;
-            due = λ rests.
-                going_due service default g t now roomy log over link n links ordinal choices halt parting e loss (on_link rests) so plans rests freed (mid rests)
-                (seated3 service g t roomy link n so.row rests so.its e loss (on_link rests) plans.decided.still links so.leaves.homes (homed rests) g.over
-                so.leaves.left so.between (first rests)
-                (still_anew service default g t now roomy log over link n links ordinal choices halt parting e loss (on_link rests) so plans rests)
-                so.leaves.freed counting testing c.same_stands.ensures c.links_are_given_back.ensures rising)
-                (followed rests).rests.stands;
-            runless = λ rests none.
-                (followed rests).runless
-                (runs3 service g t roomy link n so.row rests so.its e loss (on_link rests) plans.decided.still links so.leaves.homes (homed rests) g.over
-                so.leaves.left so.between (first rests)
-                (still_anew service default g t now roomy log over link n links ordinal choices halt parting e loss (on_link rests) so plans rests)
-                so.leaves.freed counting testing c.same_stands.ensures c.links_are_given_back.ensures rising none);
-            off = λ rests. loss.off g.tale;
-          });
-      takes = λ rests.
-          takes_called n (count_by choices halt) g.tale (tale_step setup plan g.tale e) (it rests) (it rests)
-          (known service g t link n so.row rests.stands so.its).number (known service g t link n so.row rests.stands so.its).seated refl refl
-          (one_seats setup plan (it rests) g.tale e (ended_by halt parting (it rests).number) freed (one rests)
-          (ended_its (it rests) (ends_by halt parting)) (loss.of_all (is_its (it rests)) g.tale))
-          (followed rests).counts;
+      goes = record {
+        goes =
+            entered_goes_on service setup codes plan log e old new t now roomy room (ends_of n (ends_by halt parting)) plans.decided
+            (record {
+              rests = λ rests. (followed rests).rests;
+              due = λ rests.
+                  going_due service default g t now roomy log over link n links ordinal choices halt parting e loss (on_link rests) so plans rests freed (mid rests)
+                  (seated3 service g t roomy link n so.row rests so.its e loss (on_link rests) plans.decided.still links so.leaves.homes (homed rests) g.over
+                  so.leaves.left so.between (first rests)
+                  (still_anew service default g t now roomy log over link n links ordinal choices halt parting e loss (on_link rests) so plans rests)
+                  so.leaves.freed counting testing c.same_stands.ensures c.links_are_given_back.ensures rising)
+                  (followed rests).rests.stands;
+              runless = λ rests none.
+                  (followed rests).runless
+                  (runs3 service g t roomy link n so.row rests so.its e loss (on_link rests) plans.decided.still links so.leaves.homes (homed rests) g.over
+                  so.leaves.left so.between (first rests)
+                  (still_anew service default g t now roomy log over link n links ordinal choices halt parting e loss (on_link rests) so plans rests)
+                  so.leaves.freed counting testing c.same_stands.ensures c.links_are_given_back.ensures rising none);
+              off = λ rests. loss.off g.tale;
+            });
+        takes = λ rests.
+            takes_called n (count_by choices halt) g.tale (tale_step setup plan g.tale e) (it rests) (it rests)
+            (known service g t link n so.row rests.stands so.its).number (known service g t link n so.row rests.stands so.its).seated refl refl
+            (one_seats setup plan (it rests) g.tale e (ended_by halt parting (it rests).number) freed (one rests)
+            (ended_its (it rests) (ends_by halt parting)) (loss.of_all (is_its (it rests)) g.tale))
+            (followed rests).counts;
+      };
+      finds = λ rests k at x there number.
+          found_then setup plan log e (it rests) x (told_seat rests) there (number ∙ sym (known service g t link n so.row rests.stands so.its).number) choices
+          halt service default n so.between so.follows.turned so.follows.turns k
+          (let own : ordinal ≡ suc (it rests).taken =
+          ap (λ (m : MessageName). m.ordinal)
+          (names service default g t now roomy log over link n links ordinal choices halt parting e loss (on_link rests) so plans rests) in
+          omega (arith, own, at))
+          (c.follows_find.ensures service default g so.between so.follows.turned g.fresh e (it rests) freed choices halt parting n
+          (known service g t link n so.row rests.stands so.its).number (follow rests) (mid rests) so.follows.turns);
     }

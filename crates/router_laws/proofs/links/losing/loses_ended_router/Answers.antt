@@ -2,7 +2,7 @@ use Rattle.router_laws.proofs.OfLinks.EndedRouted.{ended_routed}
 use Rattle.router_laws.proofs.links.losing.loses_ended_router.Goals as goal
 
 pub returns : goal.returns
-returns c = λ service default log t now roomy l how n links router may so.
+returns c = λ service log t now roomy l how n links router may so.
     ended_routed (record {
       loses = c.lost_stands.ensures;
       leaves = c.left_stands.ensures.ends;
@@ -10,4 +10,4 @@ returns c = λ service default log t now roomy l how n links router may so.
       tests = c.freed_stands.ensures.test;
       homed = c.lawful_homes.ensures;
       frees = c.links_are_given_back.ensures;
-    }) service default log t now roomy l how n links router may so
+    }) service log t now roomy l how n links router may so

@@ -1,3 +1,6 @@
+use Rattle.query_rules.specs.Passing.{rules_of}
+use Rattle.router_laws.proofs.OfDecisions.Speaking.{ours_of_going}
+use Rattle.router_laws.proofs.OfWaits.Then.{break_waits}
 use Rattle.router_laws.proofs.OfLinks.LossOnward.{goes_so, loses_keep_rows, loses_open}
 use Rattle.router_laws.proofs.OfWakes.Told.{tells_going}
 use Rattle.router_laws.specs.decisions.Goings.{deeds_of}
@@ -5,8 +8,10 @@ use Rattle.router_laws.specs.links.Loses.{entry_by}
 use Rattle.router_laws.proofs.links.losing.loses_router.Goals as goal
 
 pub returns : goal.returns
-returns c = λ service default log t now roomy l how given going router follow alone so.
-    c.routers_go_on.ensures service default log (entry_by how l) (deeds_of given going) t now roomy roomy router follow alone
+returns c = λ service log t now roomy l how given going router follow given_ours ours so ruled.
+    c.routers_go_on.ensures service log (entry_by how l) (deeds_of given going) t now roomy roomy router follow
+    (ours_of_going (rules_of service.rules) given going given_ours ours) (break_waits service log how l router.core.decided)
+    (c.loses_ask.ensures service log t now roomy l how given going router follow so ruled)
     (λ setup codes plan of fits.
     goes_so (record {
       losses = record { loses = c.lost_stands.ensures; tests = c.freed_stands.ensures.test; same = c.same_stands.ensures };
@@ -18,5 +23,5 @@ returns c = λ service default log t now roomy l how given going router follow a
       counts = c.counts_go_on.ensures;
       stood = c.routers_stood.ensures;
       rise = c.links_rise.ensures.tale;
-    }) service default log t now roomy l how given going router follow so (tells_going c.told_stands.ensures going service) setup codes plan of fits)
-    (loses_open log t now how l router.open_just (loses_keep_rows service default l given going t now so))
+    }) service log t now roomy l how given going router follow so (tells_going c.told_stands.ensures going service.setup) setup codes plan of fits)
+    (loses_open log t now how l router.open_just (loses_keep_rows service.setup service.default_schema l given going t now so))

@@ -10,13 +10,13 @@ use Rattle.router_laws.proofs.OfLinks.Routing.{open_one, opened_row, opening, op
 use Rattle.router_laws.proofs.links.routers.opens_router.Goals as goal
 
 pub returns : goal.returns
-returns c = λ service default log t now roomy server address l login router may so.
+returns c = λ service log t now roomy server address l login router may so.
     let new : Decided = decided_with (opening login) router.counts log (Opened server address l) router.core.decided in
-    calm_router service default log (Opened server address l) (opening login) t now roomy roomy router may (opening_idle login)
+    calm_router service log (Opened server address l) (opening login) t now roomy roomy router may (opening_idle login) (λ terms codes of fits. tt)
     (λ setup codes plan k. record {
-      goes = c.opens_go.ensures.goes service setup codes plan log router.core.decided new t now roomy server address l login may.fits.fresh k.decided
+      goes = c.opens_go.ensures.goes service.setup setup codes plan log router.core.decided new t now roomy server address l login may.fits.fresh k.decided
           (k.so.login l login (opening_login server address l login)) so;
-      clients = c.opens_go.ensures.clients service setup codes plan log router.core.decided new t now roomy server address l login may.fits.fresh k.decided
+      clients = c.opens_go.ensures.clients service.setup setup codes plan log router.core.decided new t now roomy server address l login may.fits.fresh k.decided
           (k.so.login l login (opening_login server address l login)) so k.stood.rests;
       begins = tt;
     })

@@ -1,10 +1,14 @@
 use Rattle.router_laws.specs.decisions.Goings.{deeds_of}
 use Rattle.mx_wire.specs.declared.entry.Entry.TheVariants.{Got}
-use Rattle.router_laws.proofs.OfReading.Router.{read_alone, read_opens}
+use Rattle.query_rules.specs.Passing.{rules_of}
+use Rattle.router_laws.proofs.OfDecisions.Speaking.{ours_of_going}
+use Rattle.router_laws.proofs.OfReading.Router.{read_opens}
 use Rattle.router_laws.proofs.reading.cores.hears_router.Goals as goal
 
 pub returns : goal.returns
-returns c = λ service default log t now roomy l bytes clock given going router follow bytes_are so alone.
-    c.routers_go_on.ensures service default log (Got l bytes) (deeds_of given going) t now roomy roomy router follow (read_alone given going alone)
-    (c.hears_goes.ensures service default log t now roomy l bytes clock given going router follow bytes_are so)
-    (read_opens c.opens_go_on.ensures log l bytes t now (c.hears_keep.ensures service default l bytes clock given going t now so) router.open_just)
+returns c = λ service log t now roomy l bytes clock given going router follow bytes_are so given_ours ours ruled.
+    c.routers_go_on.ensures service log (Got l bytes) (deeds_of given going) t now roomy roomy router follow
+    (ours_of_going (rules_of service.rules) given going given_ours ours) (λ terms codes of fits. tt)
+    (c.hears_ask.ensures service log t now roomy l bytes clock given going router follow bytes_are so ruled)
+    (c.hears_goes.ensures service log t now roomy l bytes clock given going router follow bytes_are so)
+    (read_opens c.opens_go_on.ensures log l bytes t now (c.hears_keep.ensures service.setup service.default_schema l bytes clock given going t now so) router.open_just)

@@ -13,14 +13,14 @@ use Rattle.router_laws.proofs.routers.clients.client_writes_router.Goals as goal
 use Rattle.router_laws.specs.routers.Enters.{of_link}
 
 pub returns : goal.returns
-returns c = λ service default log t now roomy room link tag bytes count client router may so.
-    router_enters service default log (Wrote link tag bytes) None None t now roomy room router may refl
+returns c = λ service log t now roomy room link tag bytes count client router may so.
+    router_enters service log (Wrote link tag bytes) None None t now roomy room router may refl (λ terms codes of fits. tt)
     (λ setup codes plan stood fits plans decided.
     record {
-      goes = c.client_writes_go.ensures service default setup codes plan log router.core.decided
+      goes = c.client_writes_go.ensures service.setup service.default_schema setup codes plan log router.core.decided
           (decided_with (of_link None None) router.counts log (Wrote link tag bytes) router.core.decided) t now roomy room link tag bytes count client fits
           decided so;
       begins = λ server. false_true (is_to_server (tale_of setup plan log) link)
-          (off_server service (ground setup codes plan router.core.decided log) t link client so.row stood.rests.stands so.its) server;
+          (off_server service.setup (ground setup codes plan router.core.decided log) t link client so.row stood.rests.stands so.its) server;
     })
     (wrote_opens log link tag bytes count client roomy room t now so router.open_just)

@@ -10,13 +10,13 @@ use Rattle.router_laws.specs.routers.Enters.{of_link}
 use Rattle.router_laws.specs.routers.Somehow.{RestsSomehow}
 
 pub returns : goal.returns
-returns c = λ service default log t now roomy link client router may so.
-    let some : RestsSomehow service log t roomy = somehow service default log t roomy router in
-    router_enters service default log (Closed link) None None t now roomy roomy router may refl
+returns c = λ service log t now roomy link client router may so.
+    let some : RestsSomehow service.setup log t roomy = somehow service log t roomy router in
+    router_enters service log (Closed link) None None t now roomy roomy router may refl (λ terms codes of fits. tt)
     (λ setup codes plan stood fits plans decided.
     record {
-      goes = c.parts_go.ensures service default setup codes plan log router.core.decided
+      goes = c.parts_go.ensures service.setup service.default_schema setup codes plan log router.core.decided
           (decided_with (of_link None None) router.counts log (Closed link) router.core.decided) t now roomy link client fits decided so;
       begins = tt;
     })
-    (parts_open log link client t now so (λ l other numbered. linked service some.g t some.rests.stands l other numbered) router.open_just)
+    (parts_open log link client t now so (λ l other numbered. linked service.setup some.g t some.rests.stands l other numbered) router.open_just)

@@ -16,6 +16,6 @@ returns c =
     record {
       stands = λ service g t now classes is by. settles_stand laws service g classes t now by is;
       rests = λ service g t now roomy classes is by. settles_rest laws service g classes t now roomy by is;
-      router = λ service default log t now roomy router by. router_settled laws service default log t now roomy router by;
+      router = λ service log t now roomy router by. router_settled laws service log t now roomy router by;
       core = λ service default log t now roomy core by. core_settled laws service default log t now roomy core by;
     }

@@ -1,0 +1,45 @@
+-- A client's messages behind an entry are those that it had as the entry was told.
+use Rattle.std.specs.Prelude.{◌≡◌, ℕ, List}
+use Rattle.std.proofs.Common.{sym, ap, ◌∙◌, subst}
+use Rattle.mx_wire.specs.Log.{Log}
+use Rattle.mx_wire.specs.declared.entry.Entry.{Entry}
+use Rattle.packet_frame.specs.Packets.{Framed}
+use Rattle.client_session.specs.Setups.{Setup as Service}
+use Rattle.private_model.specs.Names.{ClientNo}
+use Rattle.private_model.specs.View.{Setup}
+use Rattle.log_story.specs.Headline.{tale_of}
+use Rattle.log_story.specs.Owed.{messages}
+use Rattle.log_story.specs.Plan.{Plan}
+use Rattle.log_story.specs.Tale.{Client, Tale}
+use Rattle.log_story.specs.Telling.{tale_step, told}
+use Rattle.step_laws.specs.Seats.{IsSeated, seats}
+use Rattle.core_tables.specs.Tables.{Tabled}
+use Rattle.core_laws.proofs.OfEntry.Going.{tale_more}
+use Rattle.core_laws.specs.clients.Found.{AreFoundAt}
+use Rattle.core_laws.specs.clients.Turns.{Choice, Halt, Turns}
+use Rattle.core_laws.specs.entry.Cores.{with_entry}
+use Rattle.router_laws.proofs.OfClients.Counting.{one_seated}
+use Rattle.router_laws.proofs.OfClients.Entering.{log_numbers}
+use Rattle.router_laws.proofs.OfClients.LetIn.{told_there}
+
+module _ (setup : Setup) (plan : Plan) (log : Log) (e : Entry) (said x : Client) (seated : IsSeated (told setup plan (tale_of setup plan log) e) said)
+    (there : IsSeated (tale_of setup plan (with_entry log e)) x) (number : x.number ≡ said.number) where
+  abbrev new : Tale
+  new = tale_step setup plan (tale_of setup plan log) e
+
+  pub messages_then : messages plan x ≡ messages plan said
+  messages_then =
+      let later = told_there setup plan (tale_of setup plan log) e (log_numbers setup plan log) said seated in
+      let here : IsSeated new x = subst (λ (tale : Tale). IsSeated tale x) (tale_more setup plan log e) there in
+      let same : x ≡ later.0 =
+      one_seated x later.0 (seats new x.number) (sym here) (ap (seats new) (number ∙ sym later.2.number) ∙ later.1) in
+      ap (messages plan) same
+      ∙ (λ i. messages plan (record said { number = later.2.number i; salt = later.2.salt i; read = later.2.read i }))
+
+  pub found_then : (choices : List Choice) (halt : Halt) (service : Service) (default : List ℕ) (c : ClientNo) (mid turned : Tabled)
+      (turns : Turns choices halt service default c mid turned) (k : ℕ) → said.taken ≡ k
+      → AreFoundAt choices halt service default c mid turned turns (messages plan said) said.taken
+      → AreFoundAt choices halt service default c mid turned turns (messages plan x) k
+  found_then choices halt service default c mid turned turns k taken found =
+      subst (λ (ms : List Framed). AreFoundAt choices halt service default c mid turned turns ms k) (sym messages_then)
+      (subst (AreFoundAt choices halt service default c mid turned turns (messages plan said)) taken found)

@@ -1,0 +1,106 @@
+-- What is asked of the one client that goes on as a link to a server is lost.
+use Rattle.std.specs.Prelude.{◌≡◌, ◌⊎◌, Bool, length, List, Option, Some, None}
+use Rattle.std.proofs.Common.{subst, inl, inr}
+use Rattle.mx_wire.specs.Log.{Log}
+use Rattle.mx_wire.specs.Tells.{MayFollow}
+use Rattle.mx_wire.specs.declared.entry.Entry.{Entry}
+use Rattle.core_service.specs.declared.service.Service.{Service}
+use Rattle.query_rules.specs.Passing.{rules_of}
+use Rattle.query_rules.specs.declared.rule.Rule.{Rule}
+use Rattle.private_model.specs.Names.{ClientNo, LinkId}
+use Rattle.private_model.specs.View.{Setup}
+use Rattle.link_laws.specs.Stands.{Codes}
+use Rattle.log_story.specs.Headline.{tale_of}
+use Rattle.log_story.specs.Plan.{Plan}
+use Rattle.log_story.specs.Tale as tales
+use Rattle.log_story.specs.Tale.{Tale}
+use Rattle.log_story.specs.Telling.{tale_step}
+use Rattle.step_laws.specs.Seats.{IsSeated}
+use Rattle.core_tables.specs.Tables.{Tabled}
+use Rattle.core_stands.specs.Grounds.{Ground}
+use Rattle.core_laws.proofs.OfEntry.Going.{tale_more}
+use Rattle.core_laws.proofs.OfEntry.Lists.{seated_of}
+use Rattle.core_laws.specs.entry.Cores.{with_entry}
+use Rattle.core_laws.specs.entry.Tells.{Fits, IsOf, ground}
+use Rattle.core_laws.specs.clients.Going.{GivenUp, Going}
+use Rattle.router_laws.specs.clients.Continues.{HasCome, WasThere}
+use Rattle.router_laws.specs.decisions.Asks.{AskedFrom, AsksThen}
+use Rattle.router_laws.specs.decisions.Deeds.{decided_with}
+use Rattle.router_laws.specs.decisions.Goings.{deeds_of}
+use Rattle.router_laws.specs.decisions.Routers.{IsBefore, IsRouter}
+use Rattle.router_laws.specs.decisions.Rulings.{IsRuledOn}
+use Rattle.router_laws.proofs.OfDecisions.AskedOn.{FollowsAsk}
+use Rattle.router_laws.proofs.OfReading.Asked.{one_asked}
+use Rattle.router_laws.specs.reading.Hearing.{TellsSo}
+use Rattle.router_laws.proofs.OfLinks.Breaking.{lost_plain}
+use Rattle.router_laws.proofs.OfLinks.Going.{IsPlain}
+use Rattle.router_laws.proofs.OfLinks.LossOnward as onward
+use Rattle.router_laws.proofs.OfLinks.LossOnward.{Laws}
+use Rattle.router_laws.proofs.OfLinks.Losses as losses
+use Rattle.router_laws.proofs.OfLinks.Losses.{IsLoss}
+use Rattle.router_laws.proofs.OfLinks.OneLoses as somebody
+use Rattle.router_laws.specs.links.Loses.{Break, LosesSo, entry_by}
+
+module _ (laws : Laws) (asks : FollowsAsk) (service : Service) (log : Log) (t now : Tabled) (roomy : ClientNo → Bool) (l : LinkId) (how : Break)
+    (given : Option GivenUp) (router : IsRouter service log t roomy) (follow : MayFollow log (entry_by how l)) where
+  abbrev e : Entry
+  e = entry_by how l
+
+  abbrev rules : List Rule
+  rules = rules_of service.rules
+
+  module _ (it : Going) (so : LosesSo service.setup service.default_schema l given (Some it) t now) (tells : TellsSo (Some it) service.setup)
+      (ruled : IsRuledOn rules (Some it) service.setup service.default_schema so.lost now so.goes) (setup : Setup) (codes : Codes) (plan : Plan)
+      (of : IsOf (decided_with (deeds_of given (Some it)) router.counts log e router.core.decided) (length (with_entry log e)) plan)
+      (fits : Fits setup codes plan service.default_schema (tale_of setup plan (with_entry log e))) where
+    abbrev g : Ground
+    g = ground setup codes plan router.core.decided log
+
+    abbrev last : Tale
+    last = tale_step setup plan g.tale e
+
+    before : IsBefore service log e t roomy router (deeds_of given (Some it)) setup codes plan
+    before = onward.before laws service log t now roomy l how given (Some it) router follow so tells setup codes plan of fits
+
+    is : IsLoss service.setup service.default_schema g log e given (Some it)
+    is = onward.is laws service log t now roomy l how given (Some it) router follow so tells setup codes plan of fits
+
+    abbrev x : tales.Client
+    x = (somebody.found laws.losses service.setup service.default_schema g log t now roomy l how given it before.rests is so).0
+
+    number : x.number ≡ it.client
+    number = somebody.number laws.losses service.setup service.default_schema g log t now roomy l how given it before.rests is so
+
+    asked : AskedFrom rules plan x x.taken it.choices
+    asked =
+        asks rules service.setup service.default_schema g so.lost so.goes.turned g.fresh e x
+        (losses.later laws.losses service.setup service.default_schema g log t now roomy l how given (Some it) before.rests is so)
+        it.choices it.halt it.parting it.client number
+        (somebody.following laws.losses service.setup service.default_schema g log t now roomy l how given it before.rests is so)
+        (losses.lost_stands laws.losses service.setup service.default_schema g log t now roomy l how given (Some it) before.rests is so)
+        so.goes.turns ruled
+
+    plain : IsPlain g.tale e
+    plain = lost_plain g.tale how l
+
+    by_was : (y : tales.Client) → WasThere plan g.tale e y ⊎ HasCome g.tale e y
+        → AskedFrom rules plan y (router.counts.taken y.number) ((deeds_of given (Some it)).calls y.number)
+    by_was y (inr come) = absurd (plain.comes y come)
+    by_was y (inl was) =
+        one_asked rules plan g.tale e router.counts.taken before.counts.taken given it x
+        (somebody.seated laws.losses service.setup service.default_schema g log t now roomy l how given it before.rests is so) number asked y was.was
+        was.seated was.continued (plain.reads was.was.link)
+
+    one_asks : (y : tales.Client) → IsSeated (tale_of setup plan (with_entry log e)) y
+        → AskedFrom rules plan y (router.counts.taken y.number) ((deeds_of given (Some it)).calls y.number)
+    one_asks y seated =
+        by_was y
+        (seated_of (λ (z : tales.Client). WasThere plan g.tale e z ⊎ HasCome g.tale e z) last y
+        (subst (λ (tale : Tale). IsSeated tale y) (tale_more setup plan log e) seated)
+        (onward.were laws service log t now roomy l how given (Some it) router follow so tells setup codes plan of fits))
+
+  pub loses_ask : (going : Option Going) (so : LosesSo service.setup service.default_schema l given going t now) → TellsSo going service.setup
+      → IsRuledOn rules going service.setup service.default_schema so.lost now so.goes
+      → AsksThen service log e router.core.decided router.counts (deeds_of given going)
+  loses_ask None so tells ruled = λ setup codes plan of fits y seated. tt
+  loses_ask (Some it) so tells ruled = λ setup codes plan of fits y seated. one_asks it so tells ruled setup codes plan of fits y seated

@@ -1,0 +1,135 @@
+-- What is asked of the one client that goes on with bytes on a link to a server.
+use Rattle.std.specs.Prelude.{◌≡◌, ◌⊎◌, ℕ, Bool, true, false, All, length, List, [], ◌∷◌, Option, Some, None}
+use Rattle.std.proofs.Common.{refl, sym, ap, ◌∙◌, subst, inl, inr}
+use Rattle.mx_base.specs.Fields.{AreBytes}
+use Rattle.mx_wire.specs.Log.{Log}
+use Rattle.mx_wire.specs.Tells.{MayFollow}
+use Rattle.mx_wire.specs.declared.entry.Entry.{Entry}
+use Rattle.mx_wire.specs.declared.entry.Entry.TheVariants as entry
+use Rattle.core_service.specs.declared.service.Service.{Service}
+use Rattle.query_rules.specs.Passing.{rules_of}
+use Rattle.query_rules.specs.declared.rule.Rule.{Rule}
+use Rattle.private_model.proofs.Maps.{client_of}
+use Rattle.private_model.specs.Names.{ClientNo, LinkId}
+use Rattle.private_model.specs.Story.{is_client, is_link_id}
+use Rattle.private_model.specs.View.{Setup}
+use Rattle.link_laws.specs.Stands.{Codes}
+use Rattle.log_story.specs.Headline.{tale_of}
+use Rattle.log_story.specs.Plan.{Plan}
+use Rattle.log_story.specs.Tale as tales
+use Rattle.log_story.specs.Tale.{Tale}
+use Rattle.log_story.specs.Telling.{tale_step}
+use Rattle.step_laws.specs.Seats.{IsSeated, seats}
+use Rattle.core_tables.specs.Tables.{Tabled}
+use Rattle.core_stands.specs.Grounds.{Ground}
+use Rattle.core_laws.proofs.OfEntry.Going.{tale_more}
+use Rattle.core_laws.proofs.OfEntry.Lists.{seated_of}
+use Rattle.core_laws.specs.entry.Cores.{with_entry}
+use Rattle.core_laws.specs.entry.Tells.{Fits, IsOf, ground}
+use Rattle.core_laws.specs.clients.Going.{GivenUp, Going}
+use Rattle.core_laws.specs.clients.Turns.{Choice}
+use Rattle.router_laws.specs.clients.Continues.{HasCome, IsContinued, WasThere, is_read_on}
+use Rattle.router_laws.specs.decisions.Asks.{AskedFrom, AsksThen}
+use Rattle.router_laws.specs.decisions.Deeds.{decided_with}
+use Rattle.router_laws.specs.decisions.Goings.{deeds_of}
+use Rattle.router_laws.specs.decisions.Routers.{IsBefore, IsRouter}
+use Rattle.router_laws.specs.decisions.Rulings.{IsRuledOn}
+use Rattle.router_laws.proofs.OfDecisions.AskedOn.{FollowsAsk, asked_on}
+use Rattle.router_laws.proofs.OfReading.Hearing as hearing
+use Rattle.router_laws.proofs.OfReading.Onward as onward
+use Rattle.router_laws.proofs.OfReading.Onward.{Laws}
+use Rattle.router_laws.proofs.OfReading.Somebody as somebody
+use Rattle.router_laws.proofs.OfReading.Somebody.{for_other, for_same}
+use Rattle.router_laws.specs.reading.Hearing.{IsHearing}
+use Rattle.router_laws.specs.reading.Hears.{HearsSo}
+
+-- who stands alone with a number is one
+pub one_seated : (x was : tales.Client) (xs : List tales.Client) → x ∷ [] ≡ xs → xs ≡ was ∷ [] → x ≡ was
+one_seated x was xs first second = let both : x ∷ [] ≡ was ∷ [] = first ∙ second in cc
+
+-- One client goes on, at an entry that reads nothing of any.
+module _ (rules : List Rule) (plan : Plan) (tale : Tale) (e : Entry) (taken : ClientNo → ℕ)
+    (counted : All (λ (x : tales.Client). x.taken ≡ taken x.number) tale.clients) (given : Option GivenUp) (it : Going) (x : tales.Client)
+    (seated : IsSeated tale x) (number : x.number ≡ it.client) (asked : AskedFrom rules plan x x.taken it.choices) where
+  abbrev Asked : tales.Client → List Choice → Type 0
+  Asked y choices = AskedFrom rules plan y (taken y.number) choices
+
+  one_by : (y was : tales.Client) → IsSeated tale was → IsContinued plan tale e was y → is_read_on e was.link ≡ false → (b : Bool)
+      → is_client it.client y.number ≡ b → Asked y ((deeds_of given (Some it)).calls y.number)
+  one_by y was seated_was on unread true its =
+      let no : x.number ≡ was.number = number ∙ client_of it.client y.number its ∙ on.number in
+      let same : x ≡ was = one_seated x was (seats tale was.number) (sym seated ∙ ap (seats tale) no) seated_was in
+      subst (Asked y) (sym (for_same it.client y.number it.choices [] its))
+      (asked_on rules plan tale e was y on unread (taken y.number)
+      (seated_of (λ (z : tales.Client). z.taken ≡ taken z.number) tale was seated_was counted ∙ ap taken (sym on.number)) it.choices
+      (subst (λ (z : tales.Client). AskedFrom rules plan z z.taken it.choices) same asked))
+  one_by y was seated_was on unread false other =
+      subst (Asked y) (sym (for_other it.client y.number it.choices [] other)) tt
+
+  pub one_asked : (y was : tales.Client) → IsSeated tale was → IsContinued plan tale e was y → is_read_on e was.link ≡ false
+      → Asked y ((deeds_of given (Some it)).calls y.number)
+  one_asked y was seated_was on unread = one_by y was seated_was on unread (is_client it.client y.number) refl
+
+module _ (laws : Laws) (asks : FollowsAsk) (service : Service) (log : Log) (t now : Tabled) (roomy : ClientNo → Bool) (l : LinkId) (bytes : List ℕ)
+    (clock : ℕ) (given : Option GivenUp) (router : IsRouter service log t roomy) (follow : MayFollow log (entry.Got l bytes))
+    (bytes_are : AreBytes bytes) where
+  abbrev e : Entry
+  e = entry.Got l bytes
+
+  abbrev rules : List Rule
+  rules = rules_of service.rules
+
+  module _ (it : Going) (so : HearsSo service.setup service.default_schema l bytes clock given (Some it) t now)
+      (ruled : IsRuledOn rules (Some it) service.setup service.default_schema so.freed now so.goes) (setup : Setup) (codes : Codes) (plan : Plan)
+      (of : IsOf (decided_with (deeds_of given (Some it)) router.counts log e router.core.decided) (length (with_entry log e)) plan)
+      (fits : Fits setup codes plan service.default_schema (tale_of setup plan (with_entry log e))) where
+    abbrev g : Ground
+    g = ground setup codes plan router.core.decided log
+
+    abbrev last : Tale
+    last = tale_step setup plan g.tale e
+
+    before : IsBefore service log e t roomy router (deeds_of given (Some it)) setup codes plan
+    before = onward.before laws service log t now roomy l bytes clock given (Some it) router follow bytes_are so setup codes plan of fits
+
+    is : IsHearing service.setup service.default_schema g log l bytes given (Some it)
+    is = onward.is laws service log t now roomy l bytes clock given (Some it) router follow bytes_are so setup codes plan of fits
+
+    abbrev x : tales.Client
+    x = (somebody.found laws.reads service.setup service.default_schema g log t now roomy l bytes clock given it before.rests is so).0
+
+    number : x.number ≡ it.client
+    number = somebody.number laws.reads service.setup service.default_schema g log t now roomy l bytes clock given it before.rests is so
+
+    asked : AskedFrom rules plan x x.taken it.choices
+    asked =
+        asks rules service.setup service.default_schema g so.freed so.goes.turned g.fresh e x
+        (hearing.freed laws.reads service.setup service.default_schema g log t now roomy l bytes clock given (Some it) before.rests is so)
+        it.choices it.halt it.parting it.client number
+        (somebody.following laws.reads service.setup service.default_schema g log t now roomy l bytes clock given it before.rests is so)
+        (hearing.freed_stands laws.reads service.setup service.default_schema g log t now roomy l bytes clock given (Some it) before.rests is so)
+        so.goes.turns ruled
+
+    by_was : (y : tales.Client) → WasThere plan g.tale e y ⊎ HasCome g.tale e y
+        → AskedFrom rules plan y (router.counts.taken y.number) ((deeds_of given (Some it)).calls y.number)
+    by_was y (inr come) = absurd come
+    by_was y (inl was) =
+        one_asked rules plan g.tale e router.counts.taken before.counts.taken given it x
+        (somebody.seated laws.reads service.setup service.default_schema g log t now roomy l bytes clock given it before.rests is so) number asked y was.was
+        was.seated was.continued
+        (onward.unread_by laws service log t now roomy l bytes clock given (Some it) router follow bytes_are so setup codes plan of fits was.was was.seated
+        (is_link_id was.was.link l) refl)
+
+    one_asks : (y : tales.Client) → IsSeated (tale_of setup plan (with_entry log e)) y
+        → AskedFrom rules plan y (router.counts.taken y.number) ((deeds_of given (Some it)).calls y.number)
+    one_asks y seated =
+        by_was y
+        (seated_of (λ (z : tales.Client). WasThere plan g.tale e z ⊎ HasCome g.tale e z) last y
+        (subst (λ (tale : Tale). IsSeated tale y) (tale_more setup plan log e) seated)
+        (onward.were laws service log t now roomy l bytes clock given (Some it) router follow bytes_are so setup codes plan of fits))
+
+  pub hears_ask : (going : Option Going) (so : HearsSo service.setup service.default_schema l bytes clock given going t now)
+      → IsRuledOn rules going service.setup service.default_schema so.freed now so.goes
+      → AsksThen service log e router.core.decided router.counts (deeds_of given going)
+  hears_ask None so ruled = λ setup codes plan of fits y seated. tt
+  hears_ask (Some it) so ruled = λ setup codes plan of fits y seated. one_asks it so ruled setup codes plan of fits y seated

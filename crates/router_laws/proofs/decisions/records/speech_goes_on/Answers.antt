@@ -1,0 +1,5 @@
+use Rattle.router_laws.proofs.OfDecisions.Speaking.{spoken_then}
+use Rattle.router_laws.proofs.decisions.records.speech_goes_on.Goals as goal
+
+pub returns : goal.returns
+returns c = λ rules d n log e deeds spoken ours. spoken_then rules d n log e deeds spoken ours

@@ -1,0 +1,25 @@
+use Rattle.router_laws.proofs.OfDecisions.AskedOn.{follows_ask}
+use Rattle.router_laws.proofs.OfReading.Asked as asked
+use Rattle.router_laws.proofs.reading.cores.hears_ask.Goals as goal
+
+pub returns : goal.returns
+returns c = λ service log t now roomy l bytes clock given going router follow bytes_are so ruled.
+    asked.hears_ask (record {
+      reads = record {
+        hears = c.bytes_are_heard.ensures;
+        counts = c.counted_stands.ensures;
+        tests = c.freed_stands.ensures.test;
+        frees = c.freed_stands.ensures.stands;
+        homed = c.lawful_homes.ensures;
+        same = c.same_stands.ensures;
+      };
+      follows = c.follows_rest.ensures;
+      ungiven = c.ungiven_are_in_work.ensures.work;
+      unreplied = c.ungiven_are_in_work.ensures.unreplied;
+      kept = c.answers_are_kept.ensures.so;
+      ends = c.ends_go_on.ensures;
+      counts = c.counts_go_on.ensures;
+      stood = c.routers_stood.ensures;
+      rise = c.links_rise.ensures.tale;
+      tells = c.told_stands.ensures;
+    }) (follows_ask c.follows_find.ensures) service log t now roomy l bytes clock given router follow bytes_are going so ruled

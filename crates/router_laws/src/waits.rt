@@ -1,0 +1,5 @@
+// As the loop waits.
+
+mod done;
+
+pub use done::waits_done;
