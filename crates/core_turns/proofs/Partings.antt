@@ -6,6 +6,7 @@ use Rattle.std.proofs.lemmas.List.Elements.{All-append, All-nil, All-push}
 use Rattle.mx_base.specs.declared.names.ClientNo.{ClientNo}
 use Rattle.mx_base.specs.declared.names.LinkId.{LinkId}
 use Rattle.packet_frame.specs.Packets.{Framed}
+use Rattle.query_rules.specs.declared.rule.Rule.{Rule}
 use Rattle.server_side.specs.Account.{Account}
 use Rattle.handshake.specs.declared.response.Response.{Response}
 use Rattle.client_session.specs.Accounts.{account_of}
@@ -28,11 +29,11 @@ use Rattle.core_tables.specs.Parting.{kept_at, left_in, left_row, parted_in, wit
 use Rattle.core_tables.specs.Tables.{IsSame, Tabled, client_put, tables_of}
 use Rattle.core_tables.specs.Taking.{IsUpOr}
 use Rattle.core_tables.specs.declared.client.Client.{Client}
-use Rattle.core_laws.specs.clients.Turns.{Choice, Ends, EndsThere, Halt, Quits, QuitsThere, Rests, Turns, Waits}
+use Rattle.core_laws.specs.clients.Turns.{Choice, EndsThere, Halt, QuitsThere}
 use Rattle.marked_tables.specs.Goes.{GoesOn}
 use Rattle.marked_tables.specs.declared.marked.MarkedTables.{MarkedTables}
 use Rattle.marked_tables.proofs.Going.{goes_along, still_goes}
-use Rattle.core_turns.specs.Turned.{HasChosen, HasGone, IsSingle, IsToEnd, IsToQuit, MayLeaveBy, StopsSo, TurnsUntil, halt_of, is_away}
+use Rattle.core_turns.specs.Turned.{HasChosen, HasGone, IsSaid, IsToEnd, IsToQuit, MayLeaveBy, RuledTurns, StopsSo, TurnsUntil, halt_of, is_away}
 use Rattle.core_turns.specs.declared.turn.Stop.{Stop}
 use Rattle.core_turns.specs.declared.turn.Stop.TheVariants as stops
 use Rattle.core_turns.proofs.Turning.{both-same, chosen-some, not-away, seated-there}
@@ -163,17 +164,19 @@ LeavesBy stops.Rests c now new = IsSame new now
 LeavesBy stops.Ends c now new = IsSame new (left_in c ended now)
 LeavesBy (stops.Quits flag) c now new = leaving.Quits flag c now new
 
-module _ (service : Service) (default : List ℕ) (c : ClientNo) where
+module _ (rules : List Rule) (service : Service) (default : List ℕ) (c : ClientNo) where
   pub leaves-so : (stop : Stop) (choices : List Choice) (old now new : Tabled) → LeavesBy stop c now new
-      → TurnsUntil choices (halt_of stop) service default c old now → Turns choices (halt_of stop) service default c old new
-  leaves-so stop (choice ∷ others) old now new leaves is = (is.0, is.1, leaves-so stop others is.0 now new leaves is.2)
-  leaves-so stops.Waits [] old now new leaves is = record { row = is.row; there = is.there; waits = is.waits; same = both-same leaves is.same }
-  leaves-so stops.Rests [] old now new leaves is = record { row = is.row; looks = is.looks; same = both-same leaves is.same }
-  leaves-so stops.Ends [] old now new leaves is = ends-so service default c old now new is leaves
-  leaves-so (stops.Quits flag) [] old now new leaves is = quits-so service default c flag old now new is leaves
+      → TurnsUntil rules choices (halt_of stop) service default c old now → RuledTurns rules choices (halt_of stop) service default c old new
+  leaves-so stop (choice ∷ others) old now new leaves is =
+      let rest : RuledTurns rules others (halt_of stop) service default c is.0 new = leaves-so stop others is.0 now new leaves is.2 in
+      ((is.0, is.1.0, rest.0), (is.1.1, rest.1))
+  leaves-so stops.Waits [] old now new leaves is = (record { row = is.row; there = is.there; waits = is.waits; same = both-same leaves is.same }, tt)
+  leaves-so stops.Rests [] old now new leaves is = (record { row = is.row; looks = is.looks; same = both-same leaves is.same }, tt)
+  leaves-so stops.Ends [] old now new leaves is = (ends-so service default c old now new is leaves, tt)
+  leaves-so (stops.Quits flag) [] old now new leaves is = (quits-so service default c flag old now new is leaves, tt)
 
   -- a message is up where it quits
-  pub may-leave : (stop : Stop) (choices : List Choice) (old now : Tabled) → TurnsUntil choices (halt_of stop) service default c old now
+  pub may-leave : (stop : Stop) (choices : List Choice) (old now : Tabled) → TurnsUntil rules choices (halt_of stop) service default c old now
       → MayLeaveBy stop (now.clients c)
   may-leave stop (choice ∷ others) old now is = may-leave stop others is.0 now is.2
   may-leave stops.Waits [] old now is = tt
@@ -183,57 +186,58 @@ module _ (service : Service) (default : List ℕ) (c : ClientNo) where
       subst IsUpOr (sym (seated-there service default c old now is.up.row is.up.looks.there is.up.same))
       (record { found = subst (λ (o : Option Framed). IsSome o) (sym is.up.found) refl; past_login = is.past_login })
 
-  -- Turns that are behind a client, whatever comes behind them.
-  pub record HasTurned (old now : Tabled) : Type 0 where
-    pub choices : List Choice
-    pub single : All IsSingle choices
-    pub onward : (others : List Choice) (halt : Halt) (new : Tabled) → TurnsUntil others halt service default c now new
-        → TurnsUntil (choices ++ others) halt service default c old new
-
-  pub none-turned : (old : Tabled) → HasTurned old old
-  none-turned old = record { choices = []; single = All-nil IsSingle; onward = λ others halt new is. is }
-
-  pub one-more : (old now later : Tabled) → HasTurned old now → HasChosen service default c now later → HasTurned old later
-  one-more old now later turned chosen = record {
-    choices = turned.choices ++ chosen.choice ∷ [];
-    single = All-push IsSingle turned.choices chosen.choice turned.single chosen.single;
-    onward = λ others halt new is.
-        subst (λ (all : List Choice). TurnsUntil all halt service default c old new) (sym (append_assoc turned.choices (chosen.choice ∷ []) others))
-        (turned.onward (chosen.choice ∷ others) halt new (later, chosen.turns, is));
-  }
+-- Turns that are behind a client, whatever comes behind them.
+pub record HasTurned (rules : List Rule) (service : Service) (default : List ℕ) (c : ClientNo) (old now : Tabled) : Type 0 where
+  pub choices : List Choice
+  pub said : All (IsSaid rules c) choices
+  pub onward : (others : List Choice) (halt : Halt) (new : Tabled) → TurnsUntil rules others halt service default c now new
+      → TurnsUntil rules (choices ++ others) halt service default c old new
 
 -- The loop's invariant, and what stands behind it.
 
-pub record IsGoing (service : Service) (default : List ℕ) (c : ClientNo) (old now : MarkedTables) : Type 0 where
-  pub turned : HasTurned service default c (tables_of old.tables) (tables_of now.tables)
+pub record IsGoing (rules : List Rule) (service : Service) (default : List ℕ) (c : ClientNo) (old now : MarkedTables) : Type 0 where
+  pub turned : HasTurned rules service default c (tables_of old.tables) (tables_of now.tables)
   pub there : IsSome ((tables_of now.tables).clients c)
   pub goes : GoesOn old now
 
-module _ (service : Service) (default : List ℕ) (c : ClientNo) where
-  pub begins : (m : MarkedTables) → is_away ((tables_of m.tables).clients c) ≡ false → IsGoing service default c m m
+module _ (rules : List Rule) (service : Service) (default : List ℕ) (c : ClientNo) where
+  none-turned : (old : Tabled) → HasTurned rules service default c old old
+  none-turned old = record { choices = []; said = All-nil (IsSaid rules c); onward = λ others halt new is. is }
+
+  one-more : (old now later : Tabled) → HasTurned rules service default c old now → HasChosen rules service default c now later
+      → HasTurned rules service default c old later
+  one-more old now later turned chosen = record {
+    choices = turned.choices ++ chosen.choice ∷ [];
+    said = All-push (IsSaid rules c) turned.choices chosen.choice turned.said chosen.said;
+    onward = λ others halt new is.
+        subst (λ (all : List Choice). TurnsUntil rules all halt service default c old new) (sym (append_assoc turned.choices (chosen.choice ∷ []) others))
+        (turned.onward (chosen.choice ∷ others) halt new (later, chosen.turns, is));
+  }
+
+  pub begins : (m : MarkedTables) → is_away ((tables_of m.tables).clients c) ≡ false → IsGoing rules service default c m m
   begins m going = record {
-    turned = none-turned service default c (tables_of m.tables);
+    turned = none-turned (tables_of m.tables);
     there = not-away ((tables_of m.tables).clients c) going;
     goes = still_goes m;
   }
 
-  pub goes-on : (old now later : MarkedTables) → IsGoing service default c old now → HasChosen service default c (tables_of now.tables) (tables_of later.tables)
-      → GoesOn now later → IsGoing service default c old later
+  pub goes-on : (old now later : MarkedTables) → IsGoing rules service default c old now
+      → HasChosen rules service default c (tables_of now.tables) (tables_of later.tables) → GoesOn now later → IsGoing rules service default c old later
   goes-on old now later going chosen goes = record {
-    turned = one-more service default c (tables_of old.tables) (tables_of now.tables) (tables_of later.tables) going.turned chosen;
-    there = chosen-some service default c (tables_of now.tables) (tables_of later.tables) chosen;
+    turned = one-more (tables_of old.tables) (tables_of now.tables) (tables_of later.tables) going.turned chosen;
+    there = chosen-some rules service default c (tables_of now.tables) (tables_of later.tables) chosen;
     goes = goes_along old now later going.goes goes;
   }
 
-  pub gone-so : (stop : Stop) (old now new : MarkedTables) → is_away ((tables_of old.tables).clients c) ≡ false → IsGoing service default c old now
+  pub gone-so : (stop : Stop) (old now new : MarkedTables) → is_away ((tables_of old.tables).clients c) ≡ false → IsGoing rules service default c old now
       → StopsSo (halt_of stop) service default c (tables_of now.tables) (tables_of new.tables)
-      → HasGone TurnsUntil stop service default c (tables_of old.tables) (tables_of new.tables)
+      → HasGone TurnsUntil stop rules service default c (tables_of old.tables) (tables_of new.tables)
   gone-so stop old now new present going is = record {
     going = present;
     choices = going.turned.choices ++ [];
-    single = All-append IsSingle going.turned.choices [] going.turned.single (All-nil IsSingle);
+    said = All-append (IsSaid rules c) going.turned.choices [] going.turned.said (All-nil (IsSaid rules c));
     turned = going.turned.onward [] (halt_of stop) (tables_of new.tables) is;
   }
 
-  pub gone-leaves : (stop : Stop) (old new : Tabled) → HasGone TurnsUntil stop service default c old new → MayLeaveBy stop (new.clients c)
-  gone-leaves stop old new gone = may-leave service default c stop gone.choices old new gone.turned
+  pub gone-leaves : (stop : Stop) (old new : Tabled) → HasGone TurnsUntil stop rules service default c old new → MayLeaveBy stop (new.clients c)
+  gone-leaves stop old new gone = may-leave rules service default c stop gone.choices old new gone.turned

@@ -5,6 +5,7 @@ use Rattle.std.proofs.Common.{refl, sym, ap, subst, ◌∙◌}
 use Rattle.mx_base.specs.declared.names.ClientNo.{ClientNo}
 use Rattle.mx_base.specs.declared.names.Hostgroup.{Hostgroup}
 use Rattle.packet_frame.specs.Packets.{Framed}
+use Rattle.query_rules.specs.declared.rule.Rule.{Rule}
 use Rattle.private_model.proofs.Maps.{same_number}
 use Rattle.client_session.specs.Setups.{Setup as Service}
 use Rattle.client_side.specs.declared.stage.Stage.TheVariants.{Commands}
@@ -75,9 +76,9 @@ module _ (service : Service) (default : List ℕ) (c : ClientNo) (old between : 
   makes-so true flag packets statements new lives is = (lives, is)
   makes-so false flag packets statements new lives is = is
 
-  module _ (ordinal : ℕ) (message : Framed) (able : IsLookable false row) (looks : IsLookedAt service default c old row (next.Message ordinal))
+  module _ (rules : List Rule) (ordinal : ℕ) (message : Framed) (able : IsLookable false row) (looks : IsLookedAt service default c old row (next.Message ordinal))
       (found : found_of after ≡ Some message) (past : (turn service default row.desk.seat).client.stage ≡ Commands) (new : Tabled) where
-    taken-up : (turned : Turn) → IsTakenUp turned ordinal c after message between new → IsTurned turned service default c old new
+    taken-up : (turned : Turn) → IsTakenUp turned ordinal rules c after message between new → IsTurned turned rules service default c old new
     taken-up (turns.Stops (stops.Quits flag)) is = record {
       up = record { row = row; ordinal = ordinal; looks = looks; same = both-same is.same same; message = message; found = found };
       past_login = past;
@@ -89,6 +90,7 @@ module _ (service : Service) (default : List ℕ) (c : ClientNo) (old between : 
     taken-up (turns.Stops stops.Ends) is = absurd is
     taken-up turns.Answered is = (
       is.payloads,
+      is.own,
       record {
         between = between;
         up = comes-up ordinal message looks found;
@@ -116,6 +118,7 @@ module _ (service : Service) (default : List ℕ) (c : ClientNo) (old between : 
       };
       there = is.there;
       single = is.single;
+      ruled = is.ruled;
     }
 
   pub rests-there : IsLookable false row → next.Nothing ≡ next_of service default (old.clients c) → RestsThere service default c old between
@@ -125,22 +128,22 @@ module _ (service : Service) (default : List ℕ) (c : ClientNo) (old between : 
   ends-there able is = record { row = row; looks = looks-at next.Ended able is; lives = able.able.lives; same = same }
 
   -- the message that is up is taken up
-  pub taken-next : (ordinal : ℕ) (turned : Turn) (new : Tabled) → IsLookable false row → next.Message ordinal ≡ next_of service default (old.clients c)
+  pub taken-next : (rules : List Rule) (ordinal : ℕ) (turned : Turn) (new : Tabled) → IsLookable false row → next.Message ordinal ≡ next_of service default (old.clients c)
       → IsUpIn (next.Message ordinal) (between.clients c)
-      → OnUp c between (λ up message. IsTakenUp turned ordinal c up message between new) → IsTurned turned service default c old new
-  taken-next ordinal turned new able is up taken = by (found_of after) refl where
+      → OnUp c between (λ up message. IsTakenUp turned ordinal rules c up message between new) → IsTurned turned rules service default c old new
+  taken-next rules ordinal turned new able is up taken = by (found_of after) refl where
     seat : Seat
     seat = turn service default row.desk.seat
 
     ups : IsUp (next.Message ordinal) seat
     ups = subst (IsUpIn (next.Message ordinal)) seated-there up
 
-    by : (found : Option Framed) → found_of after ≡ found → IsTurned turned service default c old new
+    by : (found : Option Framed) → found_of after ≡ found → IsTurned turned rules service default c old new
     by None none =
         let no : false ≡ true = subst (λ (o : Option Framed). IsSome o) none ups.0 in
         absurd (cc)
     by (Some message) found =
-        taken-up ordinal message able (looks-at (next.Message ordinal) able is) found ups.1 new turned (taken after seated-there message found)
+        taken-up rules ordinal message able (looks-at (next.Message ordinal) able is) found ups.1 new turned (taken after seated-there message found)
 
 -- a message is up there
 pub up-there : (ordinal : ℕ) (found : Option Client) → IsSome found → IsUpIn (next.Message ordinal) found → IsUpOr found
@@ -191,13 +194,13 @@ turn-some (Answers payloads) service default c old new is =
 
 -- a choice by what code says of it
 
-pub answered-choice : (service : Service) (default : List ℕ) (c : ClientNo) (old new : Tabled) → IsTurned turns.Answered service default c old new
-    → HasChosen service default c old new
-answered-choice service default c old new is = record { choice = Answers is.0; single = tt; turns = is.1 }
+pub answered-choice : (rules : List Rule) (service : Service) (default : List ℕ) (c : ClientNo) (old new : Tabled) → IsTurned turns.Answered rules service default c old new
+    → HasChosen rules service default c old new
+answered-choice rules service default c old new is = record { choice = Answers is.0; said = is.1; turns = (is.2, tt) }
 
-pub due-choice : (hostgroup : Hostgroup) (service : Service) (default : List ℕ) (c : ClientNo) (old new : Tabled) → IsTurned (turns.Due hostgroup) service default c old new
-    → HasChosen service default c old new
-due-choice hostgroup service default c old new is = record { choice = Goes is.route; single = is.single; turns = is.goes }
+pub due-choice : (hostgroup : Hostgroup) (rules : List Rule) (service : Service) (default : List ℕ) (c : ClientNo) (old new : Tabled) → IsTurned (turns.Due hostgroup) rules service default c old new
+    → HasChosen rules service default c old new
+due-choice hostgroup rules service default c old new is = record { choice = Goes is.route; said = is.single; turns = (is.goes, is.ruled) }
 
-pub chosen-some : (service : Service) (default : List ℕ) (c : ClientNo) (old new : Tabled) → HasChosen service default c old new → IsSome (new.clients c)
-chosen-some service default c old new is = turn-some is.choice service default c old new is.turns
+pub chosen-some : (rules : List Rule) (service : Service) (default : List ℕ) (c : ClientNo) (old new : Tabled) → HasChosen rules service default c old new → IsSome (new.clients c)
+chosen-some rules service default c old new is = turn-some is.choice service default c old new is.turns.0

@@ -6,6 +6,8 @@ use Rattle.mx_base.specs.Fields.{number_at}
 use Rattle.mx_base.specs.declared.names.ClientNo.{ClientNo}
 use Rattle.mx_base.specs.declared.names.Hostgroup.{Hostgroup}
 use Rattle.packet_frame.specs.Packets.{Framed, spelling, spellings}
+use Rattle.own_words.specs.Own.{IsAnswer}
+use Rattle.query_rules.specs.declared.rule.Rule.{Rule}
 use Rattle.server_rule.specs.Classes.{Reads}
 use Rattle.private_model.specs.Commands.{Command, is_marked}
 use Rattle.log_story.specs.Plan.{Route, com_execute, text_payload}
@@ -21,6 +23,7 @@ use Rattle.stmt_map.specs.declared.client.ClientStatements.{ClientStatements}
 use Rattle.core_tables.specs.Tables.{IsSame, Tabled}
 use Rattle.core_tables.specs.Taking.{IsDue, asked_of, found_of, text_work}
 use Rattle.core_tables.specs.declared.client.Client.{Client}
+use Rattle.core_promises.specs.Asks.{IsTextOf}
 use Rattle.core_turns.specs.Judged.{IsSendable}
 use Rattle.core_turns.specs.Taken.{IsAnswered, IsDueThere, OnUp, answered_so}
 
@@ -37,12 +40,13 @@ pub payload-at : (payload : List ℕ) (found : Option Framed) (message : Framed)
 payload-at payload found message at is = subst (λ (o : Option Framed). IfSome o (λ (m : Framed). payload ≡ m.payload)) at is
 
 -- The router answers it.
-pub answer-so : (anew : Bool) (c : ClientNo) (flag : ℕ) (said packets : List ℕ) (statements : ClientStatements) (payloads : List (List ℕ)) (old new : Tabled)
-    → OnUp c old (λ row message. packets ≡ spellings row.desk.seat.first payloads) → said ≡ packets
+pub answer-so : (anew : Bool) (rules : List Rule) (c : ClientNo) (flag : ℕ) (said packets : List ℕ) (statements : ClientStatements) (payloads : List (List ℕ)) (old new : Tabled)
+    → IsAnswer rules c payloads → OnUp c old (λ row message. packets ≡ spellings row.desk.seat.first payloads) → said ≡ packets
     → OnUp c old (λ row message. anew ≡ nat_eq (slice_index_or message.payload 0 0) 0x1F)
-    → IsSame new (answered_so anew c flag said statements old) → OnUp c old (λ row message. IsAnswered c row message old new)
-answer-so anew c flag said packets statements payloads old new spelt same is made = λ row there message found. record {
+    → IsSame new (answered_so anew c flag said statements old) → OnUp c old (λ row message. IsAnswered rules c row message old new)
+answer-so anew rules c flag said packets statements payloads old new own spelt same is made = λ row there message found. record {
   payloads = payloads;
+  own = own;
   flag = flag;
   packets = said;
   statements = statements;
@@ -86,13 +90,13 @@ record IsSendsAs (form : Form) (command : Command) : Type 0 where
 abbrev route-by : Hostgroup → (text : Option (List ℕ)) → Option Bool → Route
 route-by hostgroup text multiplex = record { hostgroup = hostgroup; text = text; key = 0; number = 0; multiplex = multiplex; mirror = None }
 
-pub due-there : (hostgroup : Hostgroup) (ordinal flag since : ℕ) (text : Option (List ℕ)) (multiplex : Option Bool) (form : Form) (c : ClientNo) (old new : Tabled)
+pub due-there : (rules : List Rule) (hostgroup : Hostgroup) (ordinal flag since : ℕ) (text : Option (List ℕ)) (multiplex : Option Bool) (form : Form) (c : ClientNo) (old new : Tabled)
     → OnUp c old (λ row message. IsSendable message.payload text form)
     → IsDue flag text (text_work ordinal hostgroup since multiplex form) c old new
-    → OnUp c old (λ row message. IsDueThere hostgroup ordinal c message old new)
-due-there hostgroup ordinal flag since text multiplex form c old new sendable due =
-    on-up old c due.row (λ row message. IsDueThere hostgroup ordinal c message old new) due.there
-    (λ message found.
+    → OnUp c old (λ row message. IsTextOf rules message.payload text → IsDueThere hostgroup ordinal rules c message old new)
+due-there rules hostgroup ordinal flag since text multiplex form c old new sendable due =
+    on-up old c due.row (λ row message. IsTextOf rules message.payload text → IsDueThere hostgroup ordinal rules c message old new) due.there
+    (λ message found made.
     let sends : IsSendable message.payload text form = sendable due.row due.there message found in
     let asked : text_in message.payload text ≡ Some (Says due.command) = asked-there due.row message text due.command found due.asked in
     let some : Some (Says sends.command) ≡ Some (Says due.command) = sym sends.asks ∙ asked in
@@ -104,6 +108,7 @@ due-there hostgroup ordinal flag since text multiplex form c old new sendable du
       route = route-by hostgroup text multiplex;
       there = refl;
       single = refl;
+      ruled = made;
       flag = flag;
       command = due.command;
       work = text_work ordinal hostgroup since multiplex form (spelling 0 (text_payload due.command));

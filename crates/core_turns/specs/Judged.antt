@@ -2,6 +2,7 @@
 use Rattle.std.specs.Prelude.{◌≡◌, ◌⊎◌, ℕ, true, false, nat_eq, slice_index_or, List, Option, Some, None}
 use Rattle.pin_classifier.specs.Classes.{class_of}
 use Rattle.pin_classifier.specs.declared.class.Class.{Class}
+use Rattle.query_rules.specs.declared.rule.Rule.{Rule}
 use Rattle.server_rule.specs.Classes.{Reads}
 use Rattle.private_model.specs.Commands.{Command, is_marked}
 use Rattle.log_story.specs.Plan.{com_field_list, com_init_db, com_query, com_reset}
@@ -13,8 +14,10 @@ use Rattle.desk_laws.specs.Stands.{is_text, kind_of}
 use Rattle.row_laws.specs.Readied.{AreClasses}
 use Rattle.client_seat.specs.Requests.{Says, text_in}
 use Rattle.message_judge.specs.Drafts.{class_in}
+use Rattle.message_judge.specs.Told.{IsOwnTold}
 use Rattle.message_judge.specs.declared.draft.Draft.{Draft}
 use Rattle.message_judge.specs.declared.draft.Draft.TheVariants as drafts
+use Rattle.core_promises.specs.Asks.{IsTextOf}
 use Rattle.core_turns.specs.declared.judged.Verdict.{Verdict}
 use Rattle.core_turns.specs.declared.judged.Verdict.TheVariants as verdicts
 
@@ -49,3 +52,15 @@ abbrev pub IsVerdictOn : (payload : List ℕ) → Verdict → Type 0
 IsVerdictOn payload verdicts.Quits = IsNoReset payload
 IsVerdictOn payload (verdicts.Answers told) = Unit {0}
 IsVerdictOn payload (verdicts.Sends hostgroup text multiplex form) = IsSendable payload text form
+
+-- What is answered is in the router's own words, and what goes to a server is the client's own text, or what the rules make of it.
+
+abbrev pub IsOwnDraftOn : List Rule → (payload : List ℕ) → Draft → Type 0
+IsOwnDraftOn rules payload drafts.Ends = Unit {0}
+IsOwnDraftOn rules payload (drafts.Answers told) = IsOwnTold rules told
+IsOwnDraftOn rules payload (drafts.Sends going) = IsTextOf rules payload going.text
+
+abbrev pub IsOwnVerdict : List Rule → (payload : List ℕ) → Verdict → Type 0
+IsOwnVerdict rules payload verdicts.Quits = Unit {0}
+IsOwnVerdict rules payload (verdicts.Answers told) = IsOwnTold rules told
+IsOwnVerdict rules payload (verdicts.Sends hostgroup text multiplex form) = IsTextOf rules payload text

@@ -3,6 +3,8 @@ use Rattle.std.specs.Prelude.{◌≡◌, ℕ, Bool, true, false, List, None, Som
 use Rattle.mx_base.specs.declared.names.ClientNo.{ClientNo}
 use Rattle.mx_base.specs.declared.names.Hostgroup.{Hostgroup}
 use Rattle.packet_frame.specs.Packets.{Framed, spellings}
+use Rattle.own_words.specs.Own.{IsAnswer}
+use Rattle.query_rules.specs.declared.rule.Rule.{Rule}
 use Rattle.server_rule.specs.Classes.{Reads}
 use Rattle.private_model.specs.Commands.{Command}
 use Rattle.log_story.specs.Plan.{Route}
@@ -16,6 +18,7 @@ use Rattle.core_laws.specs.taking.Takes.{is_reset}
 use Rattle.core_tables.specs.Tables.{IsSame, Tabled, client_changed}
 use Rattle.core_tables.specs.Taking.{answers, begins_anew, found_of, goes}
 use Rattle.core_tables.specs.declared.client.Client.{Client}
+use Rattle.core_promises.specs.Asks.{IsTextOf}
 use Rattle.core_turns.specs.declared.turn.Stop.{Stop}
 use Rattle.core_turns.specs.declared.turn.Stop.TheVariants as stops
 use Rattle.core_turns.specs.declared.turn.Turn.{Turn}
@@ -25,25 +28,27 @@ use Rattle.core_turns.specs.declared.turn.Turn.TheVariants as turns
 abbrev pub OnUp : ClientNo → Tabled → (Client → Framed → Type 0) → Type 0
 OnUp c t fact = (row : Client) → t.clients c ≡ Some row → (message : Framed) → found_of row ≡ Some message → fact row message
 
--- The router answers it; a COM_RESET_CONNECTION begins anew.
+-- The router answers it, in its own words; a COM_RESET_CONNECTION begins anew.
 
 abbrev pub answered_so : (anew : Bool) → ClientNo → (flag : ℕ) → (packets : List ℕ) → ClientStatements → Tabled → Tabled
 answered_so true c flag packets statements t = begins_anew c flag packets statements t
 answered_so false c flag packets statements t = client_changed c (answers flag packets statements) t
 
-pub record IsAnswered (c : ClientNo) (row : Client) (message : Framed) (old new : Tabled) : Type 0 where
+pub record IsAnswered (rules : List Rule) (c : ClientNo) (row : Client) (message : Framed) (old new : Tabled) : Type 0 where
   pub payloads : List (List ℕ)
+  pub own : IsAnswer rules c payloads
   pub flag : ℕ
   pub packets : List ℕ
   pub statements : ClientStatements
   pub spelt : packets ≡ spellings row.desk.seat.first payloads
   pub makes : IsSame new (answered_so (is_reset message) c flag packets statements old)
 
--- It goes to a server in this hostgroup alone: a statement of it is due.
-pub record IsDueThere (hostgroup : Hostgroup) (ordinal : ℕ) (c : ClientNo) (message : Framed) (old new : Tabled) : Type 0 where
+-- It goes to a server in this hostgroup alone: a statement of it is due, whose text is the client's own, or what the rules make of it.
+pub record IsDueThere (hostgroup : Hostgroup) (ordinal : ℕ) (rules : List Rule) (c : ClientNo) (message : Framed) (old new : Tabled) : Type 0 where
   pub route : Route
   pub there : route.hostgroup ≡ hostgroup
   pub single : route.mirror ≡ None
+  pub ruled : IsTextOf rules message.payload route.text
   pub flag : ℕ
   pub command : Command
   pub work : Work
@@ -64,7 +69,7 @@ abbrev pub IsStopped : Stop → Framed → (old new : Tabled) → Type 0
 IsStopped (stops.Quits flag) message old new = IsQuit message old new
 IsStopped _ message old new = ⊥
 
-abbrev pub IsTakenUp : Turn → (ordinal : ℕ) → ClientNo → Client → Framed → (old new : Tabled) → Type 0
-IsTakenUp (turns.Stops stop) ordinal c row message old new = IsStopped stop message old new
-IsTakenUp turns.Answered ordinal c row message old new = IsAnswered c row message old new
-IsTakenUp (turns.Due hostgroup) ordinal c row message old new = IsDueThere hostgroup ordinal c message old new
+abbrev pub IsTakenUp : Turn → (ordinal : ℕ) → List Rule → ClientNo → Client → Framed → (old new : Tabled) → Type 0
+IsTakenUp (turns.Stops stop) ordinal rules c row message old new = IsStopped stop message old new
+IsTakenUp turns.Answered ordinal rules c row message old new = IsAnswered rules c row message old new
+IsTakenUp (turns.Due hostgroup) ordinal rules c row message old new = IsDueThere hostgroup ordinal rules c message old new

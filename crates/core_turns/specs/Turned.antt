@@ -4,6 +4,8 @@ use Rattle.std.specs.List.{list_all}
 use Rattle.std.specs.Option.{option_map_or}
 use Rattle.mx_base.specs.declared.names.ClientNo.{ClientNo}
 use Rattle.mx_base.specs.declared.names.Hostgroup.{Hostgroup}
+use Rattle.own_words.specs.Own.{IsAnswer}
+use Rattle.query_rules.specs.declared.rule.Rule.{Rule}
 use Rattle.client_session.specs.Setups.{Setup as Service}
 use Rattle.client_side.specs.declared.stage.Stage.TheVariants.{Commands}
 use Rattle.client_seat.specs.Seats.{is_ended}
@@ -15,7 +17,9 @@ use Rattle.core_tables.specs.Arrivals.{looked, turn}
 use Rattle.core_tables.specs.Tables.{IsSame, Tabled}
 use Rattle.core_tables.specs.Taking.{IsUpOr}
 use Rattle.core_tables.specs.declared.client.Client.{Client}
-use Rattle.core_laws.specs.clients.Turns.{Answers, AnswersBy, Choice, ComesUp, Ends, Goes, GoesBy, Halt, IsLookedAt, IsTurn, MayLeave, Quits, Rests, RestsThere, Waits, WaitsThere, waits_at}
+use Rattle.core_laws.specs.clients.Turns.{Answers, AnswersBy, Choice, ComesUp, Ends, Goes, GoesBy, Halt, IsLookedAt, IsTurn, MayLeave, Quits, Rests, RestsThere, Turns, Waits, WaitsThere, waits_at}
+use Rattle.core_promises.specs.Asks.{IsTextOf}
+use Rattle.core_promises.specs.Ruled.{AreRuled, IsRuled}
 use Rattle.core_turns.specs.declared.turn.Stop.{Stop}
 use Rattle.core_turns.specs.declared.turn.Stop.TheVariants as stops
 use Rattle.core_turns.specs.declared.turn.Turn.{Turn}
@@ -64,11 +68,23 @@ StopsSo Rests service default c old new = RestsThere service default c old new
 StopsSo Quits service default c old new = IsToQuit service default c old new
 StopsSo Ends service default c old new = IsToEnd service default c old new
 
--- Turns by these choices, and then this end, but for the leaving.
-abbrev pub TurnsUntil : List Choice → Halt → Service → (default : List ℕ) → ClientNo → (old new : Tabled) → Type 0
-TurnsUntil [] halt service default c old new = StopsSo halt service default c old new
-TurnsUntil (choice ∷ others) halt service default c old new =
-    (between : Tabled) × IsTurn choice service default c old between × TurnsUntil others halt service default c between new
+-- Turns by these choices whose texts are what the rules make of what came up, and then this end: with the leaving, and but for it.
+
+abbrev pub TurnsBy : Type 1
+TurnsBy = List Rule → List Choice → Halt → Service → (default : List ℕ) → ClientNo → (old new : Tabled) → Type 0
+
+abbrev pub RuledTurns : TurnsBy
+RuledTurns rules choices halt service default c old new =
+    (turns : Turns choices halt service default c old new) × AreRuled rules choices halt service default c old new turns
+
+abbrev pub IsRuledTurn : List Rule → Choice → Service → (default : List ℕ) → ClientNo → (old new : Tabled) → Type 0
+IsRuledTurn rules choice service default c old new =
+    (turn : IsTurn choice service default c old new) × IsRuled rules choice service default c old new turn
+
+abbrev pub TurnsUntil : TurnsBy
+TurnsUntil rules [] halt service default c old new = StopsSo halt service default c old new
+TurnsUntil rules (choice ∷ others) halt service default c old new =
+    (between : Tabled) × IsRuledTurn rules choice service default c old between × TurnsUntil rules others halt service default c between new
 
 -- By what code says of it.
 
@@ -79,49 +95,48 @@ halt_of stops.Ends = Ends
 halt_of (stops.Quits flag) = Quits
 
 -- its statement goes to this hostgroup alone
-pub record IsDueIn (hostgroup : Hostgroup) (service : Service) (default : List ℕ) (c : ClientNo) (old new : Tabled) : Type 0 where
+pub record IsDueIn (hostgroup : Hostgroup) (rules : List Rule) (service : Service) (default : List ℕ) (c : ClientNo) (old new : Tabled) : Type 0 where
   pub route : Route
   pub goes : GoesBy service default route c old new
   pub there : route.hostgroup ≡ hostgroup
   pub single : route.mirror ≡ None
+  pub ruled : IsTextOf rules goes.up.message.payload route.text
 
-abbrev pub IsTurned : Turn → Service → (default : List ℕ) → ClientNo → (old new : Tabled) → Type 0
-IsTurned (turns.Stops stop) service default c old new = StopsSo (halt_of stop) service default c old new
-IsTurned turns.Answered service default c old new = (payloads : List (List ℕ)) × AnswersBy service default payloads c old new
-IsTurned (turns.Due hostgroup) service default c old new = IsDueIn hostgroup service default c old new
+abbrev pub IsTurned : Turn → List Rule → Service → (default : List ℕ) → ClientNo → (old new : Tabled) → Type 0
+IsTurned (turns.Stops stop) rules service default c old new = StopsSo (halt_of stop) service default c old new
+IsTurned turns.Answered rules service default c old new =
+    (payloads : List (List ℕ)) × IsAnswer rules c payloads × AnswersBy service default payloads c old new
+IsTurned (turns.Due hostgroup) rules service default c old new = IsDueIn hostgroup rules service default c old new
 
--- One turn, and all that it makes as it goes on, up to where it leaves.
+-- One turn, and all that it makes as it goes on, up to where it leaves. No copies are made of its messages, what the router answers is in its
+-- own words, and what goes to a server is the client's own text, or what the rules make of it.
 
-abbrev pub IsSingle : Choice → Type 0
-IsSingle (Goes route) = route.mirror ≡ None
-IsSingle (Answers payloads) = Unit {0}
+abbrev pub IsSaid : List Rule → ClientNo → Choice → Type 0
+IsSaid rules c (Goes route) = route.mirror ≡ None
+IsSaid rules c (Answers payloads) = IsAnswer rules c payloads
 
-pub record HasChosen (service : Service) (default : List ℕ) (c : ClientNo) (old new : Tabled) : Type 0 where
+pub record HasChosen (rules : List Rule) (service : Service) (default : List ℕ) (c : ClientNo) (old new : Tabled) : Type 0 where
   pub choice : Choice
-  pub single : IsSingle choice
-  pub turns : IsTurn choice service default c old new
+  pub said : IsSaid rules c choice
+  pub turns : IsRuledTurn rules choice service default c old new
 
-abbrev pub HasGoneFurther : Option Stop → Service → (default : List ℕ) → ClientNo → (old new : Tabled) → Type 0
-HasGoneFurther None service default c old new = HasChosen service default c old new
-HasGoneFurther (Some stop) service default c old new = StopsSo (halt_of stop) service default c old new
+abbrev pub HasGoneFurther : Option Stop → List Rule → Service → (default : List ℕ) → ClientNo → (old new : Tabled) → Type 0
+HasGoneFurther None rules service default c old new = HasChosen rules service default c old new
+HasGoneFurther (Some stop) rules service default c old new = StopsSo (halt_of stop) service default c old new
 
--- by those that end so
-abbrev pub TurnsBy : Type 1
-TurnsBy = List Choice → Halt → Service → (default : List ℕ) → ClientNo → (old new : Tabled) → Type 0
-
-pub record HasGone (turns : TurnsBy) (stop : Stop) (service : Service) (default : List ℕ) (c : ClientNo) (old new : Tabled) : Type 0 where
+pub record HasGone (turns : TurnsBy) (stop : Stop) (rules : List Rule) (service : Service) (default : List ℕ) (c : ClientNo) (old new : Tabled) : Type 0 where
   pub going : is_away (old.clients c) ≡ false
   pub choices : List Choice
-  pub single : All IsSingle choices
-  pub turned : turns choices (halt_of stop) service default c old new
+  pub said : All (IsSaid rules c) choices
+  pub turned : turns rules choices (halt_of stop) service default c old new
 
 pub record IsAbsent (c : ClientNo) (old new : Tabled) : Type 0 where
   pub away : is_away (old.clients c) ≡ true
   pub same : IsSame new old
 
-abbrev pub HasGoneOn : TurnsBy → Option Went → Service → (default : List ℕ) → ClientNo → (old new : Tabled) → Type 0
-HasGoneOn turns None service default c old new = IsAbsent c old new
-HasGoneOn turns (Some went) service default c old new = HasGone turns went.stop service default c old new
+abbrev pub HasGoneOn : TurnsBy → Option Went → List Rule → Service → (default : List ℕ) → ClientNo → (old new : Tabled) → Type 0
+HasGoneOn turns None rules service default c old new = IsAbsent c old new
+HasGoneOn turns (Some went) rules service default c old new = HasGone turns went.stop rules service default c old new
 
 -- what a client is by which code has it leave
 abbrev pub MayLeaveBy : Stop → Option Client → Type 0
@@ -133,6 +148,6 @@ MayLeaveIf None row = Unit {0}
 MayLeaveIf (Some went) row = MayLeaveBy went.stop row
 
 -- where somebody is there
-abbrev pub IsTurnedIf : Option Turn → Service → (default : List ℕ) → ClientNo → (old new : Tabled) → Type 0
-IsTurnedIf None service default c old new = IsAbsent c old new
-IsTurnedIf (Some turn) service default c old new = (is_away (old.clients c) ≡ false) × IsTurned turn service default c old new
+abbrev pub IsTurnedIf : Option Turn → List Rule → Service → (default : List ℕ) → ClientNo → (old new : Tabled) → Type 0
+IsTurnedIf None rules service default c old new = IsAbsent c old new
+IsTurnedIf (Some turn) rules service default c old new = (is_away (old.clients c) ≡ false) × IsTurned turn rules service default c old new

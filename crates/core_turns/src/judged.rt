@@ -1,10 +1,14 @@
 // What becomes of a message that came up.
-ghost use Rattle.std.specs.Prelude.{◌≡◌, ℕ, nat_eq, drop, List, None, IfOk, Option};
+ghost use Rattle.std.specs.Prelude.{◌≡◌, ℕ, nat_eq, drop, List, None, IfOk, IfSome, Option};
 ghost use Rattle.log_story.specs.Plan.{com_init_db};
 ghost use Rattle.link_state.specs.Classes as link_classes;
 ghost use Rattle.link_state.specs.declared.asking.Form.TheVariants as forms;
 ghost use Rattle.message_judge.specs.Drafts.{class_in};
-ghost use Rattle.core_turns.specs.Judged.{IsDraftOn, IsSayable, IsSendable, IsVerdictOn, byte_of};
+ghost use Rattle.message_judge.specs.Told.{IsOwnTold};
+ghost use Rattle.query_rules.specs.Passing.{rules_of};
+ghost use Rattle.query_rules.specs.declared.rule.Rule.{Rule};
+ghost use Rattle.core_promises.specs.Asks.{IsTextOf};
+ghost use Rattle.core_turns.specs.Judged.{IsDraftOn, IsOwnDraftOn, IsOwnVerdict, IsSayable, IsSendable, IsVerdictOn, byte_of};
 
 use client_desk::Desk;
 use core_service::Service;
@@ -81,7 +85,9 @@ fn caller_of(alloc: Global, service: &Service, desk: &Desk) -> Result<Caller, Ou
 
 // What is answered to a command about prepared statements, which this router doesn't have: the two that have no reply get
 // none.
-fn unprepared(payload: &[u8]) -> Option<Told> {
+fn unprepared(payload: &[u8]) -> Option<Told>
+    ensures { (rules : List Rule) → IfSome result (λ told. IsOwnTold rules told) }
+{
     let [byte, ..] = payload else {
         return None;
     };
@@ -160,7 +166,9 @@ fn sent(
     going: Going,
 ) -> Result<Verdict, OutOfMemory>
     requires { IsSayable payload.now (class_in None going.class) going.text }
-    ensures { IfOk result (λ verdict. IsVerdictOn payload.now verdict) }
+    ensures is { IfOk result (λ verdict. IsVerdictOn payload.now verdict) }
+    ensures own { IfOk result (λ verdict. (rules : List Rule) → IsTextOf rules payload.now going.text
+        → IsOwnVerdict rules payload.now verdict) }
 {
     let session = desk.session(going.hostgroup);
     let is_there = session.home.is_some() || servers.online(going.hostgroup);
@@ -196,7 +204,9 @@ fn verdict_of(
     draft: Draft,
 ) -> Result<Verdict, OutOfMemory>
     requires { IsDraftOn payload.now draft }
-    ensures { IfOk result (λ verdict. IsVerdictOn payload.now verdict) }
+    ensures is { IfOk result (λ verdict. IsVerdictOn payload.now verdict) }
+    ensures own { IfOk result (λ verdict. (rules : List Rule) → IsOwnDraftOn rules payload.now draft
+        → IsOwnVerdict rules payload.now verdict) }
 {
     match draft {
         Draft::Ends => Ok(Verdict::Quits),
@@ -212,7 +222,8 @@ fn drafted(
     desk: &Desk,
     payload: &[u8],
 ) -> Result<Judged, OutOfMemory>
-    ensures { IfOk result (λ judged. IsDraftOn payload.now judged.draft) }
+    ensures is { IfOk result (λ judged. IsDraftOn payload.now judged.draft) }
+    ensures own { IfOk result (λ judged. IsOwnDraftOn (rules_of service.now.rules) payload.now judged.draft) }
 {
     let caller = caller_of(alloc, service, desk)?;
     let standing = Standing {
@@ -230,7 +241,8 @@ pub(crate) fn judged(
     desk: &Desk,
     payload: &[u8],
 ) -> Result<Judgement, OutOfMemory>
-    ensures { IfOk result (λ judgement. IsVerdictOn payload.now judgement.verdict) }
+    ensures is { IfOk result (λ judgement. IsVerdictOn payload.now judgement.verdict) }
+    ensures own { IfOk result (λ judgement. IsOwnVerdict (rules_of service.now.rules) payload.now judgement.verdict) }
 {
     if let Some(told) = unprepared(payload) {
         return Ok(Judgement {

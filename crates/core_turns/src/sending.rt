@@ -1,5 +1,5 @@
 // What becomes of a message is done.
-ghost use Rattle.std.specs.Prelude.{◌≡◌, nat_eq, slice_index_or, IfOk, OnOk};
+ghost use Rattle.std.specs.Prelude.{◌≡◌, nat_eq, slice_index_or, IfOk, List, OnOk};
 ghost use Rattle.std.specs.Option.{option_copied};
 ghost use Rattle.log_story.specs.Plan.{com_reset};
 ghost use Rattle.packet_frame.specs.Packets.{spellings};
@@ -7,8 +7,11 @@ ghost use Rattle.core_laws.specs.taking.Takes as takes;
 ghost use Rattle.core_tables.specs.Tables.{tables_of};
 ghost use Rattle.core_tables.specs.Taking.{IsUpOr};
 ghost use Rattle.marked_tables.specs.Goes.{GoesOn};
-ghost use Rattle.message_judge.specs.Told.{payloads_of};
-ghost use Rattle.core_turns.specs.Judged.{IsSendable, IsVerdictOn};
+ghost use Rattle.message_judge.specs.Told.{IsOwnTold, payloads_of};
+ghost use Rattle.query_rules.specs.Passing.{rules_of};
+ghost use Rattle.query_rules.specs.declared.rule.Rule.{Rule};
+ghost use Rattle.core_promises.specs.Asks.{IsTextOf};
+ghost use Rattle.core_turns.specs.Judged.{IsOwnVerdict, IsSendable, IsVerdictOn};
 ghost use Rattle.core_turns.specs.Taken.{IsAnswered, IsDueThere, IsTakenUp, OnUp};
 
 use crate::judged::{Judgement, Verdict, judged};
@@ -34,8 +37,10 @@ fn judged_of(
     client: ClientNo,
 ) -> Result<Judgement, OutOfMemory>
     requires { IsUpOr ((tables_of tables.now).clients client) }
-    ensures { IfOk result (λ judgement. OnUp client (tables_of tables.now)
+    ensures is { IfOk result (λ judgement. OnUp client (tables_of tables.now)
         (λ row message. IsVerdictOn message.payload judgement.verdict)) }
+    ensures own { IfOk result (λ judgement. OnUp client (tables_of tables.now)
+        (λ row message. IsOwnVerdict (rules_of service.now.rules) message.payload judgement.verdict)) }
 {
     let Some(row) = tables.clients.get(&client.0) else {
         unreachable!()
@@ -93,8 +98,8 @@ fn answer(
     told: &Told,
 ) -> Result<(), OutOfMemory>
     requires { IsUpOr ((tables_of marked.old.tables).clients client) }
-    ensures is { OnOk result (OnUp client (tables_of marked.old.tables)
-        (λ row message. IsAnswered client row message
+    ensures is { OnOk result ((rules : List Rule) → IsOwnTold rules told.now
+        → OnUp client (tables_of marked.old.tables) (λ row message. IsAnswered rules client row message
         (tables_of marked.old.tables) (tables_of marked.new.tables))) }
     ensures goes { OnOk result (GoesOn marked.old marked.new) }
 {
@@ -130,8 +135,8 @@ fn becomes_due(
     requires up { IsUpOr ((tables_of marked.old.tables).clients client) }
     requires sendable { OnUp client (tables_of marked.old.tables)
         (λ row message. IsSendable message.payload text form) }
-    ensures is { OnOk result (OnUp client (tables_of marked.old.tables)
-        (λ row message. IsDueThere hostgroup ordinal client message
+    ensures is { OnOk result ((rules : List Rule) → OnUp client (tables_of marked.old.tables)
+        (λ row message. IsTextOf rules message.payload text → IsDueThere hostgroup ordinal rules client message
         (tables_of marked.old.tables) (tables_of marked.new.tables))) }
     ensures goes { OnOk result (GoesOn marked.old marked.new) }
 {
@@ -154,7 +159,7 @@ pub(crate) fn take_up(
 ) -> Result<Turn, OutOfMemory>
     requires { IsUpOr ((tables_of marked.old.tables).clients client) }
     ensures is { IfOk result (λ turn. OnUp client (tables_of marked.old.tables)
-        (λ row message. IsTakenUp turn ordinal client row message
+        (λ row message. IsTakenUp turn ordinal (rules_of service.now.rules) client row message
         (tables_of marked.old.tables) (tables_of marked.new.tables))) }
     ensures goes { OnOk result (GoesOn marked.old marked.new) }
 {

@@ -1,10 +1,12 @@
 use Rattle.std.specs.Prelude.{◌≡◌, false, Bool, List, ℕ}
 use Rattle.std.proofs.Common.{sym, subst, ◌∙◌}
-use Rattle.std.proofs.lemmas.Result.{IfOk-weaker}
+use Rattle.std.proofs.lemmas.Result.{IfOk-weaker, on_ok_weaker}
 use Rattle.client_seat.specs.declared.next.Next.{Next}
 use Rattle.client_seat.specs.declared.next.Next.TheVariants as next
+use Rattle.query_rules.specs.Passing.{rules_of}
 use Rattle.core_tables.specs.Arrivals.{IsUpIn, looked, next_of}
 use Rattle.core_tables.specs.Tables.{IsSame, Tabled, tables_of}
+use Rattle.marked_tables.proofs.Going.{goes_along}
 use Rattle.core_turns.specs.Turned.{IsLookable}
 use Rattle.core_turns.proofs.Turning.{ends-there, looked-some, rests-there, taken-next, there-of, up-there}
 use Rattle.core_turns.proofs.taking.take_there.Goals as goal
@@ -49,8 +51,12 @@ returns-in-Message-clause-is c =
     let up : IsUpIn (next.Message c.in-Message.ordinal) (between.clients c.args.client) =
     subst (λ (n : Next). IsUpIn n (between.clients c.args.client)) c.in-Message.is c.in_ok-look.ensures.up in
     IfOk-weaker c.take_up.result _ _
-    (λ turned taken. taken-next c.args.service.now.setup c.args.service.now.default_schema c.args.client old between at.0 at.1 same c.in-Message.ordinal turned _
+    (λ turned taken. taken-next c.args.service.now.setup c.args.service.now.default_schema c.args.client old between at.0 at.1 same (rules_of c.args.service.now.rules) c.in-Message.ordinal turned _
     able said up taken) c.take_up.ensures.is
+
+pub returns-in-Message-clause-goes : goal.returns-in-Message-clause-goes
+returns-in-Message-clause-goes c = on_ok_weaker c.take_up.result
+    (λ goes. goes_along c.args.marked.now c.look.new.self c.take_up.new.marked c.in_ok-look.ensures.goes goes) c.take_up.ensures.goes
 
 pub take_up-requires : goal.take_up-requires
 take_up-requires c =
