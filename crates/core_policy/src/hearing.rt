@@ -20,6 +20,20 @@ pub(crate) fn is_held_fast(tables: &Tables, name: SessionName) -> bool {
     }
 }
 
+// Whether a rule keeps the session that a link carries, where that was left or is its client's present one.
+fn is_ruled(tables: &Tables, link: LinkId, name: SessionName) -> Option<bool> {
+    if let Some(left) = &tables.links.get(&link.0)?.row.left {
+        return Some(left.pin.rule);
+    }
+    let client = tables.clients.get(&name.client.0)?;
+    let session = client.desk.session(name.hostgroup);
+    if session.life == name.life {
+        Some(session.pin.rule)
+    } else {
+        None
+    }
+}
+
 // Its client's statement is in work in a session, which is its present one.
 fn works_in(tables: &Tables, name: SessionName) -> bool {
     match tables.clients.get(&name.client.0) {
@@ -152,12 +166,25 @@ impl Policy {
                 if cut {
                     self.cuts(link);
                 }
+                if let Some(name) = name {
+                    self.notes_rule(tables, link, name);
+                }
                 Ok(answered(tables, link, name, purpose, &end, behind || cut))
             }
             Said::Bad { place } => match name {
                 Some(name) => Ok(breaks(tables, name, Failure::BadBytes { place })),
                 None => Ok(Verdict::none()),
             },
+        }
+    }
+
+    // Whether a rule keeps a session on its link, behind an answer there.
+    fn notes_rule(&mut self, tables: &Tables, link: LinkId, name: SessionName) {
+        let Some(ruled) = is_ruled(tables, link, name) else {
+            return;
+        };
+        if let Some(part) = self.links.get_mut(&link.0) {
+            part.ruled = ruled;
         }
     }
 

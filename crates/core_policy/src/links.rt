@@ -52,6 +52,7 @@ impl Policy {
             key: asked.key,
             spot: None,
             cut: false,
+            ruled: false,
         };
         self.links.insert(link.0, part)?;
         self.pool

@@ -90,7 +90,9 @@ impl Policy {
             self.look_at(link);
             return Ok(Some(Deed::TakeBack { link }));
         }
-        if self.is_cut(link) || row.is_to_close(self.outside(service, row.link.server, now)) {
+        if self.is_used_up(link, row)
+            || row.is_to_close(self.outside(service, row.link.server, now))
+        {
             return Ok(self.closes(tables, link, server));
         }
         if is_lendable(row) {
@@ -100,6 +102,14 @@ impl Policy {
             begins_on(self.alloc, tables, link, row)
         } else {
             Ok(None)
+        }
+    }
+
+    // Whether it can serve nobody any more: it was cut; or a rule kept it for a client that left it, and what is left there isn't known.
+    fn is_used_up(&self, link: LinkId, row: &Row) -> bool {
+        match self.link(link) {
+            Some(part) => part.cut || (part.ruled && row.is_vacant()),
+            None => false,
         }
     }
 

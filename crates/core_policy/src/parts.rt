@@ -19,11 +19,12 @@ pub struct ClientPart {
 }
 
 /// Of a link to a server: its small number, its key, and the number of that with what it was told, once it stood in the pool since it was
-/// readied last; and whether an answer came there before the question was written whole.
+/// readied last; whether an answer came there before the question was written whole; and whether a rule keeps the session there for its client.
 #[derive(Clone, Copy)]
 pub struct LinkPart {
     pub slot: u32,
     pub key: u32,
     pub spot: Option<u32>,
     pub cut: bool,
+    pub ruled: bool,
 }
