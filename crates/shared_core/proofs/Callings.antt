@@ -3,7 +3,7 @@ use Rattle.std.specs.Prelude.{◌≡◌, ◌<◌, ◌||◌, ℕ, Bool, true, fal
 use Rattle.std.specs.Option.{option_map}
 use Rattle.std.proofs.Common.{refl, sym, ap, ◌∙◌, subst}
 use Rattle.std.proofs.lemmas.Bool.{true≢false}
-use Rattle.std.proofs.lemmas.List.Elements.{All-cons, All-nil}
+use Rattle.std.proofs.lemmas.List.Elements.{All-append, All-cons, All-nil}
 use Rattle.mx_base.specs.declared.names.Address.{Address}
 use Rattle.mx_base.specs.declared.names.ClientNo.{ClientNo}
 use Rattle.mx_base.specs.declared.names.LinkId.{LinkId}
@@ -11,7 +11,6 @@ use Rattle.mx_base.specs.declared.names.ServerId.{ServerId}
 use Rattle.mx_wire.specs.Log.{Log}
 use Rattle.mx_wire.specs.Tells.{MayFollow}
 use Rattle.mx_wire.specs.declared.entry.Entry.TheVariants.{OpenFailed, Woke}
-use Rattle.client_session.specs.Setups.{Setup}
 use Rattle.private_model.proofs.Maps.{client_of}
 use Rattle.private_model.specs.Story.{is_client}
 use Rattle.client_seat.specs.Seats.{is_ended}
@@ -23,11 +22,15 @@ use Rattle.core_laws.specs.clients.Going.{GivenUp, is_going}
 use Rattle.core_laws.specs.entry.Cores.{with_entry}
 use Rattle.router_laws.specs.decisions.Routers.{IsRouter}
 use Rattle.router_laws.specs.wakes.Calling.{Caller, GivesUpAll, IsThere, is_called, is_given}
-use Rattle.router_laws.specs.wakes.Deciding.{AreAloneAll}
+use Rattle.query_rules.specs.Passing.{rules_of}
+use Rattle.router_laws.specs.decisions.Rulings.{AreRuledAll}
+use Rattle.router_laws.specs.decisions.Speaks.{IsGivenOurs}
+use Rattle.router_laws.specs.waits.Drained.{IsDrainedFor}
+use Rattle.router_laws.specs.wakes.Deciding.{IsCallerOurs}
 use Rattle.router_laws.specs.wakes.Waking.{FailsSo, WakesSo}
 use Rattle.router_laws.proofs.OfWakes.Settled.{same_itself}
 use Rattle.shared_core.specs.Follows.{AreRising, HasAnswered, HaveFollowed, is_of}
-use Rattle.shared_core.specs.Stands.{Carries, is_roomy, tables}
+use Rattle.shared_core.specs.Stands.{Carries, CarriesWhere, is_roomy, tables}
 use Rattle.shared_core.specs.Wakes.{AreCalled, HasFailed, HasWoken, HaveGivenUp, IsWaiting}
 use Rattle.shared_core.specs.declared.roomy.Roomy.{Roomy}
 use Rattle.shared_core.specs.declared.router.Router.{Router}
@@ -72,11 +75,17 @@ given_either (x ∷ xs) ys c is left right =
 pub none_given : (roomy : Roomy) (t : Tabled) → HaveGivenUp roomy roomy t t
 none_given roomy t = record {
   given = [];
+  ours = All-nil _;
   gives = same_itself t;
   calls = λ c is. absurd (true≢false (sym is));
   going = λ c is. absurd (true≢false (sym is));
   kept = λ c is. is;
 }
+
+-- one that is given up is answered by the router's own
+all_one : (c : ClientNo) {old new : Tabled} (answered : HasAnswered c old new)
+    → All IsGivenOurs (record { client = c; payload = answered.payload } ∷ [])
+all_one c answered = All-cons IsGivenOurs (record { client = c; payload = answered.payload }) [] answered.own (All-nil IsGivenOurs)
 
 its_alone : (c d : ClientNo) → (is_client d c || false) ≡ true → d ≡ c
 its_alone c d is = by (is_client d c) refl is where
@@ -88,6 +97,7 @@ pub one_given : (before called : Roomy) (c : ClientNo) (old new : Tabled) → Is
     → ((d : ClientNo) → is_roomy before d ≡ true → is_roomy called d ≡ true) → HaveGivenUp before called old new
 one_given before called c old new waiting answered its kept = record {
   given = record { client = c; payload = answered.payload } ∷ [];
+  ours = all_one c answered;
   gives = (new, record { late = waiting.unsent; same = answered.same }, same_itself new);
   calls = λ d is. ap (is_roomy called) (its_alone c d is) ∙ its;
   going = λ d is.
@@ -99,6 +109,7 @@ one_given before called c old new waiting answered its kept = record {
 pub given_along : (a b c : Roomy) (s t u : Tabled) → HaveGivenUp a b s t → HaveGivenUp b c t u → HaveGivenUp a c s u
 given_along a b c s t u first next = record {
   given = first.given ++ next.given;
+  ours = All-append IsGivenOurs first.given next.given first.ours next.ours;
   gives = gives_along first.given next.given s t u first.gives next.gives;
   calls = λ d is. given_either first.given next.given d is (λ e. next.kept d (first.calls d e)) (λ e. next.calls d e);
   going = λ d is. given_either first.given next.given d is (λ e. all_going next.given t u next.gives d ∙ first.going d e) (λ e. next.going d e);
@@ -119,6 +130,7 @@ pub given_since : (first roomy called : Roomy) (old new : Tabled) → ((c : Clie
     → HaveGivenUp roomy called old new → HaveGivenUp first called old new
 given_since first roomy called old new more given = record {
   given = given.given;
+  ours = given.ours;
   gives = given.gives;
   calls = given.calls;
   going = given.going;
@@ -131,7 +143,8 @@ have_woken service roomy called clients old mid new given are followed = record 
   given = given.given;
   callers = followed.callers;
   links = followed.links;
-  alone = followed.alone;
+  given_ours = given.ours;
+  ours = followed.ours;
   so = record {
     late = mid;
     gives = given.gives;
@@ -140,6 +153,7 @@ have_woken service roomy called clients old mid new given are followed = record 
         called_of followed.callers clients followed.named c ∙ are.all c (given.kept c has) (going_there mid c row there going);
     calls = followed.calls;
   };
+  ruled = followed.ruled;
 }
 
 pub none_fails : (service : Service) (t : Tabled) → HasFailed service t t
@@ -147,7 +161,8 @@ none_fails service t = record {
   given = [];
   callers = [];
   links = [];
-  alone = All-nil _;
+  given_ours = All-nil _;
+  ours = All-nil _;
   so = record {
     late = t;
     gives = same_itself t;
@@ -166,6 +181,7 @@ none_fails service t = record {
       freed = same_itself t;
     };
   };
+  ruled = tt;
 }
 
 pub one_fails : (service : Service) (c : ClientNo) (old mid new : Tabled) → IsWaiting c old → HasAnswered c old mid
@@ -174,7 +190,8 @@ one_fails service c old mid new waiting answered followed = record {
   given = record { client = c; payload = answered.payload } ∷ [];
   callers = followed.callers;
   links = followed.links;
-  alone = followed.alone;
+  given_ours = all_one c answered;
+  ours = followed.ours;
   so = record {
     late = mid;
     gives = (mid, record { late = waiting.unsent; same = answered.same }, same_itself mid);
@@ -182,6 +199,7 @@ one_fails service c old mid new waiting answered followed = record {
     none_else = λ d is. sym (called_of followed.callers (c ∷ []) followed.named d) ∙ is;
     calls = followed.calls;
   };
+  ruled = followed.ruled;
 }
 
 -- one client that was given up is there, and alone
@@ -198,28 +216,32 @@ there_one c old mid waiting answered =
 -- The router is carried over the entry.
 
 abbrev pub Fails : Type 0
-Fails = (service : Setup) (default : List ℕ) (log : Log) (t now : Tabled) (roomy : ClientNo → Bool) (given : List GivenUp)
-    (callers : List Caller) (links : List LinkId) (server : ServerId) (address : Address) → IsRouter service default log t roomy
-    → MayFollow log (OpenFailed server address) → FailsSo service default given callers links t now → AreAloneAll callers
-    → IsRouter service default (with_entry log (OpenFailed server address)) now roomy
+Fails = (service : Service) (log : Log) (t now : Tabled) (roomy : ClientNo → Bool) (given : List GivenUp)
+    (callers : List Caller) (links : List LinkId) (server : ServerId) (address : Address) → IsRouter service log t roomy
+    → MayFollow log (OpenFailed server address) → (fails : FailsSo service.setup service.default_schema given callers links t now) → All IsGivenOurs given
+    → All (IsCallerOurs (rules_of service.rules)) callers
+    → AreRuledAll (rules_of service.rules) callers service.setup service.default_schema fails.late fails.calls.turned fails.calls.going
+    → IsRouter service (with_entry log (OpenFailed server address)) now roomy
 
 pub fails_carries : Fails → (service : Service) (server : ServerId) (old new : Router) → HasFailed service (tables old) (tables new)
     → new.roomy ≡ old.roomy → new.came ≡ old.came → (address : Address) → Carries service (OpenFailed server address) old new
 fails_carries law service server old new failed roomy came address =
     carries_by service old new roomy came (OpenFailed server address) refl (λ log may is.
-    law service.setup service.default_schema log (tables old) (tables new) (is_roomy old.roomy) failed.given failed.callers failed.links server address
-    is may failed.so failed.alone)
+    law service log (tables old) (tables new) (is_roomy old.roomy) failed.given failed.callers failed.links server address
+    is may failed.so failed.given_ours failed.ours failed.ruled)
 
 abbrev pub Wakes : Type 0
-Wakes = (service : Setup) (default : List ℕ) (log : Log) (t now : Tabled) (roomy room : ClientNo → Bool) (given : List GivenUp)
-    (callers : List Caller) (links : List LinkId) (until_ms now_ms : ℕ) → IsRouter service default log t roomy → MayFollow log (Woke until_ms now_ms)
-    → WakesSo service default given callers links roomy t now → AreAloneAll callers
-    → IsRouter service default (with_entry log (Woke until_ms now_ms)) now room
+Wakes = (service : Service) (log : Log) (t now : Tabled) (roomy room : ClientNo → Bool) (given : List GivenUp)
+    (callers : List Caller) (links : List LinkId) (until_ms now_ms : ℕ) → IsRouter service log t roomy → MayFollow log (Woke until_ms now_ms)
+    → IsDrainedFor t log → (wakes : WakesSo service.setup service.default_schema given callers links roomy t now) → All IsGivenOurs given
+    → All (IsCallerOurs (rules_of service.rules)) callers
+    → AreRuledAll (rules_of service.rules) callers service.setup service.default_schema wakes.late wakes.calls.turned wakes.calls.going
+    → IsRouter service (with_entry log (Woke until_ms now_ms)) now room
 
 pub wakes_carries : Wakes → (service : Service) (now_ms : ℕ) (old new : Router) → HasWoken service old.roomy (tables old) (tables new)
-    → new.came ≡ old.came → (until_ms : ℕ) → Carries service (Woke until_ms now_ms) old new
-wakes_carries law service now_ms old new woken came until_ms log may stands = record {
-  router = law service.setup service.default_schema log (tables old) (tables new) (is_roomy old.roomy) (is_roomy new.roomy) woken.given woken.callers
-      woken.links until_ms now_ms stands.router may woken.so woken.alone;
+    → new.came ≡ old.came → (until_ms : ℕ) → CarriesWhere (IsDrainedFor (tables old)) service (Woke until_ms now_ms) old new
+wakes_carries law service now_ms old new woken came until_ms log drained may stands = record {
+  router = law service log (tables old) (tables new) (is_roomy old.roomy) (is_roomy new.roomy) woken.given woken.callers
+      woken.links until_ms now_ms stands.router may drained woken.so woken.given_ours woken.ours woken.ruled;
   counted = came ∙ (stands.counted ∙ sym (none_come log (Woke until_ms now_ms) refl));
 }

@@ -20,20 +20,20 @@ none_come log e none =
 
 module _ (service : Service) (old new : Router) (roomy : new.roomy ≡ old.roomy) (came : new.came ≡ old.came) where
   pub carries_by : (e : Entry) → accepted_links (e ∷ []) ≡ []
-      → ((log : Log) → MayFollow log e → IsRouter service.setup service.default_schema log (tables old) (is_roomy old.roomy)
-      → IsRouter service.setup service.default_schema (with_entry log e) (tables new) (is_roomy old.roomy))
+      → ((log : Log) → MayFollow log e → IsRouter service log (tables old) (is_roomy old.roomy)
+      → IsRouter service (with_entry log e) (tables new) (is_roomy old.roomy))
       → Carries service e old new
   carries_by e none goes log may stands = record {
-    router = subst (λ (r : Roomy). IsRouter service.setup service.default_schema (with_entry log e) (tables new) (is_roomy r)) (sym roomy)
+    router = subst (λ (r : Roomy). IsRouter service (with_entry log e) (tables new) (is_roomy r)) (sym roomy)
         (goes log may stands.router);
     counted = came ∙ stands.counted ∙ sym (none_come log e none);
   }
 
   -- nothing is told
-  pub stays_by : (log : Log) → (IsRouter service.setup service.default_schema log (tables old) (is_roomy old.roomy)
-      → IsRouter service.setup service.default_schema log (tables new) (is_roomy old.roomy)) → StandsFor service log old → StandsFor service log new
+  pub stays_by : (log : Log) → (IsRouter service log (tables old) (is_roomy old.roomy)
+      → IsRouter service log (tables new) (is_roomy old.roomy)) → StandsFor service log old → StandsFor service log new
   stays_by log goes stands = record {
-    router = subst (λ (r : Roomy). IsRouter service.setup service.default_schema log (tables new) (is_roomy r)) (sym roomy) (goes stands.router);
+    router = subst (λ (r : Roomy). IsRouter service log (tables new) (is_roomy r)) (sym roomy) (goes stands.router);
     counted = came ∙ stands.counted;
   }
 

@@ -16,7 +16,6 @@ use Rattle.mx_wire.specs.declared.entry.Entry.{Entry}
 use Rattle.mx_wire.specs.declared.entry.Entry.TheVariants as entry
 use Rattle.ready_loop.specs.Machine.{IsFarewell, IsPartOf}
 use Rattle.ready_loop.specs.declared.machines.Act.TheVariants as act
-use Rattle.client_session.specs.Setups.{Setup}
 use Rattle.client_desk.specs.declared.session.Session.{Session}
 use Rattle.client_seat.specs.Seats.{has_room, is_ended, wrote}
 use Rattle.client_seat.specs.declared.seat.Seat.{Seat}
@@ -34,6 +33,7 @@ use Rattle.router_laws.specs.clients.Parts.{PartsSo}
 use Rattle.router_laws.specs.clients.Writes.{AreRoomy, lacks_event}
 use Rattle.router_laws.specs.decisions.Routers.{IsRouter}
 use Rattle.router_laws.specs.quiet.Quiet.{is_quiet}
+use Rattle.router_laws.specs.waits.Drained.{IsDrainedAt}
 use Rattle.router_laws.specs.routers.Somehow.{AreLinked, IsLinked}
 use Rattle.shared_core.specs.Parts.{MayPart, is_homeless}
 use Rattle.shared_core.specs.Stands.{ActsSo, IsClosed, PartsFor, Shown, StandsBy}
@@ -144,20 +144,20 @@ comes_more log more none =
 -- The laws by which the router goes on.
 
 abbrev pub Quiets : Type 0
-Quiets = (service : Setup) (default : List ℕ) (log : Log) (e : Entry) (t : Tabled) (roomy : ClientNo → Bool) → IsRouter service default log t roomy
-    → MayFollow log e → is_quiet e ≡ true → IsRouter service default (with_entry log e) t roomy
+Quiets = (service : Service) (log : Log) (e : Entry) (t : Tabled) (roomy : ClientNo → Bool) → IsRouter service log t roomy
+    → MayFollow log e → is_quiet e ≡ true → IsDrainedAt t log e → IsRouter service (with_entry log e) t roomy
 
 abbrev pub Marks : Type 0
-Marks = (service : Setup) (default : List ℕ) (log marks : Log) (t : Tabled) (roomy : ClientNo → Bool) → IsRouter service default log t roomy
-    → AreMarks marks → length (log ++ marks) < 281474976710656 → IsRouter service default (log ++ marks) t roomy
+Marks = (service : Service) (log marks : Log) (t : Tabled) (roomy : ClientNo → Bool) → IsRouter service log t roomy
+    → AreMarks marks → length (log ++ marks) < 281474976710656 → IsRouter service (log ++ marks) t roomy
 
 abbrev pub Parts : Type 0
-Parts = (service : Setup) (default : List ℕ) (log : Log) (t now : Tabled) (roomy : ClientNo → Bool) (link : LinkId) (c : ClientNo)
-    → IsRouter service default log t roomy → MayFollow log (entry.Closed link) → PartsSo link c t now
-    → IsRouter service default (with_entry log (entry.Closed link)) now roomy
+Parts = (service : Service) (log : Log) (t now : Tabled) (roomy : ClientNo → Bool) (link : LinkId) (c : ClientNo)
+    → IsRouter service log t roomy → MayFollow log (entry.Closed link) → PartsSo link c t now
+    → IsRouter service (with_entry log (entry.Closed link)) now roomy
 
 abbrev pub Linked : Type 0
-Linked = (service : Setup) (default : List ℕ) (log : Log) (t : Tabled) (roomy : ClientNo → Bool) → IsRouter service default log t roomy → AreLinked t
+Linked = (service : Service) (log : Log) (t : Tabled) (roomy : ClientNo → Bool) → IsRouter service log t roomy → AreLinked t
 
 pub record Laws : Type 0 where
   pub writes : ClientWrites
@@ -170,7 +170,7 @@ pub record Laws : Type 0 where
 -- An entry behind which it is there still, on the same link.
 pub record IsBehind (service : Service) (log : Log) (e : Entry) (c : ClientNo) (row : Client) (t : Tabled) (roomy : ClientNo → Bool) : Type 0 where
   pub row_then : Client
-  pub router : IsRouter service.setup service.default_schema (with_entry log e) (client_put c (Some row_then) t) roomy
+  pub router : IsRouter service (with_entry log e) (client_put c (Some row_then) t) roomy
   pub over : is_ended row_then.desk.seat.phase ≡ true
   pub link_is : row_then.desk.seat.link ≡ row.desk.seat.link
   pub none : accepted_links (e ∷ []) ≡ []
@@ -186,10 +186,10 @@ module _ (laws : Laws) (old : Router) (link : LinkId) (c : ClientNo) (row : Clie
   abbrev new : Router
   new = record old { leaving = Some c }
 
-  parts_so : (service : Service) (log : Log) → IsRouter service.setup service.default_schema log (forgotten c t) roomy
+  parts_so : (service : Service) (log : Log) → IsRouter service log (forgotten c t) roomy
       → old.came ≡ length (accepted_links log) → PartsFor service log (shown new)
   parts_so service log router counted = record {
-    router = subst (λ (now : Tabled). IsRouter service.setup service.default_schema log now roomy)
+    router = subst (λ (now : Tabled). IsRouter service log now roomy)
         (sym (ap (λ (l : Option LinkId). without_link l (forgotten c t)) closed.link)) router;
     counted = counted;
   }
@@ -198,7 +198,7 @@ module _ (laws : Laws) (old : Router) (link : LinkId) (c : ClientNo) (row : Clie
       → PartsFor service (log ++ entry.Closed link ∷ []) (shown new)
   plain service log may was =
       parts_so service (log ++ entry.Closed link ∷ [])
-      (laws.parts service.setup service.default_schema log t (forgotten c t) roomy link c was.router may (record {
+      (laws.parts service log t (forgotten c t) roomy link c was.router may (record {
         row = row;
         its = record { numbered = numbered; there = there };
         over = is.over;
@@ -210,8 +210,8 @@ module _ (laws : Laws) (old : Router) (link : LinkId) (c : ClientNo) (row : Clie
   ends service log e marks behind was are may =
       let few : length (with_entry log e ++ marks) < 281474976710656 = let bounded = may.bounded in omega (arith, bounded) in
       parts_so service (log ++ e ∷ [] ++ marks ++ entry.Closed link ∷ [])
-      (laws.parts service.setup service.default_schema (with_entry log e ++ marks) (client_put c (Some behind.row_then) t) (forgotten c t) roomy link c
-      (laws.marks service.setup service.default_schema (with_entry log e) marks (client_put c (Some behind.row_then) t) roomy behind.router are few) may
+      (laws.parts service (with_entry log e ++ marks) (client_put c (Some behind.row_then) t) (forgotten c t) roomy link c
+      (laws.marks service (with_entry log e) marks (client_put c (Some behind.row_then) t) roomy behind.router are few) may
       (record {
         row = behind.row_then;
         its = record { numbered = numbered; there = put_same c (Some behind.row_then) t };
@@ -227,7 +227,7 @@ module _ (laws : Laws) (old : Router) (link : LinkId) (c : ClientNo) (row : Clie
   wrote_so : (tag : Tag) (bytes : List ℕ) → IsPartOf (sends_on old.marked link) tag bytes → (service : Service) (log : Log)
       → MayFollow log (entry.Wrote link tag bytes) → StandsBy service log t (shown old) → IsBehind service log (entry.Wrote link tag bytes) c row t roomy
   wrote_so tag bytes part service log may was =
-      let linked : IsLinked link c t = laws.linked service.setup service.default_schema log t roomy was.router link c numbered in
+      let linked : IsLinked link c t = laws.linked service log t roomy was.router link c numbered in
       let to : IsSentTo t c part.sent = sent_to old.marked link c linked.aside numbered part.sent part.is in
       let both : Some to.row ≡ Some row = sym to.there ∙ there in
       let same : to.row ≡ row = cc in
@@ -236,7 +236,7 @@ module _ (laws : Laws) (old : Router) (link : LinkId) (c : ClientNo) (row : Clie
       front_of part.front.0 row.desk.seat.outbox.due bytes (part.front.1 ∙ ap (λ (xs : List ℕ). take part.front.0 xs) due) in
       record {
         row_then = seated (wrote (length bytes)) row;
-        router = laws.writes service.setup service.default_schema log t (client_put c (Some (seated (wrote (length bytes)) row)) t) roomy roomy link tag bytes
+        router = laws.writes service log t (client_put c (Some (seated (wrote (length bytes)) row)) t) roomy roomy link tag bytes
             (length bytes) c was.router may (record {
               row = row;
               its = record { numbered = numbered; there = there };
@@ -263,8 +263,8 @@ module _ (laws : Laws) (old : Router) (link : LinkId) (c : ClientNo) (row : Clie
       → IsBehind service log (entry.WriteNothing link) c row t roomy
   nothing_so service log may was = record {
     row_then = row;
-    router = subst (λ (now : Tabled). IsRouter service.setup service.default_schema (with_entry log (entry.WriteNothing link)) now roomy) (sym put_itself)
-        (laws.quiet service.setup service.default_schema log (entry.WriteNothing link) t roomy was.router may refl);
+    router = subst (λ (now : Tabled). IsRouter service (with_entry log (entry.WriteNothing link)) now roomy) (sym put_itself)
+        (laws.quiet service log (entry.WriteNothing link) t roomy was.router may refl tt);
     over = is.over;
     link_is = refl;
     none = refl;
@@ -288,8 +288,8 @@ module _ (laws : Laws) (old : Router) (link : LinkId) (c : ClientNo) (row : Clie
       → IsBehind service log (entry.WriteFailed link) c row t roomy
   failed_so service log may was = record {
     row_then = left_row stays row;
-    router = subst (λ (now : Tabled). IsRouter service.setup service.default_schema (with_entry log (entry.WriteFailed link)) now roomy) left_so
-        (laws.again service.setup service.default_schema log (entry.WriteFailed link) t (left_in c stays t) roomy link c was.router may (inr (inr refl))
+    router = subst (λ (now : Tabled). IsRouter service (with_entry log (entry.WriteFailed link)) now roomy) left_so
+        (laws.again service log (entry.WriteFailed link) t (left_in c stays t) roomy link c was.router may (inr (inr refl))
         (left_again link c t (left_in c stays t) numbered (record { row = row; there = there; is = is.over }) is.lives
         (same_by (left_in c stays t) (left_in c stays t) refl)));
     over = is.over;

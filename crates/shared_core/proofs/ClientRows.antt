@@ -66,7 +66,8 @@ spoken service link bytes c t heard new hears follows row its going =
       halt = followed.halt;
       parting = followed.parting;
       links = followed.links;
-      alone = followed.alone;
+      ours = followed.ours;
+      word = followed.word;
       so = record {
         row = row;
         its = its;
@@ -76,6 +77,7 @@ spoken service link bytes c t heard new hears follows row its going =
         hears = hears;
         follows = followed.follows;
       };
+      ruled = followed.ruled;
     }
 
 -- Its link is lost.
@@ -241,7 +243,8 @@ left_going service link c links t left between new numbered has lives homes leav
       choices = gone.choices;
       halt = gone.halt;
       parting = gone.parting;
-      alone = gone.alone;
+      ours = gone.ours;
+      word = gone.word;
       so = record {
         row = row;
         its = record { numbered = numbered; there = there };
@@ -273,4 +276,5 @@ left_going service link c links t left between new numbered has lives homes leav
         };
         ends = gone.ended refl;
       };
+      ruled = gone.ruled;
     }

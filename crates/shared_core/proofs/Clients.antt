@@ -12,7 +12,6 @@ use Rattle.mx_wire.specs.Log.{Log, accepted_link, accepted_links}
 use Rattle.mx_wire.specs.Tells.{MayFollow}
 use Rattle.mx_wire.specs.declared.entry.Entry.{Entry}
 use Rattle.mx_wire.specs.declared.entry.Entry.TheVariants as entry
-use Rattle.client_session.specs.Setups.{Setup}
 use Rattle.private_model.proofs.Maps.{same_number}
 use Rattle.client_seat.specs.Seats.{account_in, is_ended, wants_read}
 use Rattle.core_says.specs.Says.{is_own, reads_by, reads_client, reads_in, reads_row}
@@ -35,7 +34,9 @@ use Rattle.router_laws.specs.clients.Leaves.{IsLossOf, LeavesAgain, LeavesAtOnce
 use Rattle.router_laws.specs.clients.Plans.{nobody}
 use Rattle.router_laws.specs.clients.Speaks.{IsLinkOf, SpeaksSo}
 use Rattle.router_laws.specs.entering.Rooms.{OthersLack}
-use Rattle.router_laws.specs.decisions.Deeds.{IsAlone}
+use Rattle.query_rules.specs.Passing.{rules_of}
+use Rattle.core_promises.specs.Ruled.{AreRuled}
+use Rattle.router_laws.specs.decisions.Speaks.{IsOurs, IsPartingOurs}
 use Rattle.router_laws.specs.decisions.Routers.{IsRouter}
 use Rattle.router_laws.specs.routers.Somehow.{AreLinked, IsLinked}
 use Rattle.core_laws.specs.entry.Cores.{with_entry}
@@ -49,43 +50,49 @@ use Rattle.shared_core.specs.declared.router.Router.{Router}
 -- The laws by which a router goes on.
 
 abbrev pub Comes : Type 0
-Comes = (service : Setup) (default : List ℕ) (log : Log) (t now : Tabled) (roomy : ClientNo → Bool) (port : Port) (link : LinkId)
-    (salt : List ℕ) (c : ClientNo) → IsRouter service default log t roomy → MayFollow log (entry.Accepted port link salt)
-    → c.0 ≡ length (accepted_links log) + 1 → ComesSo Served service port link salt c t now
-    → IsRouter service default (with_entry log (entry.Accepted port link salt)) now roomy
+Comes = (service : Service) (log : Log) (t now : Tabled) (roomy : ClientNo → Bool) (port : Port) (link : LinkId)
+    (salt : List ℕ) (c : ClientNo) → IsRouter service log t roomy → MayFollow log (entry.Accepted port link salt)
+    → c.0 ≡ length (accepted_links log) + 1 → ComesSo Served service.setup port link salt c t now
+    → IsRouter service (with_entry log (entry.Accepted port link salt)) now roomy
 
 abbrev pub Away : Type 0
-Away = (service : Setup) (default : List ℕ) (log : Log) (t now : Tabled) (roomy : ClientNo → Bool) (port : Port) (link : LinkId)
-    (salt : List ℕ) (c : ClientNo) → IsRouter service default log t roomy → MayFollow log (entry.Accepted port link salt)
-    → c.0 ≡ length (accepted_links log) + 1 → ComesSo TurnedAway service port link salt c t now
-    → IsRouter service default (with_entry log (entry.Accepted port link salt)) now roomy
+Away = (service : Service) (log : Log) (t now : Tabled) (roomy : ClientNo → Bool) (port : Port) (link : LinkId)
+    (salt : List ℕ) (c : ClientNo) → IsRouter service log t roomy → MayFollow log (entry.Accepted port link salt)
+    → c.0 ≡ length (accepted_links log) + 1 → ComesSo TurnedAway service.setup port link salt c t now
+    → IsRouter service (with_entry log (entry.Accepted port link salt)) now roomy
 
 abbrev pub Speaks : Type 0
-Speaks = (service : Setup) (default : List ℕ) (log : Log) (t now : Tabled) (roomy room : ClientNo → Bool) (link : LinkId) (bytes : List ℕ)
+Speaks = (service : Service) (log : Log) (t now : Tabled) (roomy room : ClientNo → Bool) (link : LinkId) (bytes : List ℕ)
     (c : ClientNo) (ordinal : ℕ) (choices : List Choice) (halt : Halt) (parting : Parting) (links : List LinkId)
-    → IsRouter service default log t roomy → MayFollow log (entry.Got link bytes)
-    → SpeaksSo service default link bytes c ordinal choices halt parting links t now → All IsAlone choices
-    → OthersLack c roomy room → IsRouter service default (with_entry log (entry.Got link bytes)) now room
+    → IsRouter service log t roomy → MayFollow log (entry.Got link bytes)
+    → (so : SpeaksSo service.setup service.default_schema link bytes c ordinal choices halt parting links t now)
+    → All (IsOurs (rules_of service.rules) c) choices → IsPartingOurs parting
+    → OthersLack c roomy room
+    → AreRuled (rules_of service.rules) choices halt service.setup service.default_schema c so.heard so.follows.turned so.follows.turns
+    → IsRouter service (with_entry log (entry.Got link bytes)) now room
 
 abbrev pub Again : Type 0
-Again = (service : Setup) (default : List ℕ) (log : Log) (e : Entry) (t now : Tabled) (roomy : ClientNo → Bool) (link : LinkId) (c : ClientNo)
-    → IsRouter service default log t roomy → MayFollow log e → IsLossOf link e → LeavesAgain link c t now
-    → IsRouter service default (with_entry log e) now roomy
+Again = (service : Service) (log : Log) (e : Entry) (t now : Tabled) (roomy : ClientNo → Bool) (link : LinkId) (c : ClientNo)
+    → IsRouter service log t roomy → MayFollow log e → IsLossOf link e → LeavesAgain link c t now
+    → IsRouter service (with_entry log e) now roomy
 
 abbrev pub AtOnce : Type 0
-AtOnce = (service : Setup) (default : List ℕ) (log : Log) (e : Entry) (t now : Tabled) (roomy room : ClientNo → Bool) (link : LinkId)
-    (c : ClientNo) (links : List LinkId) → IsRouter service default log t roomy → MayFollow log e → IsLossOf link e
-    → LeavesAtOnce link links c roomy t now → OthersLack c roomy room → IsRouter service default (with_entry log e) now room
+AtOnce = (service : Service) (log : Log) (e : Entry) (t now : Tabled) (roomy room : ClientNo → Bool) (link : LinkId)
+    (c : ClientNo) (links : List LinkId) → IsRouter service log t roomy → MayFollow log e → IsLossOf link e
+    → LeavesAtOnce link links c roomy t now → OthersLack c roomy room → IsRouter service (with_entry log e) now room
 
 abbrev pub Going : Type 0
-Going = (service : Setup) (default : List ℕ) (log : Log) (e : Entry) (t now : Tabled) (roomy room : ClientNo → Bool) (link : LinkId)
+Going = (service : Service) (log : Log) (e : Entry) (t now : Tabled) (roomy room : ClientNo → Bool) (link : LinkId)
     (c : ClientNo) (links : List LinkId) (ordinal : ℕ) (choices : List Choice) (halt : Halt) (parting : Parting)
-    → IsRouter service default log t roomy → MayFollow log e → IsLossOf link e
-    → LeavesGoing service default link links ordinal choices halt parting c t now → All IsAlone choices
-    → OthersLack c roomy room → IsRouter service default (with_entry log e) now room
+    → IsRouter service log t roomy → MayFollow log e → IsLossOf link e
+    → (so : LeavesGoing service.setup service.default_schema link links ordinal choices halt parting c t now)
+    → All (IsOurs (rules_of service.rules) c) choices → IsPartingOurs parting
+    → OthersLack c roomy room
+    → AreRuled (rules_of service.rules) choices halt service.setup service.default_schema c so.between so.follows.turned so.follows.turns
+    → IsRouter service (with_entry log e) now room
 
 abbrev pub Linked : Type 0
-Linked = (service : Setup) (default : List ℕ) (log : Log) (t : Tabled) (roomy : ClientNo → Bool) → IsRouter service default log t roomy → AreLinked t
+Linked = (service : Service) (log : Log) (t : Tabled) (roomy : ClientNo → Bool) → IsRouter service log t roomy → AreLinked t
 
 -- both hold, if there was memory
 pub on_both : {X E : Type 0} {A B C : Type 0} (r : Result X E) → (A → B → C) → OnOk r A → OnOk r B → OnOk r C
@@ -126,9 +133,9 @@ module _ (service : Service) (port : Port) (link : LinkId) (salt : List ℕ) (ol
       let less : length (accepted_links log) ≤ length log = few log in omega (arith, count, was, below, less)
 
   stands : (log : Log) (may : MayFollow log e) (was : old.came ≡ length (accepted_links log))
-      → IsRouter service.setup service.default_schema (with_entry log e) (tables new) (is_roomy old.roomy) → StandsFor service (with_entry log e) new
+      → IsRouter service (with_entry log e) (tables new) (is_roomy old.roomy) → StandsFor service (with_entry log e) new
   stands log may was router = record {
-    router = subst (λ (r : Roomy). IsRouter service.setup service.default_schema (with_entry log e) (tables new) (is_roomy r)) (sym roomy) router;
+    router = subst (λ (r : Roomy). IsRouter service (with_entry log e) (tables new) (is_roomy r)) (sym roomy) router;
     counted = (let one : c.0 ≡ length (accepted_links log) + 1 = counted log may was in
         let more : length (accepted_links (with_entry log e)) ≡ length (accepted_links log) + 1 = behind log e in omega (arith, one, more, came_so));
   }
@@ -136,13 +143,13 @@ module _ (service : Service) (port : Port) (link : LinkId) (salt : List ℕ) (ol
   pub comes_carry : Comes → ComesSo Served service.setup port link salt c (tables old) (tables new) → Carries service e old new
   comes_carry law so log may stood =
       stands log may stood.counted
-      (law service.setup service.default_schema log (tables old) (tables new) (is_roomy old.roomy) port link salt c stood.router may
+      (law service log (tables old) (tables new) (is_roomy old.roomy) port link salt c stood.router may
       (counted log may stood.counted) so)
 
   pub away_carries : Away → ComesSo TurnedAway service.setup port link salt c (tables old) (tables new) → Carries service e old new
   away_carries law so log may stood =
       stands log may stood.counted
-      (law service.setup service.default_schema log (tables old) (tables new) (is_roomy old.roomy) port link salt c stood.router may
+      (law service log (tables old) (tables new) (is_roomy old.roomy) port link salt c stood.router may
       (counted log may stood.counted) so)
 
 pub moves_of : (old new : Router) → Keeps old new → Moves old new
@@ -176,9 +183,9 @@ received by link c seat note t now its same = record {
 
 module _ (service : Service) (e : Entry) (old new : Router) (keeps : Keeps old new) (none : accepted_links (e ∷ []) ≡ []) where
   pub kept_stands : (log : Log) → old.came ≡ length (accepted_links log)
-      → IsRouter service.setup service.default_schema (with_entry log e) (tables new) (is_roomy old.roomy) → StandsFor service (with_entry log e) new
+      → IsRouter service (with_entry log e) (tables new) (is_roomy old.roomy) → StandsFor service (with_entry log e) new
   kept_stands log was router = record {
-    router = subst (λ (r : Roomy). IsRouter service.setup service.default_schema (with_entry log e) (tables new) (is_roomy r)) (sym keeps.roomy) router;
+    router = subst (λ (r : Roomy). IsRouter service (with_entry log e) (tables new) (is_roomy r)) (sym keeps.roomy) router;
     counted = (let more : length (accepted_links (with_entry log e)) ≡ length (accepted_links log) + length (accepted_links (e ∷ [])) = behind log e in
         let nobody : length (accepted_links (e ∷ [])) ≡ 0 = ap (λ (xs : List LinkId). length xs) none in
         let as_many : new.came ≡ old.came = keeps.came in omega (arith, was, more, nobody, as_many));
@@ -230,8 +237,8 @@ speaks_carry service link bytes c old new law aside numbered keeps spoken reads 
     let spoke : HasSpoken service link bytes c (tables old) (tables new) =
     spoken read.0 (record { numbered = numbered; there = read.1 }) read.2 in
     kept_stands service (entry.Got link bytes) old new keeps refl log stood.counted
-    (law service.setup service.default_schema log (tables old) (tables new) (is_roomy old.roomy) (is_roomy old.roomy) link bytes c spoke.ordinal spoke.choices
-    spoke.halt spoke.parting spoke.links stood.router may spoke.so spoke.alone (λ other apart full. full))
+    (law service log (tables old) (tables new) (is_roomy old.roomy) (is_roomy old.roomy) link bytes c spoke.ordinal spoke.choices
+    spoke.halt spoke.parting spoke.links stood.router may spoke.so spoke.ours spoke.word (λ other apart full. full) spoke.ruled)
 
 -- A link is lost.
 
@@ -249,20 +256,20 @@ loses_by service link old new each = record {
 }
 
 -- One that isn't logged in has nothing to take up, though it may have room again.
-at_once_router : AtOnce → (service : Setup) (default : List ℕ) (log : Log) (e : Entry) (t now : Tabled) (roomy : ClientNo → Bool) (link : LinkId)
-    (c : ClientNo) (links : List LinkId) → IsRouter service default log t roomy → MayFollow log e → IsLossOf link e
-    → LeavesAtOnce link links c nobody t now → IsRouter service default (with_entry log e) now roomy
-at_once_router law service default log e t now roomy link c links router may lost so = by so.busy where
+at_once_router : AtOnce → (service : Service) (log : Log) (e : Entry) (t now : Tabled) (roomy : ClientNo → Bool) (link : LinkId)
+    (c : ClientNo) (links : List LinkId) → IsRouter service log t roomy → MayFollow log e → IsLossOf link e
+    → LeavesAtOnce link links c nobody t now → IsRouter service (with_entry log e) now roomy
+at_once_router law service log e t now roomy link c links router may lost so = by so.busy where
   so_by : (room : ClientNo → Bool) → (so.row.desk.seat.answered ≡ false) ⊎ ((account_in so.row.desk.seat.phase ≡ None) × (room c ≡ false))
       → LeavesAtOnce link links c room t now
   so_by room busy = record { row = so.row; its = so.its; going = so.going; busy = busy; between = so.between; ends = so.ends; again = so.again }
 
   by : (so.row.desk.seat.answered ≡ false) ⊎ ((account_in so.row.desk.seat.phase ≡ None) × (nobody c ≡ false))
-      → IsRouter service default (with_entry log e) now roomy
-  by (inl waits) = law service default log e t now roomy roomy link c links router may lost (so_by roomy (inl waits)) (λ other apart full. full)
+      → IsRouter service (with_entry log e) now roomy
+  by (inl waits) = law service log e t now roomy roomy link c links router may lost (so_by roomy (inl waits)) (λ other apart full. full)
   by (inr fresh) =
-      law service default log e t now (lacking c roomy) roomy link c links
-      (router_still service default log t roomy c so.row so.its.there (logging_in so.row.desk.seat.phase so.going fresh.0) router) may lost
+      law service log e t now (lacking c roomy) roomy link c links
+      (router_still service log t roomy c so.row so.its.there (logging_in so.row.desk.seat.phase so.going fresh.0) router) may lost
       (so_by (lacking c roomy) (inr (fresh.0, lacks_itself c roomy (same_number c.0)))) (λ other apart full. others_lack c roomy other full)
 
 -- a link of nobody's that is there isn't one of a router
@@ -272,7 +279,7 @@ gone_loses linked service link c old new gone numbered =
     loses_by service link old new
     (λ e lost log may stood.
     let is : IsLinked link c (tables old) =
-    linked service.setup service.default_schema log (tables old) (is_roomy old.roomy) stood.router link c numbered in
+    linked service log (tables old) (is_roomy old.roomy) stood.router link c numbered in
     absurd (none-some is.row (sym gone ∙ is.there)))
 
 module _ (service : Service) (link : LinkId) (c : ClientNo) (old new : Router) (keeps : Keeps old new) where
@@ -281,14 +288,14 @@ module _ (service : Service) (link : LinkId) (c : ClientNo) (old new : Router) (
       loses_by service link old new
       (λ e lost log may stood.
       kept_stands service e old new keeps (lost_none link e lost) log stood.counted
-      (law service.setup service.default_schema log e (tables old) (tables new) (is_roomy old.roomy) link c stood.router may lost so))
+      (law service log e (tables old) (tables new) (is_roomy old.roomy) link c stood.router may lost so))
 
   pub at_once_loses : AtOnce → HasLeftAtOnce link c (tables old) (tables new) → Loses service link old new
   at_once_loses law has =
       loses_by service link old new
       (λ e lost log may stood.
       kept_stands service e old new keeps (lost_none link e lost) log stood.counted
-      (at_once_router law service.setup service.default_schema log e (tables old) (tables new) (is_roomy old.roomy) link c has.links stood.router may lost
+      (at_once_router law service log e (tables old) (tables new) (is_roomy old.roomy) link c has.links stood.router may lost
       has.so))
 
   pub going_loses : Going → HasLeftGoing service link c (tables old) (tables new) → Loses service link old new
@@ -296,5 +303,5 @@ module _ (service : Service) (link : LinkId) (c : ClientNo) (old new : Router) (
       loses_by service link old new
       (λ e lost log may stood.
       kept_stands service e old new keeps (lost_none link e lost) log stood.counted
-      (law service.setup service.default_schema log e (tables old) (tables new) (is_roomy old.roomy) (is_roomy old.roomy) link c has.links has.ordinal
-      has.choices has.halt has.parting stood.router may lost has.so has.alone (λ other apart full. full)))
+      (law service log e (tables old) (tables new) (is_roomy old.roomy) (is_roomy old.roomy) link c has.links has.ordinal
+      has.choices has.halt has.parting stood.router may lost has.so has.ours has.word (λ other apart full. full) has.ruled))

@@ -14,7 +14,6 @@ use Rattle.mx_wire.specs.declared.entry.Entry.{Entry}
 use Rattle.mx_wire.specs.declared.entry.Entry.TheVariants.{Closed, Drop, Exec, WriteFailed, WriteNothing, Wrote}
 use Rattle.ready_loop.specs.Machine.{IsFarewell}
 use Rattle.session_state.specs.declared.names.SessionName.{SessionName}
-use Rattle.client_session.specs.Setups.{Setup}
 use Rattle.client_desk.specs.declared.work.Work.{Work}
 use Rattle.desk_laws.specs.Spares.{IsElsewhere}
 use Rattle.link_marks.specs.Marks.{is_known}
@@ -103,26 +102,26 @@ none_more log more none =
 -- The laws by which a router goes on.
 
 abbrev pub Links : Type 0
-Links = (service : Setup) (default : List ℕ) (log : Log) (t : Tabled) (roomy : ClientNo → Bool) → IsRouter service default log t roomy → AreLinked t
+Links = (service : Service) (log : Log) (t : Tabled) (roomy : ClientNo → Bool) → IsRouter service log t roomy → AreLinked t
 
 abbrev pub ClosesPlain : Type 0
-ClosesPlain = (service : Setup) (default : List ℕ) (log : Log) (t now : Tabled) (roomy room : ClientNo → Bool) (l : LinkId)
-    → IsRouter service default log t roomy → MayFollow log (Closed l) → ((c : ClientNo) → room c ≡ false → roomy c ≡ false)
-    → ClosesSo l room t now → IsRouter service default (with_entry log (Closed l)) now room
+ClosesPlain = (service : Service) (log : Log) (t now : Tabled) (roomy room : ClientNo → Bool) (l : LinkId)
+    → IsRouter service log t roomy → MayFollow log (Closed l) → ((c : ClientNo) → room c ≡ false → roomy c ≡ false)
+    → ClosesSo l room t now → IsRouter service (with_entry log (Closed l)) now room
 
 abbrev pub ClosesOffered : Type 0
-ClosesOffered = (service : Setup) (default : List ℕ) (log marks : Log) (e : Entry) (t : Tabled) (roomy room : ClientNo → Bool) (l : LinkId)
-    (lent : Option Sent) → IsRouter service default log t roomy → AreMarks marks
+ClosesOffered = (service : Service) (log marks : Log) (e : Entry) (t : Tabled) (roomy room : ClientNo → Bool) (l : LinkId)
+    (lent : Option Sent) → IsRouter service log t roomy → AreMarks marks
     → ((c : ClientNo) → room c ≡ false → roomy c ≡ false) → MayClose l room t
     → MaySayFarewell l (λ (c : ClientNo). not (is_going (t.clients c))) t → IsLentThere l lent t → IsFarewell lent l e
     → MayFollow log e → MayFollow (log ++ e ∷ [] ++ marks) (Closed l)
-    → IsRouter service default (log ++ e ∷ [] ++ marks ++ Closed l ∷ []) (unlinked l (lost_in l t)) room
+    → IsRouter service (log ++ e ∷ [] ++ marks ++ Closed l ∷ []) (unlinked l (lost_in l t)) room
 
 abbrev pub ClosesLost : Type 0
-ClosesLost = (service : Setup) (default : List ℕ) (log : Log) (t x : Tabled) (roomy room : ClientNo → Bool) (l : LinkId)
-    → IsRouter service default log t roomy → ((c : ClientNo) → room c ≡ false → roomy c ≡ false) → MayClose l room t
+ClosesLost = (service : Service) (log : Log) (t x : Tabled) (roomy room : ClientNo → Bool) (l : LinkId)
+    → IsRouter service log t roomy → ((c : ClientNo) → room c ≡ false → roomy c ≡ false) → MayClose l room t
     → IsSame x (lost_in l t) → MayFollow log (Closed l)
-    → IsRouter service default (with_entry log (Closed l)) (unlinked l (lost_in l x)) room
+    → IsRouter service (with_entry log (Closed l)) (unlinked l (lost_in l x)) room
 
 -- What is known as a link to a server is to be closed: nothing is being closed, what goes with it, and who is called at the next wake.
 pub record IsClosing (l : LinkId) (old mid : Router) : Type 0 where
@@ -170,17 +169,17 @@ module _ (links : Links) (l : LinkId) (old mid : Router) (is : IsClosing l old m
     own : (found : Option ClientNo) → t.numbers l ≡ found → t.numbers l ≡ None
     own None at = at
     own (Some c) at = absurd (none-some is.server
-        (sym (links service.setup service.default_schema log t (is_roomy old.roomy) stood.router l c at).aside ∙ is.there))
+        (sym (links service log t (is_roomy old.roomy) stood.router l c at).aside ∙ is.there))
 
     may : MayClose l room t
     may = record { server = is.server; there = is.there; own = own (t.numbers l) refl; with_it = is.with_it; unawaited = is.unawaited }
 
     -- it stands so, who is roomy and how many came being the same
     stands_so : (now : Shown) (more : Log) (x : Tabled) → accepted_links more ≡ accepted_links log → now.came ≡ old.came → now.roomy ≡ mid.roomy
-        → parted now ≡ x → IsRouter service.setup service.default_schema more x room → PartsFor service more now
+        → parted now ≡ x → IsRouter service more x room → PartsFor service more now
     stands_so now more x alone came roomy parts router = record {
-      router = subst (λ (r : Roomy). IsRouter service.setup service.default_schema more (parted now) (is_roomy r)) (sym roomy)
-          (subst (λ (y : Tabled). IsRouter service.setup service.default_schema more y room) (sym parts) router);
+      router = subst (λ (r : Roomy). IsRouter service more (parted now) (is_roomy r)) (sym roomy)
+          (subst (λ (y : Tabled). IsRouter service more y room) (sym parts) router);
       counted = came ∙ stood.counted ∙ sym (ap length alone);
     }
 
@@ -233,14 +232,14 @@ module _ (links : Links) (l : LinkId) (old mid : Router) (is : IsClosing l old m
       opened = λ service log before. is_open_then service log before;
       plain = λ none service log follows before.
           stands_so service log before closing (log ++ Closed l ∷ []) (unlinked l (lost_in l t)) (none_more log (Closed l ∷ []) refl) came_so refl parts
-          (plain service.setup service.default_schema log t (unlinked l (lost_in l t)) (is_roomy old.roomy) room l
+          (plain service log t (unlinked l (lost_in l t)) (is_roomy old.roomy) room l
           (stood service log before).router follows rooms (record { may = may service log before; same = same_itself _ }));
       offered = λ some service log e marks says are follows next before.
           let said : IsFarewell (sends_on old.marked l) l e =
           subst (λ (m : MarkedTables). IsFarewell (sends_on m l) l e) marked_so says in
           stands_so service log before closing (log ++ e ∷ [] ++ marks ++ Closed l ∷ []) (unlinked l (lost_in l t))
           (alone_then log e marks (farewell_alone (sends_on old.marked l) l e said) are) came_so refl parts
-          (offered service.setup service.default_schema log marks e t (is_roomy old.roomy) room l (sends_on old.marked l)
+          (offered service log marks e t (is_roomy old.roomy) room l (sends_on old.marked l)
           (stood service log before).router are rooms (may service log before) farewell lent_there said follows next);
     }
 
@@ -275,7 +274,7 @@ module _ (links : Links) (l : LinkId) (old mid : Router) (is : IsClosing l old m
       plain = λ none service log follows before.
           stands_so service log before (shown new) (log ++ Closed l ∷ []) (unlinked l (lost_in l (tables new))) (none_more log (Closed l ∷ []) refl)
           (keeps.came ∙ came_so) keeps.roomy parts_lost
-          (lost service.setup service.default_schema log t (tables new) (is_roomy old.roomy) room l
+          (lost service log t (tables new) (is_roomy old.roomy) room l
           (stood service log before).router rooms (may service log before) lost_so follows);
       offered = λ some service log e marks says are follows next before. absurd (silent some);
     }

@@ -15,6 +15,7 @@ use Rattle.client_side.specs.declared.stage.Stage.{Stage}
 use Rattle.client_side.specs.declared.stage.Stage.TheVariants as stage
 use Rattle.client_session.specs.Answers.{Talk, answer_to_login, front, front_in, greeted, opening_of}
 use Rattle.client_session.specs.Setups.{Setup as Serves}
+use Rattle.core_service.specs.declared.service.Service.{Service}
 use Rattle.client_seat.specs.Seats.{account_in, is_ended}
 use Rattle.client_seat.specs.Stands.{IsEntering, IsHeardIn, IsWho, IsWrittenOf, due_so_far}
 use Rattle.client_seat.specs.declared.phase.Phase.{Phase}
@@ -163,13 +164,13 @@ rests_still service g t roomy c row there at rests = record {
   calm = λ k d within. calm_still g t roomy c row there at rests.looked _ (rests.stands.clients.each k d within) (rests.calm k d within);
 }
 
-pub router_still : (service : Serves) (default : List ℕ) (log : Log) (t : Tabled) (roomy : ClientNo → Bool) (c : ClientNo) (row : Client)
-    → t.clients c ≡ Some row → row.desk.seat.phase ≡ phase.LoggingIn → IsRouter service default log t roomy
-    → IsRouter service default log t (lacking c roomy)
-router_still service default log t roomy c row there at router = record {
+pub router_still : (service : Service) (log : Log) (t : Tabled) (roomy : ClientNo → Bool) (c : ClientNo) (row : Client)
+    → t.clients c ≡ Some row → row.desk.seat.phase ≡ phase.LoggingIn → IsRouter service log t roomy
+    → IsRouter service log t (lacking c roomy)
+router_still service log t roomy c row there at router = record {
   core = record {
     decided = router.core.decided;
-    rests = λ setup codes plan of fits. rests_still service _ t roomy c row there at (router.core.rests setup codes plan of fits);
+    rests = λ setup codes plan of fits. rests_still service.setup _ t roomy c row there at (router.core.rests setup codes plan of fits);
     safe = router.core.safe;
     written = router.core.written;
     opened = router.core.opened;
@@ -179,4 +180,7 @@ router_still service default log t roomy c row there at router = record {
   counted = router.counted;
   lawful = router.lawful;
   open_just = router.open_just;
+  spoken = router.spoken;
+  waited = router.waited;
+  asked = router.asked;
 }

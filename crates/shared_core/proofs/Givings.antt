@@ -15,6 +15,7 @@ use Rattle.core_tables.specs.Tables.{IsSame, Tabled}
 use Rattle.core_tables.specs.declared.client.Client.{Client}
 use Rattle.core_laws.proofs.OfParting.Alone.{nobody_so, one_so}
 use Rattle.core_laws.specs.clients.Going.{GivenUp, Going, IsCalled, is_going, told_to}
+use Rattle.own_words.specs.Own.{IsFailure}
 use Rattle.router_laws.specs.reading.Givings.{MayBeGivenUp}
 use Rattle.router_laws.specs.links.Loses.{IsGivenUpWith}
 use Rattle.router_laws.specs.wakes.Calling.{IsUnsent}
@@ -53,12 +54,17 @@ client-so a b same = client_of a b same
 
 -- What is given up.
 
+-- what is said is a payload of the router's own
+pub own-as : (said kept payload : List ℕ) → said ≡ kept → kept ≡ payload → IsFailure payload → IsFailure said
+own-as said kept payload is same own = subst IsFailure (sym (is ∙ same)) own
+
 pub none-given : (t : Tabled) → HasGiven None t t
-none-given t = record { told = None; its = refl; same = nobody_so t }
+none-given t = record { told = None; ours = tt; its = refl; same = nobody_so t }
 
 pub one-given : (up : GiveUp) (old new : Tabled) → HasAnswered up.client old new → HasGiven (Some up) old new
 one-given up old new answered = record {
   told = Some (record { client = up.client; payload = answered.payload });
+  ours = answered.own;
   its = refl;
   same = same_by new (given_up_in (given_to up.client answered.payload) old)
       (tables_are new (given_up up.client answered.payload old) answered.same
@@ -88,8 +94,9 @@ pub nobody-called : (service : Service) (name : Option SessionName) (given : Opt
 nobody-called service name given told t none same for = record {
   going = None;
   called = let P : Option ClientNo → Type 0 = λ o. IsCalled name told t o in subst P (sym none) (called-so name given told t same for);
-  alone = tt;
+  ours = tt;
   goes = record { clients = λ c. refl; numbers = λ l. refl; links = λ l. refl };
+  ruled = tt;
 }
 
 going-by : (b : Bool) (c client : ClientNo) → Some client ≡ (if b then Some c else None) → (b ≡ true) × (client ≡ c)
@@ -125,6 +132,7 @@ one-called service name given told old new client ends is follows same for =
         links = followed.links;
       });
       called = let P : Option ClientNo → Type 0 = λ o. IsCalled name told old o in subst P (sym is) (called-so name given told old same for);
-      alone = followed.alone;
+      ours = record { choices = followed.ours; parting = followed.word };
       goes = followed.follows;
+      ruled = followed.ruled;
     }

@@ -10,12 +10,16 @@ use Rattle.private_model.specs.Story.{is_client}
 use Rattle.client_session.specs.Setups.{Setup}
 use Rattle.client_seat.specs.Seats.{ended, is_ended}
 use Rattle.core_service.specs.declared.service.Service.{Service}
-use Rattle.router_laws.specs.decisions.Deeds.{IsAlone}
+use Rattle.query_rules.specs.Passing.{rules_of}
+use Rattle.query_rules.specs.declared.rule.Rule.{Rule}
+use Rattle.core_promises.specs.Ruled.{AreRuled}
+use Rattle.router_laws.specs.decisions.Rulings.{AreRuledAll}
+use Rattle.router_laws.specs.decisions.Speaks.{IsOurs}
 use Rattle.core_tables.specs.Parting.{left_in}
 use Rattle.core_tables.specs.Tables.{IsSame, Tabled}
 use Rattle.core_tables.specs.declared.client.Client.{Client}
 use Rattle.core_turns.specs.Turned as turned
-use Rattle.core_turns.specs.Turned.{HasGoneOn, IsSingle, halt_of, is_away}
+use Rattle.core_turns.specs.Turned.{HasGoneOn, IsSaid, RuledTurns, halt_of, is_away}
 use Rattle.core_turns.specs.declared.turn.Stop.{Stop}
 use Rattle.core_turns.specs.declared.turn.Went.{Went}
 use Rattle.core_laws.specs.entry.Freeing.{all_freed}
@@ -24,7 +28,7 @@ use Rattle.core_laws.specs.clients.Follows.{LeavesThere, Leaves, Stays, ends_by,
 use Rattle.core_laws.specs.clients.Going.{is_going}
 use Rattle.core_laws.specs.clients.Turns.{Answers, Choice, Ends, Goes, Halt, Quits, Rests, Turns, Waits}
 use Rattle.router_laws.specs.wakes.Calling.{AllGoOn, AreHomesOf, AreInOrder, Caller, CallerGoesOn, IsThere, is_called}
-use Rattle.router_laws.specs.wakes.Deciding.{AreAloneAll}
+use Rattle.router_laws.specs.wakes.Deciding.{IsCallerOurs}
 use Rattle.shared_core.proofs.Keeping.{tables_chosen}
 use Rattle.shared_core.proofs.Others.{still_there}
 use Rattle.shared_core.proofs.Tabling.{tables_are}
@@ -43,12 +47,13 @@ or-last false = refl
 -- How a client is ended.
 
 pub stays-so : (c : ClientNo) (ends : Bool) (halt : Halt) (t : Tabled) → (ends ≡ true → ends_by halt Stays ≡ true) → HasParted c ends halt t t
-stays-so c ends halt t ended = record { parting = Stays; once = λ is. refl; parts = same-itself t; ended = ended }
+stays-so c ends halt t ended = record { parting = Stays; word = tt; once = λ is. refl; parts = same-itself t; ended = ended }
 
 pub leaves-so : (c : ClientNo) (ends : Bool) (halt : Halt) (old new : Tabled) → quits_by halt ≡ false → LeavesThere c old new
     → HasParted c ends halt old new
 leaves-so c ends halt old new goes leaves = record {
   parting = Leaves;
+  word = tt;
   once = λ is. absurd (let no = goes in let yes = is in cc);
   parts = leaves;
   ended = λ is. or-last (quits_by halt);
@@ -84,10 +89,9 @@ parts-so c ends halt a b d e before parts behind rested =
 
 -- Its turns, and how it is ended behind them.
 
-singles : (choices : List Choice) → All IsSingle choices → All IsAlone choices
-singles [] all = All-nil IsAlone
-singles (x ∷ xs) all = All-cons IsAlone x xs (one x (All-head IsSingle x xs all)) (singles xs (All-tail IsSingle x xs all)) where
-  one : (choice : Choice) → IsSingle choice → IsAlone choice
+said-ours : (rules : List Rule) (c : ClientNo) (choices : List Choice) → All (IsSaid rules c) choices → All (IsOurs rules c) choices
+said-ours rules c choices all = λ k d within. one (get_or choices k d) (all k d within) where
+  one : (choice : Choice) → IsSaid rules c choice → IsOurs rules c choice
   one (Goes route) is = is
   one (Answers payloads) is = is
 
@@ -100,19 +104,21 @@ rests-behind setup default c choices Quits old mid turns = tt
 rests-behind setup default c choices Ends old mid turns = tt
 
 pub gone-so : (service : Service) (c : ClientNo) (ends : Bool) (took : Option Went) (went : Went) (old mid new : Tabled) → took ≡ Some went
-    → HasGoneOn Turns took service.setup service.default_schema c old mid
+    → HasGoneOn RuledTurns took (rules_of service.rules) service.setup service.default_schema c old mid
     → (RestsBehind (halt_of went.stop) c mid → HasParted c ends (halt_of went.stop) mid new) → HasGone service c ends old new
 gone-so service c ends took went old mid new is gone parts =
-    let P : Option Went → Type 0 = λ o. HasGoneOn Turns o service.setup service.default_schema c old mid in
-    let on : turned.HasGone Turns went.stop service.setup service.default_schema c old mid = subst P is gone in
+    let P : Option Went → Type 0 = λ o. HasGoneOn RuledTurns o (rules_of service.rules) service.setup service.default_schema c old mid in
+    let on : turned.HasGone RuledTurns went.stop (rules_of service.rules) service.setup service.default_schema c old mid = subst P is gone in
     let parted : HasParted c ends (halt_of went.stop) mid new =
-    parts (rests-behind service.setup service.default_schema c on.choices (halt_of went.stop) old mid on.turned) in
+    parts (rests-behind service.setup service.default_schema c on.choices (halt_of went.stop) old mid on.turned.0) in
     record {
       choices = on.choices;
       halt = halt_of went.stop;
       parting = parted.parting;
-      alone = singles on.choices on.single;
-      goes = record { turned = mid; turns = on.turned; once = parted.once; parts = parted.parts };
+      ours = said-ours (rules_of service.rules) c on.choices on.said;
+      word = parted.word;
+      goes = record { turned = mid; turns = on.turned.0; once = parted.once; parts = parted.parts };
+      ruled = on.turned.1;
       ended = parted.ended;
     }
 
@@ -124,9 +130,9 @@ away-going (Some row) away going = by (is_ended row.desk.seat.phase) away going 
   by false is off = let e = is in cc
 
 pub absent-so : (service : Service) (c : ClientNo) (ends : Bool) (took : Option Went) (old mid new : Tabled) → took ≡ None
-    → HasGoneOn Turns took service.setup service.default_schema c old mid → is_going (old.clients c) ≡ true → HasGone service c ends old new
+    → HasGoneOn RuledTurns took (rules_of service.rules) service.setup service.default_schema c old mid → is_going (old.clients c) ≡ true → HasGone service c ends old new
 absent-so service c ends took old mid new is gone going =
-    let P : Option Went → Type 0 = λ o. HasGoneOn Turns o service.setup service.default_schema c old mid in
+    let P : Option Went → Type 0 = λ o. HasGoneOn RuledTurns o (rules_of service.rules) service.setup service.default_schema c old mid in
     let absent : turned.IsAbsent c old mid = subst P is gone in
     absurd (away-going (old.clients c) absent.away going)
 
@@ -143,7 +149,8 @@ followed-so service c ends homes old mid new are gone freed going = by (old.clie
     halt = gone.halt;
     parting = gone.parting;
     links = homes;
-    alone = gone.alone;
+    ours = gone.ours;
+    word = gone.word;
     follows = record {
       homes = record {
         row = row;
@@ -159,17 +166,32 @@ followed-so service c ends homes old mid new are gone freed going = by (old.clie
       parts = gone.goes.parts;
       freed = freed;
     };
+    ruled = gone.ruled;
     ended = gone.ended;
   }
 
 -- Several do.
 
-gone-along : (callers : List Caller) (last : Caller) (setup : Setup) (default : List ℕ) (old mid new : Tabled) → AllGoOn callers setup default old mid
-    → CallerGoesOn setup default last mid new → AllGoOn (callers ++ last ∷ []) setup default old new
-gone-along [] last setup default old mid new same goes =
-    let P : Tabled → Type 0 = λ t. CallerGoesOn setup default last t new in
-    (new, subst P (tables_are mid old same) goes, same-itself new)
-gone-along (k ∷ ks) last setup default old mid new all goes = (all.0, all.1, gone-along ks last setup default all.0 mid new all.2 goes)
+-- who goes on last, behind others, by rules
+abbrev pub GoesRuled : List Rule → Caller → Setup → (default : List ℕ) → (old new : Tabled) → Type 0
+GoesRuled rules k setup default old new =
+    (goes : CallerGoesOn setup default k old new) × AreRuled rules k.choices k.halt setup default k.client old goes.turned goes.turns
+
+abbrev pub AllGoRuled : List Rule → List Caller → Setup → (default : List ℕ) → (old new : Tabled) → Type 0
+AllGoRuled rules callers setup default old new =
+    (going : AllGoOn callers setup default old new) × AreRuledAll rules callers setup default old new going
+
+gone-along : (rules : List Rule) (callers : List Caller) (last : Caller) (setup : Setup) (default : List ℕ) (old mid new : Tabled)
+    → AllGoRuled rules callers setup default old mid → GoesRuled rules last setup default mid new
+    → AllGoRuled rules (callers ++ last ∷ []) setup default old new
+gone-along rules [] last setup default old mid new all goes =
+    let P : Tabled → Type 0 = λ t. GoesRuled rules last setup default t new in
+    let first : GoesRuled rules last setup default old new = subst P (tables_are mid old all.0) goes in
+    ((new, first.0, same-itself new), (first.1, tt))
+gone-along rules (k ∷ ks) last setup default old mid new all goes =
+    let rest : AllGoRuled rules (ks ++ last ∷ []) setup default all.0.0 new =
+    gone-along rules ks last setup default all.0.0 mid new (all.0.2, all.1.1) goes in
+    ((all.0.0, all.0.1, rest.0), (all.1.0, rest.1))
 
 named-along : (callers : List Caller) (last : Caller)
     → map (λ (k : Caller). k.client) (callers ++ last ∷ []) ≡ map (λ (k : Caller). k.client) callers ++ last.client ∷ []
@@ -177,18 +199,23 @@ named-along [] last = refl
 named-along (k ∷ ks) last = ap (λ (cs : List ClientNo). k.client ∷ cs) (named-along ks last)
 
 none-gone : (service : Service) (t : Tabled) → HaveGone service [] t t
-none-gone service t = record { callers = []; named = refl; alone = All-nil _; going = same-itself t }
+none-gone service t = record { callers = []; named = refl; ours = All-nil _; going = same-itself t; ruled = tt }
 
 one-more : (service : Service) (clients : List ClientNo) (c : ClientNo) (ends : Bool) (old mid new : Tabled) → HaveGone service clients old mid
     → HasGone service c ends mid new → HaveGone service (clients ++ c ∷ []) old new
 one-more service clients c ends old mid new before gone =
     let last : Caller = record { client = c; choices = gone.choices; halt = gone.halt; parting = gone.parting } in
+    let along : AllGoRuled (rules_of service.rules) (before.callers ++ last ∷ []) service.setup service.default_schema old new =
+    gone-along (rules_of service.rules) before.callers last service.setup service.default_schema old mid new (before.going, before.ruled)
+    (gone.goes, gone.ruled) in
     record {
       callers = before.callers ++ last ∷ [];
       named = named-along before.callers last ∙ ap (λ (cs : List ClientNo). cs ++ c ∷ []) before.named;
-      alone = let P : Caller → Type 0 = λ k. All IsAlone k.choices in
-          All-append P before.callers (last ∷ []) before.alone (All-cons P last [] gone.alone (All-nil P));
-      going = gone-along before.callers last service.setup service.default_schema old mid new before.going gone.goes;
+      ours = let P : Caller → Type 0 = IsCallerOurs (rules_of service.rules) in
+          All-append P before.callers (last ∷ []) before.ours
+          (All-cons P last [] (record { choices = gone.ours; parting = gone.word }) (All-nil P));
+      going = along.0;
+      ruled = along.1;
     }
 
 -- those behind are there as before, each behind who went on
@@ -261,7 +288,7 @@ have-followed service clients homes old mid new are gone freed rising there = re
   callers = gone.callers;
   links = homes;
   named = gone.named;
-  alone = gone.alone;
+  ours = gone.ours;
   calls = record {
     in_order = in-order gone.callers (let P : List ClientNo → Type 0 = λ cs. AreRising cs in subst P (sym gone.named) rising);
     there = all-there old gone.callers (let P : List ClientNo → Type 0 = λ cs. All (λ (c : ClientNo). IsThere old c) cs in
@@ -275,6 +302,7 @@ have-followed service clients homes old mid new are gone freed rising there = re
     going = gone.going;
     freed = freed;
   };
+  ruled = gone.ruled;
 } where
   its : (c : ClientNo) → is_called gone.callers c ≡ is_of clients c
   its c = called-so gone.callers c ∙ ap (λ (cs : List ClientNo). is_of cs c) gone.named

@@ -28,10 +28,13 @@ use Rattle.router_laws.specs.decisions.Routers.{IsRouter}
 use Rattle.core_laws.specs.entry.Cores.{with_entry}
 use Rattle.router_laws.specs.reading.Givings.{MayGiveUp}
 use Rattle.router_laws.specs.reading.Givings.{MayBeGivenUp}
-use Rattle.router_laws.specs.reading.Hearing.{AreAloneOf}
-use Rattle.router_laws.specs.reading.Hears.{HearsSo}
+use Rattle.query_rules.specs.Passing.{rules_of}
+use Rattle.query_rules.specs.declared.rule.Rule.{Rule}
+use Rattle.router_laws.specs.decisions.Rulings.{IsRuledOn}
+use Rattle.router_laws.specs.decisions.Speaks.{AreGivenOurs, AreGoingOurs}
+use Rattle.router_laws.specs.reading.Hears.{HearsRuled, HearsSo}
 use Rattle.shared_core.proofs.Carrying.{carries_by}
-use Rattle.shared_core.specs.Follows.{AreAloneIf, HasCalled, HasGiven, IsFor, Keeps, MayBeGiven, told_client, up_client}
+use Rattle.shared_core.specs.Follows.{HasCalled, HasGiven, IsFor, Keeps, MayBeGiven, told_client, up_client}
 use Rattle.shared_core.specs.Hears.{HasHeard}
 use Rattle.shared_core.specs.Stands.{Carries, is_roomy, tables}
 use Rattle.shared_core.specs.declared.router.Router.{Router}
@@ -40,12 +43,13 @@ use Rattle.shared_core.specs.declared.router.Router.{Router}
 
 abbrev pub Hears : Type 0
 Hears =
-    (service : Setup) (default : List ℕ) (l : LinkId) (bytes : List ℕ) (clock : ℕ) (given : Option GivenUp) (going : Option Going)
+    (rules : List Rule) (service : Setup) (default : List ℕ) (l : LinkId) (bytes : List ℕ) (clock : ℕ) (given : Option GivenUp) (going : Option Going)
     (server : Server) (said : Said) (old heard mid freed now : Tabled) → old.links l ≡ Some server → server.row.lost ≡ false
     → server.row.link.spoilt ≡ false → IsHeard l bytes clock said heard old → MayGiveUp given heard
     → IsSame mid (given_up_in (told_to given) heard) → IsSame freed (freed_in l mid)
     → IsCalled (name_in server.row.link.state.carries) given freed (option_map (λ (g : Going). g.client) going)
-    → GoesSo going service default freed now → HearsSo service default l bytes clock given going old now
+    → (goes : GoesSo going service default freed now) → IsRuledOn rules going service default freed now goes
+    → HearsRuled rules service default l bytes clock given going old now
 
 abbrev pub StillGoes : Type 0
 StillGoes =
@@ -54,10 +58,11 @@ StillGoes =
 
 abbrev pub Routes : Type 0
 Routes =
-    (service : Setup) (default : List ℕ) (log : Log) (t now : Tabled) (roomy : ClientNo → Bool) (l : LinkId) (bytes : List ℕ) (clock : ℕ)
-    (given : Option GivenUp) (going : Option Going) → IsRouter service default log t roomy → MayFollow log (entry.Got l bytes)
-    → AreBytes bytes → HearsSo service default l bytes clock given going t now → AreAloneOf going
-    → IsRouter service default (with_entry log (entry.Got l bytes)) now roomy
+    (service : Service) (log : Log) (t now : Tabled) (roomy : ClientNo → Bool) (l : LinkId) (bytes : List ℕ) (clock : ℕ)
+    (given : Option GivenUp) (going : Option Going) → IsRouter service log t roomy → MayFollow log (entry.Got l bytes)
+    → AreBytes bytes → (so : HearsSo service.setup service.default_schema l bytes clock given going t now) → AreGivenOurs given
+    → AreGoingOurs (rules_of service.rules) going
+    → IsRuledOn (rules_of service.rules) going service.setup service.default_schema so.freed now so.goes → IsRouter service (with_entry log (entry.Got l bytes)) now roomy
 
 -- What is given up may be, and who is called for that goes on still.
 
@@ -78,10 +83,6 @@ for_then : (name : Option SessionName) (heard freed : Tabled) (given : Option Gi
     → IfSome given (λ up. IsFor name up.client freed)
 for_then name heard freed None still may = tt
 for_then name heard freed (Some up) still may = its_then name up.client heard freed (still up.client) may.its
-
-pub alone_of : (going : Option Going) → AreAloneIf going → AreAloneOf going
-alone_of None alone = tt
-alone_of (Some going) alone = alone
 
 -- The link is neither lost nor spoilt, as it is read.
 
@@ -114,14 +115,20 @@ heard_so hears still service link bytes old new name said given heard mid freed 
     let goes_on : HasCalled service name gives.told freed (tables new) =
     calls gives.told gives.its (for_then name heard freed given (λ c. still link gives.told heard mid freed c gives.same frees) may) in
     let named : name ≡ name_in at.0.row.link.state.carries = carried ∙ ap carried_at at.1 in
+    let all : HearsRuled (rules_of service.rules) service.setup service.default_schema link bytes old.clock gives.told goes_on.going (tables old)
+    (tables new) =
+    hears (rules_of service.rules) service.setup service.default_schema link bytes old.clock gives.told goes_on.going at.0 said (tables old) heard mid
+    freed (tables new) at.1 (unlike at.0.row.lost two.0) (unlike at.0.row.link.spoilt two.1) is (may_of name heard gives.told given gives.its may)
+    gives.same frees
+    (subst (λ (n : Option SessionName). IsCalled n gives.told freed (option_map (λ (g : Going). g.client) goes_on.going)) named goes_on.called)
+    goes_on.goes goes_on.ruled in
     record {
       given = gives.told;
       going = goes_on.going;
-      alone = alone_of goes_on.going goes_on.alone;
-      so = hears service.setup service.default_schema link bytes old.clock gives.told goes_on.going at.0 said (tables old) heard mid freed (tables new)
-          at.1 (unlike at.0.row.lost two.0) (unlike at.0.row.link.spoilt two.1) is (may_of name heard gives.told given gives.its may) gives.same frees
-          (subst (λ (n : Option SessionName). IsCalled n gives.told freed (option_map (λ (g : Going). g.client) goes_on.going)) named goes_on.called)
-          goes_on.goes;
+      given_ours = gives.ours;
+      ours = goes_on.ours;
+      so = all.so;
+      ruled = all.ruled;
     }
 
 -- So the router stands for the log with it.
@@ -130,5 +137,5 @@ pub read_carries : Routes → (service : Service) (link : LinkId) (bytes : List 
 read_carries routes service link bytes old new keeps are heard =
     carries_by service old new keeps.roomy keeps.came (entry.Got link bytes) refl
     (λ log may router.
-    routes service.setup service.default_schema log (tables old) (tables new) (is_roomy old.roomy) link bytes old.clock heard.given heard.going router may
-    are heard.so heard.alone)
+    routes service log (tables old) (tables new) (is_roomy old.roomy) link bytes old.clock heard.given heard.going router may
+    are heard.so heard.given_ours heard.ours heard.ruled)

@@ -65,6 +65,7 @@ left-told who c old between new tells still leaves rests rested =
     let told : HasTold c old between = tells there in
     record {
       payload = told.payload;
+      own = told.own;
       leaves = record {
         row = rests.row;
         there = rests.there;
@@ -83,6 +84,7 @@ left-told who c old between new tells still leaves rests rested =
 pub told-parts : (c : ClientNo) (old new : Tabled) → HasLeftTold c old new → HasParted c false Rests old new
 told-parts c old new told = record {
   parting = Tells told.payload;
+  word = told.own;
   once = λ is. absurd (let e = is in cc);
   parts = told.leaves;
   ended = λ is. refl;

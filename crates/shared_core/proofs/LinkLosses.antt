@@ -14,7 +14,6 @@ use Rattle.private_model.proofs.Maps.{same_number}
 use Rattle.session_state.specs.declared.names.SessionName.{SessionName}
 use Rattle.client_seat.specs.Seats.{is_ended}
 use Rattle.client_desk.specs.declared.work.Work.{Work}
-use Rattle.client_session.specs.Setups.{Setup}
 use Rattle.core_policy.specs.declared.policy.Policy.{Policy}
 use Rattle.core_policy.specs.declared.verdict.GiveUp.{GiveUp}
 use Rattle.core_service.specs.declared.service.Service.{Service}
@@ -28,14 +27,14 @@ use Rattle.core_laws.specs.clients.Follows.{LeavesThere}
 use Rattle.core_laws.specs.clients.Going.{GivenUp, Going, IsCalled, is_going, told_to}
 use Rattle.core_laws.specs.entry.Cores.{with_entry}
 use Rattle.core_laws.specs.entry.Freeing.{all_freed}
-use Rattle.router_laws.proofs.OfReading.Router.{read_alone}
-use Rattle.router_laws.specs.decisions.Deeds.{AreAlone}
-use Rattle.router_laws.specs.decisions.Goings.{deeds_of}
+use Rattle.query_rules.specs.Passing.{rules_of}
+use Rattle.router_laws.specs.decisions.Rulings.{IsRuledOn}
+use Rattle.router_laws.specs.decisions.Speaks.{AreGivenOurs, AreGoingOurs}
 use Rattle.router_laws.specs.decisions.Routers.{IsRouter}
 use Rattle.router_laws.specs.links.Loses.{Break, GoesWithIt, IsGivenUpWith, LosesEnded, LosesSo, MayGiveUpWith, ReadEnds, ReadFails, WriteFails, entry_by, gives}
 use Rattle.router_laws.specs.wakes.Calling.{AreHomesOf}
 use Rattle.shared_core.proofs.Carrying.{carries_by}
-use Rattle.shared_core.proofs.Hears.{alone_of, its_then}
+use Rattle.shared_core.proofs.Hears.{its_then}
 use Rattle.shared_core.proofs.Tabling.{tables_are}
 use Rattle.shared_core.specs.Follows.{HasCalled, HasGiven, IsFor, Keeps, MayBeGivenWith, is_of, told_client, up_client}
 use Rattle.shared_core.specs.Losses.{EndsWith, HasLost, HasLostEnded, IsHeldBy, MayLose, is_given}
@@ -47,16 +46,17 @@ use Rattle.shared_core.specs.declared.router.Router.{Router}
 
 abbrev pub Routes : Type 0
 Routes =
-    (service : Setup) (default : List ℕ) (log : Log) (t now : Tabled) (roomy : ClientNo → Bool) (l : LinkId) (how : Break)
-    (given : Option GivenUp) (going : Option Going) → IsRouter service default log t roomy → MayFollow log (entry_by how l)
-    → AreAlone (deeds_of given going) → LosesSo service default l given going t now
-    → IsRouter service default (with_entry log (entry_by how l)) now roomy
+    (service : Service) (log : Log) (t now : Tabled) (roomy : ClientNo → Bool) (l : LinkId) (how : Break)
+    (given : Option GivenUp) (going : Option Going) → IsRouter service log t roomy → MayFollow log (entry_by how l)
+    → AreGivenOurs given → AreGoingOurs (rules_of service.rules) going → (so : LosesSo service.setup service.default_schema l given going t now)
+    → IsRuledOn (rules_of service.rules) going service.setup service.default_schema so.lost now so.goes
+    → IsRouter service (with_entry log (entry_by how l)) now roomy
 
 abbrev pub EndedRoutes : Type 0
 EndedRoutes =
-    (service : Setup) (default : List ℕ) (log : Log) (t now : Tabled) (roomy : ClientNo → Bool) (l : LinkId) (how : Break) (c : ClientNo)
-    (links : List LinkId) → IsRouter service default log t roomy → MayFollow log (entry_by how l) → LosesEnded l c links t now
-    → IsRouter service default (with_entry log (entry_by how l)) now roomy
+    (service : Service) (log : Log) (t now : Tabled) (roomy : ClientNo → Bool) (l : LinkId) (how : Break) (c : ClientNo)
+    (links : List LinkId) → IsRouter service log t roomy → MayFollow log (entry_by how l) → LosesEnded l c links t now
+    → IsRouter service (with_entry log (entry_by how l)) now roomy
 
 -- Who went on does so still: no link that is lost, and no statement that is given up, ends a client.
 
@@ -145,7 +145,8 @@ lost_so service link name given old lost mid new loses gave calls may =
     record {
       given = gave.told;
       going = goes_on.going;
-      alone = alone_of goes_on.going goes_on.alone;
+      given_ours = gave.ours;
+      ours = goes_on.ours;
       so = record {
         server = may.server;
         there = may.there;
@@ -156,6 +157,7 @@ lost_so service link name given old lost mid new loses gave calls may =
         called = subst (λ (n : Option SessionName). IsCalled n gave.told old (option_map (λ (g : Going). g.client) goes_on.going)) may.named called;
         goes = goes_on.goes;
       };
+      ruled = goes_on.ruled;
     }
 
 -- And where its client ends.
@@ -297,8 +299,8 @@ module _ (service : Service) (link : LinkId) (old new : Router) where
       (λ how.
       carries_by service old new keeps.roomy keeps.came (entry_by how link) (none_come how link)
       (λ log may router.
-      routes service.setup service.default_schema log (tables old) (tables new) (is_roomy old.roomy) link how has.given has.going router may
-      (read_alone has.given has.going has.alone) has.so))
+      routes service log (tables old) (tables new) (is_roomy old.roomy) link how has.given has.going router may
+      has.given_ours has.ours has.so has.ruled))
 
   pub ended_loses : EndedRoutes → (c : ClientNo) → Keeps old new → HasLostEnded link c (tables old) (tables new) → Loses service link old new
   ended_loses routes c keeps has =
@@ -306,7 +308,7 @@ module _ (service : Service) (link : LinkId) (old new : Router) where
       (λ how.
       carries_by service old new keeps.roomy keeps.came (entry_by how link) (none_come how link)
       (λ log may router.
-      routes service.setup service.default_schema log (tables old) (tables new) (is_roomy old.roomy) link how c has.links router may has.so))
+      routes service log (tables old) (tables new) (is_roomy old.roomy) link how c has.links router may has.so))
 
 -- whether a row is there
 pub copied_is : {T : Type 0} (found : Option (Bor T)) (row : Option T) (test b : Bool) → option_copied found ≡ row → test ≡ is_some found

@@ -11,7 +11,6 @@ use Rattle.mx_wire.specs.Tells.{MayFollow}
 use Rattle.mx_wire.specs.declared.entry.Entry.TheVariants as entry
 use Rattle.private_model.specs.Names.{ClientNo}
 use Rattle.server_side.specs.Account.{Account}
-use Rattle.client_session.specs.Setups.{Setup}
 use Rattle.served_link.specs.declared.row.Opening.{Opening}
 use Rattle.core_service.specs.declared.service.Service.{Service}
 use Rattle.core_tables.specs.Tables.{IsSame, Tabled}
@@ -33,16 +32,16 @@ has_opened l server slot opening login moment old new same to = record {
 }
 
 abbrev pub Opens : Type 0
-Opens = (service : Setup) (default : List ℕ) (log : Log) (t now : Tabled) (roomy : ClientNo → Bool) (server : ServerId) (address : Address)
-    (l : LinkId) (login : Account) → IsRouter service default log t roomy → MayFollow log (entry.Opened server address l)
-    → OpensSo l server login t now → IsRouter service default (with_entry log (entry.Opened server address l)) now roomy
+Opens = (service : Service) (log : Log) (t now : Tabled) (roomy : ClientNo → Bool) (server : ServerId) (address : Address)
+    (l : LinkId) (login : Account) → IsRouter service log t roomy → MayFollow log (entry.Opened server address l)
+    → OpensSo l server login t now → IsRouter service (with_entry log (entry.Opened server address l)) now roomy
 
 pub opened_carries : Opens → (service : Service) (server : ServerId) (address : Address) (l : LinkId) (old new : Router)
     → new.roomy ≡ old.roomy → new.came ≡ old.came → HasOpened l server (tables old) (tables new)
     → Carries service (entry.Opened server address l) old new
 opened_carries law service server address l old new roomy came has =
     carries_by service old new roomy came (entry.Opened server address l) refl
-    (λ log may router. law service.setup service.default_schema log (tables old) (tables new) _ server address l has.login router may has.so)
+    (λ log may router. law service log (tables old) (tables new) _ server address l has.login router may has.so)
 
 ok_both : {T E : Type 0} (r : Result T E) {A B C : Type 0} → (A → B → C) → OnOk r A → OnOk r B → OnOk r C
 ok_both (Ok x) f a b = f a b

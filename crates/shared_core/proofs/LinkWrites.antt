@@ -10,7 +10,6 @@ use Rattle.lent_link.specs.Links.{left_in}
 use Rattle.mx_wire.specs.Log.{Log}
 use Rattle.mx_wire.specs.Tells.{MayFollow}
 use Rattle.mx_wire.specs.declared.entry.Entry.TheVariants as entry
-use Rattle.client_session.specs.Setups.{Setup}
 use Rattle.private_model.specs.Names.{ClientNo}
 use Rattle.core_service.specs.declared.service.Service.{Service}
 use Rattle.router_laws.specs.decisions.Routers.{IsRouter}
@@ -95,13 +94,13 @@ is_writable marked l n some may = writable_by marked l n some (sends_on marked l
 -- The router goes on.
 
 abbrev pub Writes : Type 0
-Writes = (service : Setup) (default : List ℕ) (log : Log) (t now : Tabled) (roomy : ClientNo → Bool) (l : LinkId) (offer : Sent) (count : ℕ)
-    → IsRouter service default log t roomy → MayFollow log (entry.Wrote l offer.tag (take count offer.bytes)) → WritesSo l offer count t now
-    → IsRouter service default (with_entry log (entry.Wrote l offer.tag (take count offer.bytes))) now roomy
+Writes = (service : Service) (log : Log) (t now : Tabled) (roomy : ClientNo → Bool) (l : LinkId) (offer : Sent) (count : ℕ)
+    → IsRouter service log t roomy → MayFollow log (entry.Wrote l offer.tag (take count offer.bytes)) → WritesSo l offer count t now
+    → IsRouter service (with_entry log (entry.Wrote l offer.tag (take count offer.bytes))) now roomy
 
 abbrev pub SettlesBy : Type 0
-SettlesBy = (service : Setup) (default : List ℕ) (log : Log) (t now : Tabled) (roomy : ClientNo → Bool) → IsRouter service default log t roomy
-    → Settles t now → IsRouter service default log now roomy
+SettlesBy = (service : Service) (log : Log) (t now : Tabled) (roomy : ClientNo → Bool) → IsRouter service log t roomy
+    → Settles t now → IsRouter service log now roomy
 
 some_of : (n : ℕ) (xs : List ℕ) → 0 < length (take n xs) → 0 < n
 some_of zero xs some = absurd (none_less some) where
@@ -116,7 +115,7 @@ module _ (law : Writes) (service : Service) (l : LinkId) (n : ℕ) (old new : Ro
   wrote_carries sent is =
       let lent : IsLent old.marked l sent = is_lent old.marked l sent is some in
       carries_by service old new roomy came (entry.Wrote l sent.tag (take n sent.bytes)) refl
-      (λ log may router. law service.setup service.default_schema log (tables old) (tables new) _ l sent n router may (record {
+      (λ log may router. law service log (tables old) (tables new) _ l sent n router may (record {
         server = lent.server;
         there = lent.there;
         lent = lent.lent;
@@ -130,4 +129,4 @@ module _ (law : Writes) (service : Service) (l : LinkId) (n : ℕ) (old new : Ro
 pub settles_stands : SettlesBy → (service : Service) (old new : Router) → SettlesSo old new → (log : Log) → StandsFor service log old → StandsFor service log new
 settles_stands law service old new so log stands =
     stays_by service old new so.roomy so.came log
-    (λ router. law service.setup service.default_schema log (tables old) (tables new) (is_roomy old.roomy) router so.settles) stands
+    (λ router. law service log (tables old) (tables new) (is_roomy old.roomy) router so.settles) stands

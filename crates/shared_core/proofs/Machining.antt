@@ -16,7 +16,9 @@ use Rattle.ready_loop.specs.declared.machines.Act.{Act}
 use Rattle.ready_loop.specs.declared.machines.Act.TheVariants as act
 use Rattle.ready_loop.specs.declared.machines.Event.{Event}
 use Rattle.ready_loop.specs.declared.machines.Event.TheVariants as event
+use Rattle.core_laws.specs.entry.Cores.{with_entry}
 use Rattle.router_laws.specs.decisions.Routers.{IsRouter}
+use Rattle.router_laws.specs.waits.Drained.{IsDrainedFor}
 use Rattle.core_policy.specs.declared.asks.Asked.{Asked}
 use Rattle.core_service.specs.declared.service.Service.{Service}
 use Rattle.core_tables.specs.Tables.{Tabled}
@@ -25,10 +27,10 @@ use Rattle.marked_tables.specs.Goes.{GoesOn, reads_on}
 use Rattle.marked_tables.specs.declared.marked.MarkedTables.{MarkedTables}
 use Rattle.shared_core.specs.Machine.{Tells}
 use Rattle.shared_core.specs.Says.{target_of}
-use Rattle.shared_core.specs.Stands.{ActsBy, Carries, Chooses, IsClosed, Loses, Moves, PartsFor, SettlesSo, Shown, StandsBy, StandsFor}
-use Rattle.shared_core.specs.Stands.{is_roomy, parted, shown, tables_in, without_client, without_link}
+use Rattle.shared_core.specs.Stands.{ActsBy, Carries, CarriesWhere, Chooses, IsClosed, Loses, Moves, PartsFor, SettlesSo, Shown, StandsBy, StandsFor}
+use Rattle.shared_core.specs.Stands.{is_roomy, parted, shown, tables, tables_in, without_client, without_link}
 use Rattle.shared_core.specs.declared.router.Router.{Router}
-use Rattle.shared_core.proofs.Carrying.{carries_along, shown_stands}
+use Rattle.shared_core.proofs.Carrying.{shown_stands}
 use Rattle.shared_core.proofs.Keeping.{keeps_moves, keeps_still}
 
 -- A close, and no close: how it stood before may be said by more.
@@ -65,7 +67,7 @@ parted_stands service log s closed stands = subst (λ (t : Tabled). StandsBy ser
 -- Whoever has room again, and how many came, is all that it is by beside the tables.
 pub stands_as : (service : Service) (log : Log) (t : Tabled) (a b : Shown) → b.roomy ≡ a.roomy → b.came ≡ a.came → StandsBy service log t a → StandsBy service log t b
 stands_as service log t a b roomy came stands = record {
-  router = subst (λ r. IsRouter service.setup service.default_schema log t (is_roomy r)) (sym roomy) stands.router;
+  router = subst (λ r. IsRouter service log t (is_roomy r)) (sym roomy) stands.router;
   counted = came ∙ stands.counted;
 }
 
@@ -85,6 +87,10 @@ opened_so service link server (Some a) old new carries e told =
 pub carried_as : (service : Service) (one e : Entry) (old new : Router) → e ≡ one → Carries service one old new → Carries service e old new
 carried_as service one e old new is carries = subst (λ (x : Entry). Carries service x old new) (sym is) carries
 
+pub where_as : (Is : Log → Type 0) (service : Service) (one e : Entry) (old new : Router) → e ≡ one → CarriesWhere Is service one old new
+    → CarriesWhere Is service e old new
+where_as Is service one e old new is carries = subst (λ (x : Entry). CarriesWhere Is service x old new) (sym is) carries
+
 -- what is told of another event that is this one
 pub tells_as : (service : Service) (event at : Event) (bytes : List ℕ) (old new : Router) → event ≡ at → Tells service at bytes old new
     → Tells service event bytes old new
@@ -93,42 +99,44 @@ tells_as service event at bytes old new is tells = subst (λ (x : Event). Tells 
 -- What each kind of event tells.
 
 module _ (service : Service) (bytes : List ℕ) (old new : Router) where
-  pub woke_tells : (now_ms : ℕ) → ((until_ms : ℕ) → Carries service (entry.Woke until_ms now_ms) old new) → Tells service (event.Woke now_ms) bytes old new
-  woke_tells now_ms carries until_ms e told due = carried_as service (entry.Woke until_ms now_ms) e old new told (carries until_ms)
+  pub woke_tells : (now_ms : ℕ) → ((until_ms : ℕ) → CarriesWhere (IsDrainedFor (tables old)) service (entry.Woke until_ms now_ms) old new)
+      → Tells service (event.Woke now_ms) bytes old new
+  woke_tells now_ms carries until_ms e told =
+      where_as (IsDrainedFor (tables old)) service (entry.Woke until_ms now_ms) e old new told (carries until_ms)
 
   pub accepted_tells : (port : Port) (link : LinkId) (salt : List ℕ) → Carries service (entry.Accepted port link salt) old new
       → Tells service (event.Accepted port link salt) bytes old new
-  accepted_tells port link salt carries until_ms e told due = carried_as service (entry.Accepted port link salt) e old new told carries
+  accepted_tells port link salt carries until_ms e told log due = carried_as service (entry.Accepted port link salt) e old new told carries log
 
   pub opened_tells : (server : ServerId) (link : LinkId)
       → ((a : Asked) → old.asked ≡ Some a → Carries service (entry.Opened a.server a.address link) old new)
       → Tells service (event.Opened server link) bytes old new
-  opened_tells server link carries until_ms e told due = opened_so service link server old.asked old new carries e told
+  opened_tells server link carries until_ms e told log due = opened_so service link server old.asked old new carries e told log
 
   pub failed_tells : (server : ServerId) → ((address : Address) → Carries service (entry.OpenFailed server address) old new)
       → Tells service (event.OpenFailed server) bytes old new
-  failed_tells server carries until_ms e told due = carried_as service (entry.OpenFailed server told.0) e old new told.2 (carries told.0)
+  failed_tells server carries until_ms e told log due = carried_as service (entry.OpenFailed server told.0) e old new told.2 (carries told.0) log
 
   pub got_tells : (link : LinkId) → (reads_on old.marked link ≡ true → Carries service (entry.Got link bytes) old new)
       → Tells service (event.Got link) bytes old new
-  got_tells link carries until_ms e told due = carried_as service (entry.Got link bytes) e old new told (carries due)
+  got_tells link carries until_ms e told log due = carried_as service (entry.Got link bytes) e old new told (carries due) log
 
   pub ended_tells : (link : LinkId) → Loses service link old new → Tells service (event.Ended link) bytes old new
-  ended_tells link loses until_ms e told due = carried_as service (entry.Ended link) e old new told loses.ended
+  ended_tells link loses until_ms e told log due = carried_as service (entry.Ended link) e old new told loses.ended log
 
   pub broken_tells : (link : LinkId) → Loses service link old new → Tells service (event.Failed link) bytes old new
-  broken_tells link loses until_ms e told due = elim told [
-    | inl is ↦ carried_as service (entry.ReadFailed link) e old new is loses.unread
-    | inr is ↦ carried_as service (entry.WriteFailed link) e old new is loses.unwritten
+  broken_tells link loses until_ms e told log due = elim told [
+    | inl is ↦ carried_as service (entry.ReadFailed link) e old new is loses.unread log
+    | inr is ↦ carried_as service (entry.WriteFailed link) e old new is loses.unwritten log
   ]
 
 -- An event goes through, and the router settles.
 
 pub tells_along : SettlesRouters → (service : Service) (event : Event) (bytes : List ℕ) (old mid settled new : Router)
     → Tells service event bytes old mid → SettlesSo mid settled → Chooses settled new → Tells service event bytes old new
-tells_along law service event bytes old mid settled new tells settles chosen until_ms e told due =
-    carries_along service e old mid new (tells until_ms e told due)
-    (λ log stands. shown_stands service log settled new chosen.same (law service mid settled settles log stands))
+tells_along law service event bytes old mid settled new tells settles chosen until_ms e told log due may stands =
+    shown_stands service (with_entry log e) settled new chosen.same
+    (law service mid settled settles (with_entry log e) (tells until_ms e told log due may stands))
 
 pub moves_along : (old mid settled new : Router) → Moves old mid → Moves mid settled → Chooses settled new → Moves old new
 moves_along old mid settled new first next chosen = record {

@@ -7,18 +7,17 @@ use Rattle.std.proofs.lemmas.List.Elements.{filter_map-append}
 use Rattle.std.proofs.lemmas.Option.{none-some}
 use Rattle.mx_base.specs.declared.names.LinkId.{LinkId}
 use Rattle.mx_base.specs.Sent.{MayTake, Sent}
-use Rattle.mx_wire.specs.Log.{Log, accepted_link, accepted_links}
+use Rattle.mx_wire.specs.Log.{Log, accepted_link, accepted_links, is_open}
 use Rattle.mx_wire.specs.Tells.{MayFollow}
 use Rattle.mx_wire.specs.declared.entry.Entry.{Entry}
 use Rattle.mx_wire.specs.declared.entry.Entry.TheVariants as entry
 use Rattle.ready_loop.specs.Changes.{SaysSame}
-use Rattle.ready_loop.specs.Drained.{IsDue}
+use Rattle.ready_loop.specs.Drained.{IsDue, MayWait}
 use Rattle.ready_loop.specs.Machine.{Acts, CarriesOver, HasActed, IsAwaited, IsHeard, IsQuiet, IsToldOf, Keeps, OwesFarewell, Target}
 use Rattle.ready_loop.specs.declared.machines.Act.{Act}
 use Rattle.ready_loop.specs.declared.machines.Act.TheVariants as act
 use Rattle.ready_loop.specs.declared.machines.Event.{Event}
 use Rattle.ready_loop.specs.declared.machines.Event.TheVariants as event
-use Rattle.client_session.specs.Setups.{Setup}
 use Rattle.private_model.specs.Names.{ClientNo}
 use Rattle.core_policy.specs.declared.asks.Asked.{Asked}
 use Rattle.core_service.specs.declared.service.Service.{Service}
@@ -28,7 +27,9 @@ use Rattle.core_tables.specs.declared.tables.Tables.{Tables}
 use Rattle.link_marks.specs.Marks.{is_known}
 use Rattle.core_laws.specs.entry.Cores.{with_entry}
 use Rattle.router_laws.specs.decisions.Routers.{IsRouter}
-use Rattle.marked_tables.specs.Goes.{sends_on}
+use Rattle.router_laws.specs.waits.Drained.{IsDrainedAt, IsDrainedFor}
+use Rattle.marked_tables.specs.Goes.{AreKnown, GoesOn, sends_on}
+use Rattle.marked_tables.proofs.Going.{named_known}
 use Rattle.marked_tables.specs.declared.marked.MarkedTables.{MarkedTables}
 use Rattle.shared_core.specs.Machine.{IsDueIn, IsStanding, Tells}
 use Rattle.shared_core.specs.Says.{IsAskedFor, awaits, reads, sends, target_of}
@@ -38,7 +39,7 @@ use Rattle.shared_core.specs.declared.roomy.Roomy.{Roomy}
 use Rattle.shared_core.specs.declared.router.Router.{Router}
 use Rattle.shared_core.specs.declared.whole.Core.{Core}
 use Rattle.shared_core.proofs.Carrying.{shown_stands}
-use Rattle.shared_core.proofs.Machining.{parted_stands, stands_parted}
+use Rattle.shared_core.proofs.Machining.{nothing_parted, parted_stands, stands_parted}
 use Rattle.shared_core.proofs.Tabling.{tables_are}
 
 abbrev pub asks : Core → Bool
@@ -66,20 +67,46 @@ closed_by core (event.Got link) log heard acted was = was.acted acted
 closed_by core (event.Ended link) log heard acted was = was.acted acted
 closed_by core (event.Failed link) log heard acted was = was.acted acted
 
+-- Where the loop waits nothing is left to read or to write: each link that is open has a row, and so is known to the marks.
+
+drained_for : (core : Core) (log : Log) → IsStanding core log → MayWait (reads core) (sends core) (asks core) log
+    → IsDrainedFor (tables core.router) log
+drained_for core log was may =
+    let stood : StandsFor core.service log core.router = stands_parted core.service log (shown core.router) (was.acted may.acted) was.stands in
+    let known : (l : LinkId) → is_open l log ≡ true → is_known core.router.marked.changed l ≡ true =
+    λ l opened. was.known l (sym (stood.router.open_just l) ∙ opened) in
+    record {
+      accepted = may.drained.accepted;
+      named = may.drained.named;
+      read = λ l opened wants.
+          may.drained.read l opened (ap (λ (b : Bool). b && reads_in (tables core.router) l) (known l opened) ∙ wants);
+      written = λ l opened some.
+          may.drained.written l opened
+          (subst (λ (b : Bool). IsSome (if b then sends_in (tables core.router) l else None)) (sym (known l opened)) some);
+    }
+
+parted_drained : (core : Core) (log : Log) → IsStanding core log → MayWait (reads core) (sends core) (asks core) log
+    → IsDrainedFor (parted (shown core.router)) log
+parted_drained core log was may =
+    subst (λ (t : Tabled). IsDrainedFor t log) (sym (nothing_parted (shown core.router) (was.acted may.acted))) (drained_for core log was may)
+
 due_by : (core : Core) (event : Event) (log : Log) (until_ms : ℕ) (bytes : List ℕ) (e : Entry)
-    → IsToldOf until_ms (awaits core) event bytes e → due_in core log e → IsDueIn core.router event
-due_by core (event.Got link) log until_ms bytes e told due = subst (λ (x : Entry). due_in core log x) told due
-due_by core _ log until_ms bytes e told due = tt
+    → IsToldOf until_ms (awaits core) event bytes e → IsStanding core log → due_in core log e → IsDueIn core.router event log
+due_by core (event.Got link) log until_ms bytes e told was due = subst (λ (x : Entry). due_in core log x) told due
+due_by core (event.Woke now_ms) log until_ms bytes e told was due =
+    drained_for core log was (subst (λ (x : Entry). due_in core log x) told due)
+due_by core _ log until_ms bytes e told was due = tt
 
 -- Behind an event, and behind a write, nothing is.
-stands_moved : (core : Core) (router : Router) (log : Log) → Moves core.router router → IsClosed (shown core.router)
+stands_moved : (core : Core) (router : Router) (log : Log) → Moves core.router router → IsClosed (shown core.router) → AreKnown core.router.marked
     → StandsFor core.service log router → IsStanding (record core { router = router }) log
-stands_moved core router log moves closed stands =
+stands_moved core router log moves closed known stands =
     let then_closed : IsClosed (shown router) = record { client = moves.client ∙ closed.client; link = moves.link ∙ closed.link } in
     record {
       stands = parted_stands core.service log (shown router) then_closed stands;
       acted = λ off. then_closed;
       opening = λ some. then_closed;
+      known = moves.goes.known known;
     }
 
 take_one : (core : Core) (router : Router) (event : Event) (bytes : List ℕ) → IsHeard (awaits core) event → HasActed (asks core) event
@@ -88,8 +115,8 @@ take_one : (core : Core) (router : Router) (event : Event) (bytes : List ℕ) �
 take_one core router event bytes heard acted tells moves e told = record {
   carried = λ log may due was.
       let closed : IsClosed (shown core.router) = closed_by core event log heard acted was in
-      stands_moved core router (log ++ e ∷ []) moves closed
-      (tells core.router.until e told (due_by core event log core.router.until bytes e told due) log may
+      stands_moved core router (log ++ e ∷ []) moves closed was.known
+      (tells core.router.until e told log (due_by core event log core.router.until bytes e told was due) may
       (stands_parted core.service log (shown core.router) closed was.stands));
 }
 
@@ -108,39 +135,42 @@ pub wrote_carries : (core : Core) (wrote router : Router) (link : LinkId) (n : �
 wrote_carries core wrote router link n sent acted is carries moves same = record {
   carried = λ log may due was.
       let closed : IsClosed (shown core.router) = was.acted acted in
-      stands_moved core router (with_entry log (entry.Wrote link sent.tag (take n sent.bytes))) moves closed
+      stands_moved core router (with_entry log (entry.Wrote link sent.tag (take n sent.bytes))) moves closed was.known
       (shown_stands core.service (with_entry log (entry.Wrote link sent.tag (take n sent.bytes))) wrote router same
       (carries core.service sent is log may (stands_parted core.service log (shown core.router) closed was.stands)));
 }
 
 -- What is asked for.
-pub acts_stand : (core : Core) (router : Router) (result : Option Act) → ActsSo core.router router result → IsAskedFor router.asked result
-    → router.acting ≡ is_some result → Acts IsStanding due_in sends core (record core { router = router }) result
-acts_stand core router None acts asked acting = record {
+pub acts_stand : (core : Core) (router : Router) (result : Option Act) → ActsSo core.router router result → GoesOn core.router.marked router.marked
+    → IsAskedFor router.asked result → router.acting ≡ is_some result → Acts IsStanding due_in sends core (record core { router = router }) result
+acts_stand core router None acts goes asked acting = record {
   kept = λ log was. record {
     stands = acts.stands core.service log was.stands;
     acted = λ off. acts.closed;
     opening = λ some. acts.closed;
+    known = goes.known was.known;
   };
 }
-acts_stand core router (Some (act.Open server address)) acts asked acting = record {
+acts_stand core router (Some (act.Open server address)) acts goes asked acting = record {
   kept = λ log was. record {
     stands = acts.stands core.service log was.stands;
     acted = λ off. acts.closed;
     opening = λ some. acts.closed;
+    known = goes.known was.known;
   };
 }
-acts_stand core router (Some (act.Close link)) acts asked acting = record {
+acts_stand core router (Some (act.Close link)) acts goes asked acting = record {
   opened = λ log was. acts.opened core.service log was.stands;
-  plain = λ none. record { carried = λ log may due was. closing (log ++ entry.Closed link ∷ []) (acts.plain none core.service log may was.stands) };
+  plain = λ none. record { carried = λ log may due was. closing (log ++ entry.Closed link ∷ []) was.known (acts.plain none core.service log may was.stands) };
   offered = λ some log e marks farewell are may last was.
-      closing (log ++ e ∷ [] ++ marks ++ entry.Closed link ∷ []) (acts.offered some core.service log e marks farewell are may last was.stands);
+      closing (log ++ e ∷ [] ++ marks ++ entry.Closed link ∷ []) was.known (acts.offered some core.service log e marks farewell are may last was.stands);
 } where
-  closing : (log : Log) → PartsFor core.service log (shown router) → IsStanding (record core { router = router }) log
-  closing log stands = record {
+  closing : (log : Log) → AreKnown core.router.marked → PartsFor core.service log (shown router) → IsStanding (record core { router = router }) log
+  closing log known stands = record {
     stands = stands;
     acted = λ off. absurd (true≢false (sym acting ∙ off));
     opening = λ some. absurd (true≢false (sym some ∙ ap (λ (a : Option Asked). is_some a) asked));
+    known = goes.known known;
   }
 
 pub acts_awaited : (core : Core) (result : Option Act) → IsAskedFor core.router.asked result → IfSome result (IsAwaited (awaits core))
@@ -161,17 +191,19 @@ none_asks core (Some result) is = tt
 -- A link is named that may have something new.
 
 pub named_keeps : (core : Core) (m : MarkedTables) → m.tables ≡ core.router.marked.tables
+    → ((link : LinkId) → is_known m.changed link ≡ is_known core.router.marked.changed link)
     → Keeps IsStanding core (record core { router = record core.router { marked = m } })
-named_keeps core m same = record {
+named_keeps core m same known = record {
   kept = λ log was. record {
     stands = record {
-      router = subst (λ (t : Tables). IsRouter core.service.setup core.service.default_schema log
+      router = subst (λ (t : Tables). IsRouter core.service log
           (without_link core.router.closing (without_client core.router.leaving (tables_of t))) (is_roomy core.router.roomy)) (sym same)
           was.stands.router;
       counted = was.stands.counted;
     };
     acted = λ off. same_closed (was.acted off);
     opening = λ some. same_closed (was.opening some);
+    known = named_known core.router.marked m same known was.known;
   };
 } where
   same_closed : IsClosed (shown core.router) → IsClosed (shown (record core.router { marked = m }))
@@ -190,8 +222,16 @@ named_says core m same known = record {
 -- It stands still where it is told of nothing.
 
 abbrev pub Quiet : Type 0
-Quiet = (service : Setup) (default : List ℕ) (log : Log) (e : Entry) (t : Tabled) (roomy : ClientNo → Bool) → IsRouter service default log t roomy
-    → MayFollow log e → IsQuiet e → IsRouter service default (with_entry log e) t roomy
+Quiet = (service : Service) (log : Log) (e : Entry) (t : Tabled) (roomy : ClientNo → Bool) → IsRouter service log t roomy
+    → MayFollow log e → IsQuiet e → IsDrainedAt t log e → IsRouter service (with_entry log e) t roomy
+
+-- where it waits, all is drained
+drained_at : (core : Core) (log : Log) (e : Entry) → IsStanding core log → IsQuiet e → due_in core log e
+    → IsDrainedAt (parted (shown core.router)) log e
+drained_at core log entry.WaitFailed was quiet due = parted_drained core log was due
+drained_at core log entry.Over was quiet due = parted_drained core log was due
+drained_at core log (entry.Woke until_ms now_ms) was quiet due = absurd quiet
+drained_at core log _ was quiet due = tt
 
 none_comes : (e : Entry) → IsQuiet e → accepted_links (e ∷ []) ≡ []
 none_comes (entry.Accepted port link salt) quiet = absurd quiet
@@ -201,32 +241,35 @@ pub quiet_carries : Quiet → (core : Core) (e : Entry) → IsQuiet e → Carrie
 quiet_carries law core e quiet = record {
   carried = λ log may due was. record {
     stands = record {
-      router = law core.service.setup core.service.default_schema log e (parted (shown core.router)) (is_roomy core.router.roomy) was.stands.router may
-          quiet;
+      router = law core.service log e (parted (shown core.router)) (is_roomy core.router.roomy) was.stands.router may
+          quiet (drained_at core log e was quiet due);
       counted = was.stands.counted
           ∙ sym (ap length (filter_map-append accepted_link log (e ∷ [])
           ∙ ap (λ (more : List LinkId). accepted_links log ++ more) (none_comes e quiet) ∙ append-nil (accepted_links log)));
     };
     acted = was.acted;
     opening = was.opening;
+    known = was.known;
   };
 }
 
 -- It begins.
 
 abbrev pub First : Type 0
-First = (service : Setup) (default : List ℕ) (roomy : ClientNo → Bool) → IsRouter service default [] no_tables roomy
+First = (service : Service) (roomy : ClientNo → Bool) → IsRouter service [] no_tables roomy
 
 pub first_stands : First → (service : Service) (r : Router) → IsSame (tables r) no_tables → r.came ≡ 0 → StandsFor service [] r
 first_stands law service r none came = record {
-  router = subst (λ (t : Tabled). IsRouter service.setup service.default_schema [] t (is_roomy r.roomy)) (sym (tables_are (tables r) no_tables none))
-      (law service.setup service.default_schema (is_roomy r.roomy));
+  router = subst (λ (t : Tabled). IsRouter service [] t (is_roomy r.roomy)) (sym (tables_are (tables r) no_tables none))
+      (law service (is_roomy r.roomy));
   counted = came;
 }
 
-pub first_core : (core : Core) → StandsFor core.service [] core.router → IsClosed (shown core.router) → IsStanding core []
-first_core core stands closed = record {
+pub first_core : (core : Core) → StandsFor core.service [] core.router → IsClosed (shown core.router) → AreKnown core.router.marked
+    → IsStanding core []
+first_core core stands closed known = record {
   stands = parted_stands core.service [] (shown core.router) closed stands;
   acted = λ off. closed;
   opening = λ some. closed;
+  known = known;
 }

@@ -11,7 +11,6 @@ use Rattle.mx_base.specs.declared.tag.Tag.TheVariants as tags
 use Rattle.mx_wire.specs.Log.{Log, accepted_link, accepted_links}
 use Rattle.mx_wire.specs.Tells.{MayFollow}
 use Rattle.mx_wire.specs.declared.entry.Entry.TheVariants.{Wrote}
-use Rattle.client_session.specs.Setups.{Setup}
 use Rattle.private_model.specs.Names.{ClientNo, LinkId}
 use Rattle.core_service.specs.declared.service.Service.{Service}
 use Rattle.core_says.specs.Says.{is_clients, sends_by, sends_in}
@@ -98,9 +97,9 @@ none_sent m link none unnumbered sent sends =
 -- What router_laws says of it.
 abbrev pub ClientWrites : Type 0
 ClientWrites =
-    (service : Setup) (default : List ℕ) (log : Log) (t now : Tabled) (roomy room : ClientNo → Bool) (link : LinkId) (tag : Tag) (bytes : List ℕ)
-    (count : ℕ) (c : ClientNo) → IsRouter service default log t roomy → MayFollow log (Wrote link tag bytes)
-    → WroteSo link bytes count c roomy room t now → IsRouter service default (with_entry log (Wrote link tag bytes)) now room
+    (service : Service) (log : Log) (t now : Tabled) (roomy room : ClientNo → Bool) (link : LinkId) (tag : Tag) (bytes : List ℕ)
+    (count : ℕ) (c : ClientNo) → IsRouter service log t roomy → MayFollow log (Wrote link tag bytes)
+    → WroteSo link bytes count c roomy room t now → IsRouter service (with_entry log (Wrote link tag bytes)) now room
 
 none_came : (log : Log) (link : LinkId) (tag : Tag) (bytes : List ℕ)
     → length (accepted_links log) ≡ length (accepted_links (with_entry log (Wrote link tag bytes)))
@@ -116,7 +115,7 @@ client_carried law service old new link c n none numbered may same room came sen
     let to : IsSentTo (tables old) c sent = sent_to old.marked link c none numbered sent sends in
     let few : n ≤ length (due_in ((tables old).clients c)) = few_of old.marked link c none numbered n may in
     record {
-      router = law service.setup service.default_schema log (tables old) (tables new) (is_roomy old.roomy) (is_roomy new.roomy) link sent.tag
+      router = law service log (tables old) (tables new) (is_roomy old.roomy) (is_roomy new.roomy) link sent.tag
           (take n sent.bytes) n c stands.router follows
           (record {
             row = to.row;

@@ -11,7 +11,9 @@ use Rattle.core_laws.specs.clients.Turns.{Choice, Halt}
 use Rattle.router_laws.specs.clients.Leaves.{LeavesAtOnce, LeavesGoing, is_at_rest}
 use Rattle.router_laws.specs.clients.Plans.{nobody}
 use Rattle.router_laws.specs.clients.Speaks.{SpeaksSo}
-use Rattle.router_laws.specs.decisions.Deeds.{IsAlone}
+use Rattle.query_rules.specs.Passing.{rules_of}
+use Rattle.core_promises.specs.Ruled.{AreRuled}
+use Rattle.router_laws.specs.decisions.Speaks.{IsOurs, IsPartingOurs}
 use Rattle.shared_core.specs.declared.leaving.Leaving.{Leaving}
 use Rattle.shared_core.specs.declared.leaving.Leaving.TheVariants as leaving
 
@@ -22,8 +24,10 @@ pub record HasSpoken (service : Service) (link : LinkId) (bytes : List ℕ) (c :
   pub halt : Halt
   pub parting : Parting
   pub links : List LinkId
-  pub alone : All IsAlone choices
+  pub ours : All (IsOurs (rules_of service.rules) c) choices
+  pub word : IsPartingOurs parting
   pub so : SpeaksSo service.setup service.default_schema link bytes c ordinal choices halt parting links old new
+  pub ruled : AreRuled (rules_of service.rules) choices halt service.setup service.default_schema c so.heard so.follows.turned so.follows.turns
 
 -- it goes on, and waits for an answer or isn't logged in
 pub record IsBusy (row : Client) : Type 0 where
@@ -55,5 +59,7 @@ pub record HasLeftGoing (service : Service) (link : LinkId) (c : ClientNo) (old 
   pub choices : List Choice
   pub halt : Halt
   pub parting : Parting
-  pub alone : All IsAlone choices
+  pub ours : All (IsOurs (rules_of service.rules) c) choices
+  pub word : IsPartingOurs parting
   pub so : LeavesGoing service.setup service.default_schema link links ordinal choices halt parting c old new
+  pub ruled : AreRuled (rules_of service.rules) choices halt service.setup service.default_schema c so.between so.follows.turned so.follows.turns

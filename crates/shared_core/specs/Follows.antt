@@ -15,13 +15,17 @@ use Rattle.core_tables.specs.declared.client.Client.{Client}
 use Rattle.core_laws.specs.clients.Follows.{FollowsSo, IsUnfaulty, Parting, PartsSo, Stays, ends_by, quits_by}
 use Rattle.core_laws.specs.clients.Going.{GivenUp, GoesSo, Going, IsCalled, is_going, told_to}
 use Rattle.core_laws.specs.clients.Turns.{Choice, Halt, MayLeave, Rests}
-use Rattle.router_laws.specs.decisions.Deeds.{IsAlone}
+use Rattle.own_words.specs.Own.{IsFailure}
+use Rattle.query_rules.specs.Passing.{rules_of}
+use Rattle.core_promises.specs.Ruled.{AreRuled}
+use Rattle.router_laws.specs.decisions.Rulings.{AreRuledAll, IsRuledOn}
+use Rattle.router_laws.specs.decisions.Speaks.{AreGivenOurs, AreGoingOurs, IsOurs, IsPartingOurs}
 use Rattle.marked_tables.specs.Goes.{GoesOn}
 use Rattle.marked_tables.specs.Homes.{Rise, is_among, is_home_in}
 use Rattle.router_laws.specs.reading.Givings.{MayBeGivenUp}
 use Rattle.router_laws.specs.links.Loses.{IsGivenUpWith}
 use Rattle.router_laws.specs.wakes.Calling.{AllGoOn, Caller, CallerGoesOn, CallsSo}
-use Rattle.router_laws.specs.wakes.Deciding.{AreAloneAll}
+use Rattle.router_laws.specs.wakes.Deciding.{IsCallerOurs}
 use Rattle.shared_core.specs.declared.router.Router.{Router}
 
 -- What stays as it was, but for tables, marks, and what is chosen by; the links that aren't marked say no more than before.
@@ -56,20 +60,24 @@ known_in t (l ∷ ls) = if is_some (t.links l) then l ∷ known_in t ls else kno
 abbrev pub known_more : Tabled → LinkId → List LinkId → List LinkId
 known_more t l known = if is_some (t.links l) then known ++ l ∷ [] else known
 
--- A client took up what it could, and was ended, if it was to.
+-- A client took up what it could, and was ended, if it was to. What it was answered, and its last word, are the router's own, and what goes to
+-- servers of it is its own text, or what the rules make of it.
 pub record HasGone (service : Service) (c : ClientNo) (ends : Bool) (old new : Tabled) : Type 0 where
   pub choices : List Choice
   pub halt : Halt
   pub parting : Parting
-  pub alone : All IsAlone choices
+  pub ours : All (IsOurs (rules_of service.rules) c) choices
+  pub word : IsPartingOurs parting
   pub goes : CallerGoesOn service.setup service.default_schema
       (record { client = c; choices = choices; halt = halt; parting = parting }) old new
+  pub ruled : AreRuled (rules_of service.rules) choices halt service.setup service.default_schema c old goes.turned goes.turns
   pub ended : ends ≡ true → ends_by halt parting ≡ true
 
 -- How it was ended behind its turns.
 
 pub record HasParted (c : ClientNo) (ends : Bool) (halt : Halt) (old new : Tabled) : Type 0 where
   pub parting : Parting
+  pub word : IsPartingOurs parting
   pub once : quits_by halt ≡ true → parting ≡ Stays
   pub parts : PartsSo parting c old new
   pub ended : ends ≡ true → ends_by halt parting ≡ true
@@ -96,8 +104,10 @@ pub record HasFollowed (service : Service) (c : ClientNo) (ends : Bool) (old new
   pub halt : Halt
   pub parting : Parting
   pub links : List LinkId
-  pub alone : All IsAlone choices
+  pub ours : All (IsOurs (rules_of service.rules) c) choices
+  pub word : IsPartingOurs parting
   pub follows : FollowsSo service.setup service.default_schema c choices halt parting links old new
+  pub ruled : AreRuled (rules_of service.rules) choices halt service.setup service.default_schema c old follows.turned follows.turns
   pub ended : ends ≡ true → ends_by halt parting ≡ true
 
 -- Several clients did, one after the other.
@@ -105,19 +115,22 @@ pub record HaveFollowed (service : Service) (clients : List ClientNo) (old new :
   pub callers : List Caller
   pub links : List LinkId
   pub named : map (λ (k : Caller). k.client) callers ≡ clients
-  pub alone : AreAloneAll callers
+  pub ours : All (IsCallerOurs (rules_of service.rules)) callers
   pub calls : CallsSo service.setup service.default_schema callers links old new
+  pub ruled : AreRuledAll (rules_of service.rules) callers service.setup service.default_schema old calls.turned calls.going
 
 -- by what they were called
 pub record HaveGone (service : Service) (clients : List ClientNo) (old new : Tabled) : Type 0 where
   pub callers : List Caller
   pub named : map (λ (k : Caller). k.client) callers ≡ clients
-  pub alone : AreAloneAll callers
+  pub ours : All (IsCallerOurs (rules_of service.rules)) callers
   pub going : AllGoOn callers service.setup service.default_schema old new
+  pub ruled : AreRuledAll (rules_of service.rules) callers service.setup service.default_schema old new going
 
 -- The router answered a client's statement itself.
 pub record HasAnswered (c : ClientNo) (old new : Tabled) : Type 0 where
   pub payload : List ℕ
+  pub own : IsFailure payload
   pub same : IsSame new (given_up c payload old)
 
 abbrev pub up_client : Option GiveUp → Option ClientNo
@@ -129,6 +142,7 @@ told_client told = option_map (λ (up : GivenUp). up.client) told
 -- It did, if it was to.
 pub record HasGiven (given : Option GiveUp) (old new : Tabled) : Type 0 where
   pub told : Option GivenUp
+  pub ours : AreGivenOurs told
   pub its : told_client told ≡ up_client given
   pub same : IsSame new (given_up_in (told_to told) old)
 
@@ -153,12 +167,9 @@ abbrev pub called_by : Option SessionName → (given : Option ClientNo) → Tabl
 called_by (Some name) given t = if is_going (t.clients name.client) then Some name.client else None
 called_by None given t = given
 
-abbrev pub AreAloneIf : Option Going → Type 0
-AreAloneIf None = Unit {0}
-AreAloneIf (Some going) = All IsAlone going.choices
-
 pub record HasCalled (service : Service) (name : Option SessionName) (told : Option GivenUp) (old new : Tabled) : Type 0 where
   pub going : Option Going
   pub called : IsCalled name told old (option_map (λ (g : Going). g.client) going)
-  pub alone : AreAloneIf going
+  pub ours : AreGoingOurs (rules_of service.rules) going
   pub goes : GoesSo going service.setup service.default_schema old new
+  pub ruled : IsRuledOn (rules_of service.rules) going service.setup service.default_schema old new goes

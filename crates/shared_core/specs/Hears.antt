@@ -3,7 +3,9 @@ use Rattle.std.specs.Prelude.{ℕ, List, Option}
 use Rattle.mx_base.specs.declared.names.LinkId.{LinkId}
 use Rattle.core_service.specs.declared.service.Service.{Service}
 use Rattle.core_laws.specs.clients.Going.{GivenUp, Going}
-use Rattle.router_laws.specs.reading.Hearing.{AreAloneOf}
+use Rattle.query_rules.specs.Passing.{rules_of}
+use Rattle.router_laws.specs.decisions.Rulings.{IsRuledOn}
+use Rattle.router_laws.specs.decisions.Speaks.{AreGivenOurs, AreGoingOurs}
 use Rattle.router_laws.specs.reading.Hears.{HearsSo}
 use Rattle.shared_core.specs.Stands.{tables}
 use Rattle.shared_core.specs.declared.router.Router.{Router}
@@ -12,5 +14,7 @@ use Rattle.shared_core.specs.declared.router.Router.{Router}
 pub record HasHeard (service : Service) (link : LinkId) (bytes : List ℕ) (old new : Router) : Type 0 where
   pub given : Option GivenUp
   pub going : Option Going
-  pub alone : AreAloneOf going
+  pub given_ours : AreGivenOurs given
+  pub ours : AreGoingOurs (rules_of service.rules) going
   pub so : HearsSo service.setup service.default_schema link bytes old.clock given going (tables old) (tables new)
+  pub ruled : IsRuledOn (rules_of service.rules) going service.setup service.default_schema so.freed (tables new) so.goes

@@ -15,7 +15,9 @@ use Rattle.core_tables.specs.declared.server.Server.{Server}
 use Rattle.core_laws.specs.clients.Going.{GivenUp, Going}
 use Rattle.core_laws.specs.parting.Partings.{IsAtWork}
 use Rattle.router_laws.specs.links.Loses.{GoesWithIt, LosesEnded, LosesSo}
-use Rattle.router_laws.specs.reading.Hearing.{AreAloneOf}
+use Rattle.query_rules.specs.Passing.{rules_of}
+use Rattle.router_laws.specs.decisions.Rulings.{IsRuledOn}
+use Rattle.router_laws.specs.decisions.Speaks.{AreGivenOurs, AreGoingOurs}
 use Rattle.shared_core.specs.Follows.{MayBeGivenWith}
 
 -- this client's statement is given up
@@ -50,8 +52,10 @@ pub record MayLose (link : LinkId) (name : Option SessionName) (given : Option G
 pub record HasLost (service : Service) (link : LinkId) (old new : Tabled) : Type 0 where
   pub given : Option GivenUp
   pub going : Option Going
-  pub alone : AreAloneOf going
+  pub given_ours : AreGivenOurs given
+  pub ours : AreGoingOurs (rules_of service.rules) going
   pub so : LosesSo service.setup service.default_schema link given going old new
+  pub ruled : IsRuledOn (rules_of service.rules) going service.setup service.default_schema so.lost new so.goes
 
 -- Or a client was ended with it.
 pub record HasLostEnded (link : LinkId) (c : ClientNo) (old new : Tabled) : Type 0 where

@@ -8,9 +8,10 @@ use Rattle.ready_loop.specs.declared.machines.Event.{Event}
 use Rattle.ready_loop.specs.declared.machines.Event.TheVariants as event
 use Rattle.core_policy.specs.declared.asks.Asked.{Asked}
 use Rattle.core_service.specs.declared.service.Service.{Service}
-use Rattle.marked_tables.specs.Goes.{reads_on}
+use Rattle.marked_tables.specs.Goes.{AreKnown, reads_on}
+use Rattle.router_laws.specs.waits.Drained.{IsDrainedFor}
 use Rattle.shared_core.specs.Says.{target_of}
-use Rattle.shared_core.specs.Stands.{Carries, IsClosed, PartsFor, shown}
+use Rattle.shared_core.specs.Stands.{CarriesWhere, IsClosed, PartsFor, shown, tables}
 use Rattle.shared_core.specs.declared.whole.Core.{Core}
 use Rattle.shared_core.specs.declared.router.Router.{Router}
 
@@ -19,13 +20,15 @@ pub record IsStanding (core : Core) (log : Log) : Type 0 where
   pub stands : PartsFor core.service log (shown core.router)
   pub acted : core.router.acting ≡ false → IsClosed (shown core.router)
   pub opening : IsSome core.router.asked → IsClosed (shown core.router)
+  pub known : AreKnown core.router.marked
 
--- bytes come of a link that is to be read
-abbrev pub IsDueIn : Router → Event → Type 0
-IsDueIn r (event.Got link) = reads_on r.marked link ≡ true
-IsDueIn r _ = Unit {0}
+-- bytes come of a link that is to be read, and the loop wakes where nothing was left to read or to write
+abbrev pub IsDueIn : Router → Event → Log → Type 0
+IsDueIn r (event.Got link) log = reads_on r.marked link ≡ true
+IsDueIn r (event.Woke now_ms) log = IsDrainedFor (tables r) log
+IsDueIn r _ log = Unit {0}
 
 -- The router carries over whatever entry it is told of by an event.
 abbrev pub Tells : Service → Event → (bytes : List ℕ) → (old new : Router) → Type 0
 Tells service event bytes old new =
-    (until_ms : ℕ) (e : Entry) → IsToldOf until_ms (option_map target_of old.asked) event bytes e → IsDueIn old event → Carries service e old new
+    (until_ms : ℕ) (e : Entry) → IsToldOf until_ms (option_map target_of old.asked) event bytes e → CarriesWhere (IsDueIn old event) service e old new

@@ -43,7 +43,7 @@ abbrev pub is_roomy : Roomy → ClientNo → Bool
 is_roomy roomy c = roomy.all || list_any (nat_eq c.0) (keys roomy.some)
 
 pub record StandsBy (service : Service) (log : Log) (t : Tabled) (s : Shown) : Type 0 where
-  pub router : IsRouter service.setup service.default_schema log t (is_roomy s.roomy)
+  pub router : IsRouter service log t (is_roomy s.roomy)
   pub counted : s.came ≡ length (accepted_links log)
 
 abbrev pub StandsFor : Service → Log → Router → Type 0
@@ -52,6 +52,11 @@ StandsFor service log r = StandsBy service log (tables r) (shown r)
 -- Whatever log the router stood for, it stands for that log with this entry, where the entry may follow.
 abbrev pub Carries : Service → Entry → (old new : Router) → Type 0
 Carries service e old new = (log : Log) → MayFollow log e → StandsFor service log old → StandsFor service (with_entry log e) new
+
+-- So it does with each log of which this is so.
+abbrev pub CarriesWhere : (Log → Type 0) → Service → Entry → (old new : Router) → Type 0
+CarriesWhere Is service e old new =
+    (log : Log) → Is log → MayFollow log e → StandsFor service log old → StandsFor service (with_entry log e) new
 
 -- so it does with each entry by which a link is lost
 pub record Loses (service : Service) (link : LinkId) (old new : Router) : Type 0 where

@@ -8,6 +8,7 @@ use Rattle.core_tables.specs.Tables.{Tabled}
 use Rattle.core_tables.specs.Wording.{IsTold}
 use Rattle.core_tables.specs.declared.client.Client.{Client}
 use Rattle.core_laws.specs.clients.Follows.{LeavesTold}
+use Rattle.own_words.specs.Own.{IsFailure}
 use Rattle.shared_core.specs.declared.telling.Who.{Who}
 
 -- it is this one, with no more to say of its login
@@ -34,8 +35,10 @@ pub record IsItStill (who : Who) (c : ClientNo) (t : Tabled) : Type 0 where
 
 pub record HasTold (c : ClientNo) (old new : Tabled) : Type 0 where
   pub payload : List ℕ
+  pub own : IsFailure payload
   pub told : IsTold c payload old new
 
 pub record HasLeftTold (c : ClientNo) (old new : Tabled) : Type 0 where
   pub payload : List ℕ
+  pub own : IsFailure payload
   pub leaves : LeavesTold payload c old new

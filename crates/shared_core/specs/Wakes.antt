@@ -6,7 +6,10 @@ use Rattle.core_service.specs.declared.service.Service.{Service}
 use Rattle.core_tables.specs.Tables.{Tabled}
 use Rattle.core_laws.specs.clients.Going.{GivenUp, is_going}
 use Rattle.router_laws.specs.wakes.Calling.{Caller, GivesUpAll, IsThere, IsUnsent, is_given}
-use Rattle.router_laws.specs.wakes.Deciding.{AreAloneAll}
+use Rattle.query_rules.specs.Passing.{rules_of}
+use Rattle.router_laws.specs.decisions.Rulings.{AreRuledAll}
+use Rattle.router_laws.specs.decisions.Speaks.{IsGivenOurs}
+use Rattle.router_laws.specs.wakes.Deciding.{IsCallerOurs}
 use Rattle.router_laws.specs.wakes.Waking.{FailsSo, WakesSo}
 use Rattle.shared_core.specs.Follows.{AreRising, is_of}
 use Rattle.shared_core.specs.Stands.{is_roomy}
@@ -20,6 +23,7 @@ pub record IsWaiting (c : ClientNo) (t : Tabled) : Type 0 where
 -- Statements were given up, and their clients called, which go on; and whoever was called before still is.
 pub record HaveGivenUp (before called : Roomy) (old new : Tabled) : Type 0 where
   pub given : List GivenUp
+  pub ours : All IsGivenOurs given
   pub gives : GivesUpAll given old new
   pub calls : (c : ClientNo) → is_given given c ≡ true → is_roomy called c ≡ true
   pub going : (c : ClientNo) → is_given given c ≡ true → is_going (new.clients c) ≡ true
@@ -45,13 +49,17 @@ pub record HasWoken (service : Service) (roomy : Roomy) (old new : Tabled) : Typ
   pub given : List GivenUp
   pub callers : List Caller
   pub links : List LinkId
-  pub alone : AreAloneAll callers
+  pub given_ours : All IsGivenOurs given
+  pub ours : All (IsCallerOurs (rules_of service.rules)) callers
   pub so : WakesSo service.setup service.default_schema given callers links (is_roomy roomy) old new
+  pub ruled : AreRuledAll (rules_of service.rules) callers service.setup service.default_schema so.late so.calls.turned so.calls.going
 
 -- One was given up, if one was, and its client went on.
 pub record HasFailed (service : Service) (old new : Tabled) : Type 0 where
   pub given : List GivenUp
   pub callers : List Caller
   pub links : List LinkId
-  pub alone : AreAloneAll callers
+  pub given_ours : All IsGivenOurs given
+  pub ours : All (IsCallerOurs (rules_of service.rules)) callers
   pub so : FailsSo service.setup service.default_schema given callers links old new
+  pub ruled : AreRuledAll (rules_of service.rules) callers service.setup service.default_schema so.late so.calls.turned so.calls.going

@@ -1,6 +1,7 @@
 // The router.
 ghost use Rattle.std.specs.Prelude.{◌≡◌, [], IfOk, None};
 ghost use Rattle.core_service.specs.declared.service.Service.{Service};
+ghost use Rattle.marked_tables.specs.Goes.{AreKnown};
 ghost use Rattle.mx_config.specs.Lawful.{IsLawful};
 ghost use Rattle.shared_core.specs.Stands.{Chooses, IsClosed, StandsFor, shown};
 
@@ -40,6 +41,7 @@ impl Router {
         ensures stands { IfOk result (λ router. (service : Service) → StandsFor service [] router) }
         ensures closed { IfOk result (λ router. IsClosed (shown router)) }
         ensures unasked { IfOk result (λ router. router.asked ≡ None) }
+        ensures known { IfOk result (λ router. AreKnown router.marked) }
     {
         router_laws::decisions::first_router();
         Ok(Router {

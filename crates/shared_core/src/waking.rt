@@ -5,8 +5,9 @@ ghost use Rattle.std.specs.List.{list_any};
 ghost use Rattle.mx_base.specs.declared.names.ClientNo.{ClientNo};
 ghost use Rattle.mx_wire.specs.declared.entry.Entry.TheVariants as entry;
 ghost use Rattle.core_laws.specs.clients.Going.{is_going};
+ghost use Rattle.router_laws.specs.waits.Drained.{IsDrainedFor};
 ghost use Rattle.shared_core.specs.Follows.{AreRising, Keeps};
-ghost use Rattle.shared_core.specs.Stands.{Carries, Moves, is_roomy, tables};
+ghost use Rattle.shared_core.specs.Stands.{CarriesWhere, Moves, is_roomy, tables};
 ghost use Rattle.shared_core.specs.Wakes.{AreCalled, HasWoken, HaveGivenUp, IsWaiting, going_in, going_more};
 
 use crate::roomy::Roomy;
@@ -30,7 +31,8 @@ impl Router {
     /// The loop woke at this moment. Statements that waited too long are given up; then their clients go on, and those that have room again, one
     /// after the other as they came. Those end that had their time to log in.
     pub(crate) fn woke(&mut self, service: &Service, now_ms: u64) -> Result<(), OutOfMemory>
-        ensures carries { OnOk result ((until_ms : ℕ) → Carries service.now (entry.Woke until_ms now_ms) self.old self.new) }
+        ensures carries { OnOk result ((until_ms : ℕ)
+            → CarriesWhere (IsDrainedFor (tables self.old)) service.now (entry.Woke until_ms now_ms) self.old self.new) }
         ensures moves { OnOk result (Moves self.old self.new) }
     {
         router_laws::wakes::wakes_router();

@@ -8,7 +8,8 @@ returns-clause-awaits c = acts_awaited (record c.args.self.now { router = c.next
 
 pub returns-clause-act : goal.returns-clause-act
 returns-clause-act c =
-    acts_stand c.args.self.now c.next_act.new.self c.next_act.result c.next_act.ensures.acts c.next_act.ensures.asked c.next_act.ensures.acting
+    acts_stand c.args.self.now c.next_act.new.self c.next_act.result c.next_act.ensures.acts c.next_act.ensures.goes c.next_act.ensures.asked
+    c.next_act.ensures.acting
 
 pub returns-clause-owed : goal.returns-clause-owed
 returns-clause-owed c = owes_none c.args.self.now (record c.args.self.now { router = c.next_act.new.self }) c.next_act.result

@@ -1,5 +1,6 @@
 use Rattle.std.specs.Prelude.{None, false}
 use Rattle.std.proofs.Common.{refl}
+use Rattle.marked_tables.proofs.Going.{first_known}
 use Rattle.shared_core.proofs.Standing.{first_stands}
 use Rattle.shared_core.proofs.router.Router.new.Goals as goal
 
@@ -18,3 +19,6 @@ returns-clause-stands c = λ service.
       until = 0;
       clock = 0;
     }) c.in_ok-new.ensures.tables refl
+
+pub returns-clause-known : goal.returns-clause-known
+returns-clause-known c = first_known c.in_ok-new.field-0 c.in_ok-new.ensures.tables

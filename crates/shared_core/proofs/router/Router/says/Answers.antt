@@ -1,4 +1,5 @@
 use Rattle.std.proofs.Common.{refl}
+use Rattle.shared_core.proofs.Givings.{own-as}
 use Rattle.shared_core.proofs.Keeping.{keeps_still}
 use Rattle.shared_core.proofs.Last.{nobody-there}
 use Rattle.shared_core.proofs.router.Router.says.Goals as goal
@@ -10,7 +11,11 @@ pub returns-in-None-clause-keeps : goal.returns-in-None-clause-keeps
 returns-in-None-clause-keeps c = keeps_still _
 
 pub returns-clause-told : goal.returns-clause-told
-returns-clause-told c = λ there. record { payload = c.as_slice.result.now; told = c.in_ok-last_word.ensures.is }
+returns-clause-told c = λ there. record {
+  payload = c.as_slice.result.now;
+  own = own-as _ _ _ c.as_slice.ensures.value c.in_ok-payload.ensures.is c.in_ok-payload.ensures.own;
+  told = c.in_ok-last_word.ensures.is;
+}
 
 pub returns-clause-keeps : goal.returns-clause-keeps
 returns-clause-keeps c =
