@@ -21,6 +21,20 @@ host = \"127.0.0.1\"
 port = 3306
 ";
 
+/// The user u without a password, one server, and a rule that keeps each session whose client said DO.
+pub const ONE_RULE: &str = "[[users]]
+name = \"u\"
+password = \"\"
+[[servers]]
+hostgroup = 0
+host = \"127.0.0.1\"
+port = 3306
+[[rules]]
+rule_id = 1
+match_pattern = \"^DO\"
+multiplex = 0
+";
+
 /// The user u without a password, and no server. One client may be connected, and its messages are short.
 pub const NO_SERVER: &str = "max_clients = 1
 max_packet = 1024

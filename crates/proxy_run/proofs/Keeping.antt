@@ -1,8 +1,17 @@
 -- A core that stands for a log keeps clients apart in it, and so it did where memory was refused.
-use Rattle.std.specs.Prelude.{◌≡◌, ◌⊎◌, ℕ, Bool, List, [], ◌∷◌, ◌++◌, Option, Some}
+use Rattle.std.specs.Prelude.{◌≡◌, ◌⊎◌, ℕ, Bool, List, [], ◌∷◌, ◌++◌, None, Option, Some, unwrap_or}
 use Rattle.std.proofs.Common.{refl, sym, ap, ◌∙◌, subst, inl, inr, append_assoc, append-nil}
+use Rattle.std.proofs.lemmas.Option.{none-some}
+use Rattle.client_session.specs.Setups.{Setup}
+use Rattle.core_laws.specs.entry.Tells.{IsCore}
+use Rattle.log_story.specs.Plan.{OwnAnswer, Route}
+use Rattle.own_words.specs.Own.{IsOwn, SpeaksOwn}
+use Rattle.query_rules.specs.declared.rule.Rule.{Rule}
+use Rattle.tale_world.specs.Decided.{Decided, plan_of}
 use Rattle.core_promises.proofs.Apart.{apart}
 use Rattle.core_promises.specs.Sessions.{ServesApart}
+use Rattle.core_promises.specs.Asks.{AsksBy}
+use Rattle.core_promises.specs.Waits.{AreDoneBy}
 use Rattle.core_service.specs.Serves.{ServesBy}
 use Rattle.core_service.specs.declared.service.Service.{Service}
 use Rattle.core_tables.specs.Tables.{Tabled}
@@ -15,10 +24,11 @@ use Rattle.mx_wire.specs.Moments.{AllLawful, lawful-each, lawful-more}
 use Rattle.mx_wire.specs.Tells.{Fits, MayFollow}
 use Rattle.mx_wire.specs.declared.entry.Entry.{Entry}
 use Rattle.mx_wire.specs.declared.entry.Entry.TheVariants as entry
-use Rattle.private_model.specs.Names.{ClientNo}
+use Rattle.private_model.specs.Names.{ClientNo, MessageName}
 use Rattle.query_rules.specs.Passing.{rules_of}
 use Rattle.ready_loop.specs.Serving.{IsWanted, ListensFirst, Stood}
 use Rattle.router_laws.specs.decisions.Routers.{IsRouter}
+use Rattle.router_laws.specs.decisions.Speaks.{DecidesOwn}
 use Rattle.router_promises.specs.Router.{IsConfiguredBy, Router, service_of}
 use Rattle.row_laws.specs.Readied.{AreClasses}
 use Rattle.server_rule.specs.Classes.{router_reads}
@@ -53,15 +63,43 @@ classes = record { class = λ text. refl; hides = λ text. refl }
 fits-of : (log : Log) → AllLawful MayFollow log → AllLawful Fits log
 fits-of log follows = lawful-each MayFollow (AllLawful Fits) log (λ l e may fit. lawful-more Fits l e fit may.fits) tt follows
 
+-- what a router of a log has, by how clients log in, the default schema and the rules
+record Served (setup : Setup) (default : List ℕ) (rules : List Rule) (log : Log) (t : Tabled) (roomy : ClientNo → Bool) : Type 0 where
+  core : IsCore setup default log t roomy
+  single : (m : MessageName) (route : Route) → core.decided.routes m ≡ Some (Some route) → route.mirror ≡ None
+  asks : AsksBy rules default core.decided log
+  speaks : SpeaksOwn rules (plan_of core.decided)
+  waited : AreDoneBy default core.decided log
+
+-- what was decided to be said are the router's own words
+speaks_so : (rules : List Rule) (d : Decided) → DecidesOwn rules d → SpeaksOwn rules (plan_of d)
+speaks_so rules d spoken = record { own = λ m answer is. own m answer (d.own m) refl is; words = spoken.words } where
+  own : (m : MessageName) (answer : OwnAnswer) (found : Option (Option OwnAnswer)) → d.own m ≡ found → unwrap_or found None ≡ Some answer
+      → IsOwn rules m.client answer.payloads
+  own m answer None there is = absurd (none-some answer is)
+  own m answer (Some None) there is = absurd (none-some answer is)
+  own m answer (Some (Some other)) there is = spoken.own m answer (there ∙ ap Some is)
+
+served_by : (service : Service) (log : Log) (t : Tabled) (roomy : ClientNo → Bool) → IsRouter service log t roomy
+    → Served service.setup service.default_schema (rules_of service.rules) log t roomy
+served_by service log t roomy is = record {
+  core = is.core;
+  single = is.recorded.alone;
+  asks = is.asked;
+  speaks = speaks_so (rules_of service.rules) is.core.decided is.spoken;
+  waited = is.waited;
+}
+
 apart_of : (config : Config) (service : Service) (log : Log) (t : Tabled) (roomy : ClientNo → Bool) → ServesBy config service
-    → IsRouter service.setup service.default_schema log t roomy → ServesApart config log
+    → IsRouter service log t roomy → ServesApart config log
 apart_of config service log t roomy by stands =
     let router : Router = router_by config service in
-    let is : IsRouter (service_of router) config.proxy.default_schema log t roomy = rw (by.setup, by.default_schema) at stands in
+    let kept : Served service.setup service.default_schema (rules_of service.rules) log t roomy = served_by service log t roomy stands in
+    let is : Served (service_of router) config.proxy.default_schema router.rules log t roomy = rw (by.setup, by.default_schema) at kept in
     record {
       router = router;
       configured = configured_by config service by;
-      separates = apart router log t roomy is.core classes is.recorded.alone (fits-of log is.lawful);
+      separates = apart router log t roomy is.core classes is.single is.asks is.speaks is.waited (fits-of log stands.lawful);
     }
 
 -- its log is one that the wire may tell

@@ -1,3 +1,4 @@
+mod Ending
 mod Turns
 pub mod Keeping
 mod Learning

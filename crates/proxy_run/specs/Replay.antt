@@ -1,6 +1,12 @@
 -- What a replay puts, and why it stops short.
 use Rattle.mx_wire.specs.Outside.{HasUnder, Takes, TakesFront}
-use Rattle.std.specs.Prelude.{Bool, Err, List, None, Ok, Option, Some, [], ℕ, ◌++◌, ◌<◌, ◌∷◌, ◌≡◌, ◌≤◌}
+use Rattle.std.specs.Prelude.{Bool, Err, List, None, Ok, Option, Some, [], length, true, ℕ, ◌++◌, ◌<◌, ◌∷◌, ◌≡◌, ◌≤◌}
+use Rattle.mx_base.{specs.declared.names.LinkId.LinkId, specs.declared.names.Port.Port}
+use Rattle.mx_wire.specs.Log.{read_of}
+use Rattle.mx_wire.specs.Tells.{IsOpen}
+use Rattle.mem_wire.specs.Came.{Known, accepted_at, known, wakes, with_link}
+use Rattle.mem_wire.specs.Lines.{bytes_for, clients_at, moments}
+use Rattle.ready_loop.specs.Drained.{read_dry}
 use Rattle.mem_wire.{specs.Play.IsPlay, specs.Told.Played}
 use Rattle.mx_config.{specs.Reading.reading_of, specs.Values.Agrees, specs.declared.config.Config.Config, specs.declared.fault.ConfigFault.ConfigFault}
 use Rattle.mx_wire.{specs.Log.Log, specs.Moments.AllLawful, specs.Tells.Fits, specs.declared.entry.Entry.TheVariants.Over}
@@ -56,6 +62,14 @@ pub record ServesToEnd (config : Config) (log : Log) : Type 0 where
   pub serves : ServesApart config log
   pub before : Log
   pub over : log ≡ before ++ Over ∷ []
+
+-- The recording was played to its end: each of its moments came, each of its clients was accepted, and of each open link that was read dry all
+-- was read that the recording has for it.
+pub record IsPlayedOut (entries : List RecordEntry) (log : Log) : Type 0 where
+  pub woke : wakes log ≡ length (moments entries)
+  pub accepted : (port : Port) → accepted_at port log ≡ length (clients_at port entries)
+  pub read : (link : LinkId) (k : Known) → with_link link (known entries log) ≡ Some k → IsOpen link log → read_dry link log ≡ true
+      → read_of link log ≡ bytes_for k.name entries
 
 -- what a tape tells that has played these entries
 pub record HasPlayed (config : Config) (entries : List RecordEntry) (tape : Played) : Type 0 where
@@ -120,6 +134,7 @@ pub record IsReplay (words : List (List ℕ)) (held : Held) (log : Log) : Type 0
   pub under : IsUnder names.recording held entries
   pub play : IsPlay entries log
   pub serves : ServesToEnd configured.config log
+  pub played : IsPlayedOut entries serves.before
 
 -- and the transcript of that log is put
 pub record Replayed (words : List (List ℕ)) (held : Held) (old new : Option (List ℕ)) : Type 0 where
