@@ -1,6 +1,6 @@
 // The ports, and the links with those that the last wake named.
 use crate::door::{Came, Door};
-use crate::keepalive::keep_alive;
+use crate::keepalive::{keep_alive, limit_unheard};
 use crate::room::{has_room, most_links};
 use crate::socket::Socket;
 use mio::event::Event;
@@ -169,6 +169,7 @@ impl Sockets {
     pub fn open<R: Net>(&mut self, rt: &R, address: Address, now_ms: u64) -> io::Result<LinkId> {
         self.awaited.reserve(1)?;
         let stream = TcpStream::connect(rt, socket_addr(address))?;
+        limit_unheard(&stream)?;
         let link = self.keep(stream, false)?;
         let until_ms = now_ms.saturating_add(MOST_SILENT_MS);
         self.awaited.push_back(Awaited { link, until_ms })?;
