@@ -1,14 +1,13 @@
 -- Modes to which lists are added stay tracked.
-use Rattle.std.proofs.Common.{◌≡◌, ◌⊎◌, ℕ, ◌+◌, ◌-◌, Bool, true, false, not, ◌&&◌, ◌||◌, cond, nat_eq, nat_le, bytes_eq, List, [], ◌∷◌, ◌++◌, Option, Some, None, length, take, drop, codes, option_map, refl, sym, subst, ◌∙◌, ap, inl, inr, arith, append_assoc, length-append}
+use Rattle.std.proofs.Common.{◌≡◌, ◌⊎◌, ℕ, ◌+◌, ◌-◌, true, false, not, ◌&&◌, ◌||◌, cond, nat_eq, nat_le, bytes_eq, List, [], ◌∷◌, ◌++◌, Option, Some, None, length, take, drop, codes, option_map, refl, sym, subst, ◌∙◌, ap, inl, inr, arith, append_assoc, length-append}
 use Rattle.std.specs.List.{list_all}
 use Rattle.std.proofs.lemmas.Bool.{cond-true, cond-false, cond_both, cases_Bool, and_parts, and_from, le-leb, leb-true}
-use Rattle.std.proofs.lemmas.List.{append-nil}
 use Rattle.std.proofs.Math.Seq.{take-append_seam}
-use Rattle.sql_tokens.specs.Words.{bytes_of, inside, is_symbol, same_text}
+use Rattle.sql_tokens.specs.Words.{bytes_of, inside, same_text}
 use Rattle.sql_tokens.specs.declared.token.Token.{Token}
 use Rattle.sql_tokens.specs.declared.token.TokenKind.{TokenKind}
 use Rattle.sql_tokens.specs.declared.token.TokenKind.TheVariants.{Word, Quoted, SysVar}
-use Rattle.session_vars.specs.Modes.{added_to, as_value, base_of, ends_with_comma, grown, is_added_list, is_base_list, is_front, is_front_list, is_mode_list, is_opening, is_quoted, joined, joined_at, joined_change, joined_text, joined_with, list_of, lists_behind, lists_joined, may_join, moved_behind, named_by, new_modes, own_mode, server_mode, takes_modes, with_modes, with_more, without_last}
+use Rattle.session_vars.specs.Modes.{added_to, as_value, base_of, grown, is_added_list, is_base_list, is_front, is_mode_list, is_opening, joined, joined_at, joined_change, joined_text, joined_with, lists_behind, may_join, moved_behind, named_by, new_modes, own_mode, server_mode, takes_modes, with_modes, with_more, without_last}
 use Rattle.session_vars.specs.Tracked.{IsBase, IsAssignable}
 use Rattle.session_vars.specs.Values.{has_reading_mode, is_plain_byte, kept, plain_value, value_of, negative_value, is_default}
 use Rattle.session_vars.specs.declared.change.Change.{Change}
@@ -65,7 +64,7 @@ quoted_mode value Quoted bytes gives =
     inr (list, (quoted.0, and_from (list_all is_plain_byte list) _ quoted.1 harmless))
 quoted_mode value _ bytes gives = absurd (cc)
 
--- the lists of an expression that is read, and those that are new, where there are some
+-- the lists that are new, where there are some
 abbrev AreLists : List ℕ → Type 0
 AreLists lists = (lists ≡ []) ⊎ (is_added_list lists ≡ true)
 
@@ -116,42 +115,6 @@ added_mode old lists tracked are = subst (λ (l : List ℕ). IsNew (grown old (n
 pub added_tracked : (old : SlotValue) (change : Change) → IsAssignable SqlMode old → AddsModes change → IsAssignable SqlMode (added_to old change.value)
 added_tracked old change tracked adds = subst (λ (v : SlotValue). IsNew (added_to old v)) (sym adds.is) (added_mode old adds.lists tracked adds.are_lists)
 
-more_lists : (list lists : List ℕ) → is_added_list list ≡ true → AreLists lists → AreLists (list ++ lists)
-more_lists list lists is (inl none) = inr (ap (λ (rest : List ℕ). is_added_list (list ++ rest)) none ∙ ap is_added_list (append-nil list) ∙ is)
-more_lists list lists is (inr are) = inr (lists_append list lists is are)
-
-list_is : (kind : TokenKind) (bytes list : List ℕ) → list_of kind bytes ≡ Some list → is_added_list list ≡ true
-unfolding list_of
-list_is Quoted bytes list is = let both = some_if (is_added_list (inside bytes)) _ list is in let same : inside bytes ≡ list = cc in ap is_added_list (sym same) ∙ both.0
-list_is _ bytes list is = absurd (cc)
-
-joined_lists : (first rest : Option (List ℕ)) (lists : List ℕ) → ((list : List ℕ) → first ≡ Some list → is_added_list list ≡ true) → ((more : List ℕ) → rest ≡ Some more → AreLists more) → lists_joined first rest ≡ Some lists → AreLists lists
-joined_lists None rest lists one others is = absurd (cc)
-joined_lists (Some list) None lists one others is = absurd (cc)
-joined_lists (Some list) (Some more) lists one others is = let same : list ++ more ≡ lists = cc in subst AreLists same (more_lists list more (one list refl) (others more refl))
-
-none_first : {A : Type 0} (b : Bool) (found : Option A) (value : A) → cond b None found ≡ Some value → found ≡ Some value
-none_first true found value is = absurd (cc)
-none_first false found value is = is
-
-no_lists : (b : Bool) (lists : List ℕ) → cond b (Some []) None ≡ Some lists → AreLists lists
-no_lists b lists is = let same : Some [] ≡ Some lists = (some_if b (Some []) lists is).1 in inl (cc)
-
-behind_lists : (text : List ℕ) (depth : ℕ) (tokens : List Token) (lists : List ℕ) → lists_behind text depth tokens ≡ Some lists → AreLists lists
-unfolding lists_behind
-behind_lists text depth [] lists is = no_lists (nat_eq depth 0) lists is
-behind_lists text depth (token ∷ []) lists is =
-    let inner = (some_if (is_symbol text token 41) (lists_behind text (depth - 1) []) lists (none_first (nat_eq depth 0) _ lists is)).1 in
-    no_lists (nat_eq (depth - 1) 0) lists inner
-behind_lists text depth (token ∷ next ∷ tokens) lists is =
-    let inner = none_first (nat_eq depth 0) _ lists is in
-    elim (cases_Bool (is_symbol text token 41)) [
-      | inl e ↦ behind_lists text (depth - 1) (next ∷ tokens) lists (sym (cond-true (is_symbol text token 41) _ _ e) ∙ inner)
-      | inr e ↦
-          let joined = (some_if (is_symbol text token 44) _ lists (sym (cond-false (is_symbol text token 41) _ _ e) ∙ inner)).1 in
-          joined_lists (list_of next.kind (bytes_of text next)) (lists_behind text depth tokens) lists (list_is next.kind (bytes_of text next)) (behind_lists text depth tokens) joined
-    ]
-
 base_is : (kind : TokenKind) (bytes base : List ℕ) → base_of kind bytes ≡ Some base → (base ≡ own_mode) ⊎ IsBase base
 unfolding base_of
 base_is SysVar bytes base is =
@@ -179,51 +142,30 @@ read_change base lists (inl own) are =
     inr (record { adds = ap (λ b. bytes_eq b own_mode) own; takes = refl; lists = lists; is = ap (λ b. Text (joined_text b lists)) own; are_lists = are })
 read_change base lists (inr of_base) are = inl (base_adds base of_base, (refl, joined_is base lists of_base are))
 
-with_read : (base lists : Option (List ℕ)) (change : Change) → ((b : List ℕ) → base ≡ Some b → (b ≡ own_mode) ⊎ IsBase b) → ((l : List ℕ) → lists ≡ Some l → AreLists l) → joined_with base lists ≡ Some change → IsReadChange change
-with_read None lists change of_base are is = absurd (cc)
-with_read (Some base) None change of_base are is = absurd (cc)
-with_read (Some base) (Some lists) change of_base are is =
+with_read : (base lists : Option (List ℕ)) (change : Change) → ((b : List ℕ) → base ≡ Some b → (b ≡ own_mode) ⊎ IsBase b) → joined_with base lists ≡ Some change → IsReadChange change
+with_read None lists change of_base is = absurd (cc)
+with_read (Some base) None change of_base is = absurd (cc)
+with_read (Some base) (Some lists) change of_base is =
     let both = some_if (may_join base lists) (Some (joined_change base lists)) change is in
     let same : joined_change base lists ≡ change = cc in
-    let some = (and_parts (nat_le 1 (length lists)) _ both.0).0 in
-    elim (are lists refl) [
-      | inl none ↦ let apart : false ≡ true = sym (ap (λ (l : List ℕ). nat_le 1 (length l)) none) ∙ some in absurd (cc)
-      | inr some ↦ subst IsReadChange same (read_change base lists (of_base base refl) some)
-    ]
+    subst IsReadChange same (read_change base lists (of_base base refl) (and_parts (is_added_list lists) _ both.0).0)
 
--- lists in front of the mode, and then those behind it
-both_lists : (front lists : List ℕ) → AreLists front → AreLists lists → AreLists (front ++ lists)
-both_lists front lists (inl none) are = subst AreLists (sym (ap (λ (l : List ℕ). l ++ lists) none)) are
-both_lists front lists (inr is) are = more_lists front lists is are
-
-found_lists : (front lists : List ℕ) (found : Option (List ℕ)) → AreLists front → ((more : List ℕ) → found ≡ Some more → AreLists more) → option_map (λ more. front ++ more) found ≡ Some lists → AreLists lists
-found_lists front lists None first others is = absurd (cc)
-found_lists front lists (Some more) first others is = let same : front ++ more ≡ lists = cc in subst AreLists same (both_lists front more first (others more refl))
-
-front_is : (text : List ℕ) (depth : ℕ) (token next : Token) → is_front text depth token next ≡ true → is_added_list (moved_behind (inside (bytes_of text token))) ≡ true
-front_is text depth token next is =
-    let list = inside (bytes_of text token) in
-    let front = (and_parts (nat_le 1 depth && is_symbol text next 44 && is_quoted token.kind) (is_front_list list) is).1 in
-    behind_comma_list (without_last 1 list) (and_parts (ends_with_comma list) (is_mode_list (without_last 1 list)) front).1
-
-at_read : (text : List ℕ) (depth : ℕ) (front : List ℕ) (tokens : List Token) (change : Change) → AreLists front → joined_at text depth front tokens ≡ Some change → IsReadChange change
+at_read : (text : List ℕ) (depth : ℕ) (front : List ℕ) (tokens : List Token) (change : Change) → joined_at text depth front tokens ≡ Some change → IsReadChange change
 unfolding joined_at
-at_read text depth front [] change are is = absurd (cc)
-at_read text depth front (token ∷ []) change are is = absurd (cc)
-at_read text depth front (token ∷ next ∷ tokens) change are is =
+at_read text depth front [] change is = absurd (cc)
+at_read text depth front (token ∷ []) change is = absurd (cc)
+at_read text depth front (token ∷ next ∷ tokens) change is =
     elim (cases_Bool (is_opening text token next)) [
-      | inl e ↦ at_read text (depth + 1) front tokens change are (sym (cond-true (is_opening text token next) _ _ e) ∙ is)
+      | inl e ↦ at_read text (depth + 1) front tokens change (sym (cond-true (is_opening text token next) _ _ e) ∙ is)
       | inr e ↦
           let inner = sym (cond-false (is_opening text token next) _ _ e) ∙ is in
-          let moved = moved_behind (inside (bytes_of text token)) in
-          elim (cases_Bool (is_front text depth token next)) [
-            | inl f ↦ at_read text depth (front ++ moved) tokens change (both_lists front moved are (inr (front_is text depth token next f))) (sym (cond-true (is_front text depth token next) _ _ f) ∙ inner)
+          elim (cases_Bool (is_front text depth token next tokens)) [
+            | inl f ↦ at_read text depth (front ++ inside (bytes_of text token)) tokens change (sym (cond-true (is_front text depth token next tokens) _ _ f) ∙ inner)
             | inr f ↦
-                let found = lists_behind text depth (next ∷ tokens) in
-                with_read (base_of token.kind (bytes_of text token)) (option_map (λ lists. front ++ lists) found) change (base_is token.kind (bytes_of text token)) (λ lists. found_lists front lists found are (behind_lists text depth (next ∷ tokens))) (sym (cond-false (is_front text depth token next) _ _ f) ∙ inner)
+                with_read (base_of token.kind (bytes_of text token)) (option_map (λ lists. lists ++ moved_behind front) (lists_behind text depth (next ∷ tokens))) change (base_is token.kind (bytes_of text token)) (sym (cond-false (is_front text depth token next tokens) _ _ f) ∙ inner)
           ]
     ]
 
 pub joined_tracked : (text : List ℕ) (slot : Slot) (tokens : List Token) (change : Change) → joined text slot tokens ≡ Some change → IsReadChange change
 unfolding joined
-joined_tracked text slot tokens change is = at_read text 0 [] tokens change (inl refl) (some_if (takes_modes slot && nat_le (length tokens) 60) (joined_at text 0 [] tokens) change is).1
+joined_tracked text slot tokens change is = at_read text 0 [] tokens change (some_if (takes_modes slot && nat_le (length tokens) 60) (joined_at text 0 [] tokens) change is).1

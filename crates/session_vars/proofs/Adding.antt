@@ -35,29 +35,34 @@ opening_step none text depth front (a ∷ b ∷ tokens) long longer is =
     ∙ ap (joined_at text (depth + 1) front) (left_is 1 (b ∷ tokens))
     ∙ sym (cond-true (is_opening text a b) _ _ (sym (ap (λ (ts : List Token). is_opening text a (get_or ts 0 none)) after) ∙ is))
 
--- behind a list in front of the mode
-pub front_step : (none : Token) (text : List ℕ) (depth : ℕ) (front : List ℕ) (tokens : List Token) → 1 ≤ length tokens → 1 ≤ length (after_of tokens) → is_opening text (get_or tokens 0 none) (get_or (after_of tokens) 0 none) ≡ false → is_front text depth (get_or tokens 0 none) (get_or (after_of tokens) 0 none) ≡ true → joined_at text depth (front ++ moved_behind (inside (bytes_of text (get_or tokens 0 none)))) (after_of (after_of tokens)) ≡ joined_at text depth front tokens
+-- behind a text in front of the mode
+pub front_step : (none : Token) (text : List ℕ) (depth : ℕ) (front : List ℕ) (tokens : List Token) → 1 ≤ length tokens → 1 ≤ length (after_of tokens) → is_opening text (get_or tokens 0 none) (get_or (after_of tokens) 0 none) ≡ false → is_front text depth (get_or tokens 0 none) (get_or (after_of tokens) 0 none) (after_of (after_of tokens)) ≡ true → joined_at text depth (front ++ inside (bytes_of text (get_or tokens 0 none))) (after_of (after_of tokens)) ≡ joined_at text depth front tokens
 unfolding joined_at
 front_step none text depth front [] long longer other is = absurd (omega arith)
 front_step none text depth front (a ∷ []) long longer other is = absurd (omega arith)
 front_step none text depth front (a ∷ b ∷ tokens) long longer other is =
     let after : after_of (a ∷ b ∷ tokens) ≡ b ∷ tokens = left_is 1 (a ∷ b ∷ tokens) in
-    let grown = front ++ moved_behind (inside (bytes_of text a)) in
-    ap (λ (ts : List Token). joined_at text depth grown (after_of ts)) after
-    ∙ ap (joined_at text depth grown) (left_is 1 (b ∷ tokens))
+    let grown = front ++ inside (bytes_of text a) in
+    let both : after_of (after_of (a ∷ b ∷ tokens)) ≡ tokens = ap after_of after ∙ left_is 1 (b ∷ tokens) in
+    let there : is_front text depth a b tokens ≡ true =
+    sym (ap (λ (ts : List Token). is_front text depth a (get_or ts 0 none) (after_of ts)) after ∙ ap (is_front text depth a b) (left_is 1 (b ∷ tokens))) ∙ is in
+    ap (joined_at text depth grown) both
     ∙ sym (cond-false (is_opening text a b) _ _ (sym (ap (λ (ts : List Token). is_opening text a (get_or ts 0 none)) after) ∙ other)
-    ∙ cond-true (is_front text depth a b) _ _ (sym (ap (λ (ts : List Token). is_front text depth a (get_or ts 0 none)) after) ∙ is))
+    ∙ cond-true (is_front text depth a b tokens) _ _ there)
 
 -- at the mode
-pub base_step : (none : Token) (text : List ℕ) (depth : ℕ) (front : List ℕ) (tokens : List Token) → 1 ≤ length tokens → 1 ≤ length (after_of tokens) → is_opening text (get_or tokens 0 none) (get_or (after_of tokens) 0 none) ≡ false → is_front text depth (get_or tokens 0 none) (get_or (after_of tokens) 0 none) ≡ false → joined_with (base_of (get_or tokens 0 none).kind (bytes_of text (get_or tokens 0 none))) (option_map (λ lists. front ++ lists) (lists_behind text depth (after_of tokens))) ≡ joined_at text depth front tokens
+pub base_step : (none : Token) (text : List ℕ) (depth : ℕ) (front kept : List ℕ) (tokens : List Token) → kept ≡ front → 1 ≤ length tokens → 1 ≤ length (after_of tokens) → is_opening text (get_or tokens 0 none) (get_or (after_of tokens) 0 none) ≡ false → is_front text depth (get_or tokens 0 none) (get_or (after_of tokens) 0 none) (after_of (after_of tokens)) ≡ false → joined_with (base_of (get_or tokens 0 none).kind (bytes_of text (get_or tokens 0 none))) (option_map (λ lists. lists ++ moved_behind kept) (lists_behind text depth (after_of tokens))) ≡ joined_at text depth front tokens
 unfolding joined_at
-base_step none text depth front [] long longer other is = absurd (omega arith)
-base_step none text depth front (a ∷ []) long longer other is = absurd (omega arith)
-base_step none text depth front (a ∷ b ∷ tokens) long longer other is =
+base_step none text depth front kept [] same long longer other is = absurd (omega arith)
+base_step none text depth front kept (a ∷ []) same long longer other is = absurd (omega arith)
+base_step none text depth front kept (a ∷ b ∷ tokens) same long longer other is =
     let after : after_of (a ∷ b ∷ tokens) ≡ b ∷ tokens = left_is 1 (a ∷ b ∷ tokens) in
-    ap (λ (ts : List Token). joined_with (base_of a.kind (bytes_of text a)) (option_map (λ lists. front ++ lists) (lists_behind text depth ts))) after
+    let there : is_front text depth a b tokens ≡ false =
+    sym (ap (λ (ts : List Token). is_front text depth a (get_or ts 0 none) (after_of ts)) after ∙ ap (is_front text depth a b) (left_is 1 (b ∷ tokens))) ∙ is in
+    ap (λ (f : List ℕ). joined_with (base_of a.kind (bytes_of text a)) (option_map (λ lists. lists ++ moved_behind f) (lists_behind text depth (after_of (a ∷ b ∷ tokens))))) same
+    ∙ ap (λ (ts : List Token). joined_with (base_of a.kind (bytes_of text a)) (option_map (λ lists. lists ++ moved_behind front) (lists_behind text depth ts))) after
     ∙ sym (cond-false (is_opening text a b) _ _ (sym (ap (λ (ts : List Token). is_opening text a (get_or ts 0 none)) after) ∙ other)
-    ∙ cond-false (is_front text depth a b) _ _ (sym (ap (λ (ts : List Token). is_front text depth a (get_or ts 0 none)) after) ∙ is))
+    ∙ cond-false (is_front text depth a b tokens) _ _ there)
 
 -- behind a bracket that closes
 pub closed_lists : (none : Token) (text : List ℕ) (depth : ℕ) (tokens : List Token) → 1 ≤ length tokens → nat_eq depth 0 ≡ false → is_symbol text (get_or tokens 0 none) 41 ≡ true → lists_behind text (depth - 1) (slice_range tokens 1 (length tokens)) ≡ lists_behind text depth tokens
@@ -86,3 +91,10 @@ one_more_list none text depth tokens before list long is_open no_close is_comma 
 -- an answer of the call behind
 pub passed_on : {E : Type 0} (read : Result Bool E) (before after : Option (List ℕ)) (all : List ℕ) → before ≡ after → IfOk read (λ is. before ≡ (if is then Some all else None)) → IfOk read (λ is. after ≡ (if is then Some all else None))
 passed_on read before after all same is = IfOk-weaker read (λ is. before ≡ (if is then Some all else None)) (λ is. after ≡ (if is then Some all else None)) (λ value e. sym same ∙ e) is
+
+-- texts in front of the mode, behind those that stand behind it
+pub front_behind : (found : Option (List ℕ)) (lists moved : List ℕ) (all : Bool) → option_map (λ more. [] ++ more) found ≡ (if all then Some lists else None) → option_map (λ more. more ++ moved) found ≡ (if all then Some (lists ++ moved) else None)
+front_behind None lists moved true is = absurd (cc)
+front_behind None lists moved false is = refl
+front_behind (Some more) lists moved true is = let same : more ≡ lists = cc in ap (λ (first : List ℕ). Some (first ++ moved)) same
+front_behind (Some more) lists moved false is = absurd (cc)

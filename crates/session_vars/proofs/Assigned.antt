@@ -1,7 +1,7 @@
 -- Assignments that are written for changes, and read again.
 use Rattle.std.proofs.Common.{◌≡◌, ◌⊎◌, ℕ, ◌+◌, Bool, true, false, not, ◌&&◌, ◌||◌, bytes_eq, nat_eq, cond, ◌-◌, List, [], ◌∷◌, ◌++◌, Some, length, codes, slice_index_or, nat_le, Option, None, option_map, subst, sym, refl, ◌∙◌, ap, inl, inr, arith, append_assoc, length-append}
 use Rattle.std.specs.List.{list_all, flat_map}
-use Rattle.std.proofs.lemmas.Bool.{cond-true, cond-false, and_parts, and_from, and_left, or_left, not-true, not_from_false, eqb-true, le-leb}
+use Rattle.std.proofs.lemmas.Bool.{cond-true, cond-false, and_parts, and_from, and_left, and_right, or_from, or_left, not-true, not_from_false, eqb-true}
 use Rattle.std.proofs.lemmas.List.{append-nil}
 use Rattle.std.proofs.lemmas.List.Folds.{list_all-append}
 use Rattle.sql_tokens.specs.Tokens.{tokens_behind}
@@ -10,7 +10,7 @@ use Rattle.sql_tokens.specs.declared.token.Token.{Token}
 use Rattle.sql_tokens.specs.declared.token.TokenKind.{TokenKind}
 use Rattle.sql_tokens.specs.declared.token.TokenKind.TheVariants.{Word, Quoted, Number, SysVar, Symbol}
 use Rattle.session_vars.specs.Assignments.{change_to, written, assigned, assignment, assignments, part_changes, with_changes}
-use Rattle.session_vars.specs.Modes.{base_of, ends_with_comma, is_added_list, is_base_list, is_front, is_front_list, is_mode_list, is_opening, is_quoted, joined, joined_at, joined_change, joined_text, joined_with, list_of, lists_behind, lists_joined, may_join, own_mode, takes_modes}
+use Rattle.session_vars.specs.Modes.{base_of, ends_with_comma, is_added_list, is_base_list, is_front, is_lone_comma, is_mode_list, is_opening, is_quoted, joined, joined_at, joined_change, joined_text, joined_with, list_of, lists_behind, lists_joined, may_join, own_mode, takes_modes}
 use Rattle.session_vars.specs.Scopes.{before_comma, behind_comma, is_server_scope, names_server, deeper, divides, sets_server}
 use Rattle.session_vars.specs.Slots.{name_of, slot_named}
 use Rattle.session_vars.specs.Statement.{is_comment, is_session_word}
@@ -144,7 +144,8 @@ record IsBaseRead (base rest : List ℕ) : Type 0 where
   inner : inner_by kind base 1 ≡ true
   level : deeper_by kind base 1 ≡ 1
   no_word : word_by kind base ≡ None
-  no_front : is_quoted kind && is_front_list (inside base) ≡ false
+  no_symbol : is_symbol_kind kind ≡ false
+  no_front : is_quoted kind && ends_with_comma (inside base) ≡ false
 
 base_read : (base rest : List ℕ) → IsBase base → Stops rest → IsBaseRead base rest
 unfolding base_of
@@ -155,6 +156,7 @@ base_read base rest (inl is) stops = subst (λ (b : List ℕ). IsBaseRead b rest
   inner = refl;
   level = refl;
   no_word = refl;
+  no_symbol = refl;
   no_front = refl;
 })
 base_read base rest (inr quoted) stops =
@@ -170,35 +172,31 @@ base_read base rest (inr quoted) stops =
       inner = refl;
       level = refl;
       no_word = refl;
-      no_front = ap is_front_list (inside_quotes list) ∙ and_left _ _ (not-true _ both.0);
+      no_symbol = refl;
+      no_front = ap ends_with_comma (inside_quotes list) ∙ not-true _ both.0;
     })
 
 base_adds_not : (base : List ℕ) → IsBase base → bytes_eq base own_mode ≡ false
 base_adds_not base (inl is) = ap (λ b. bytes_eq b own_mode) is
 base_adds_not base (inr quoted) = ap (λ b. bytes_eq b own_mode) quoted.1.0
 
-some_list : (lists : List ℕ) → is_added_list lists ≡ true → nat_le 1 (length lists) ≡ true
-some_list [] is = absurd (cc)
-some_list (b ∷ lists) is = le-leb 1 (length (b ∷ lists)) (omega arith)
-
-list_again : (lists : List ℕ) → is_added_list lists ≡ true → list_of Quoted (in_quotes lists) ≡ Some lists
+list_again : (lists : List ℕ) → list_of Quoted (in_quotes lists) ≡ Some lists
 unfolding list_of
-list_again lists is =
-    let kept : List ℕ → Option (List ℕ) = λ inner. cond (is_added_list inner) (Some inner) None in
-    ap kept (inside_quotes lists) ∙ cond-true (is_added_list lists) _ _ is
+list_again lists = ap (λ (inner : List ℕ). Some inner) (inside_quotes lists)
 
 pub mode_slot : (slot : Slot) → takes_modes slot ≡ true → slot ≡ SqlMode
 mode_slot SqlMode is = refl
 mode_slot _ is = absurd (cc)
 
-no_front_by : (here quoted front : Bool) → quoted && front ≡ false → here && quoted && front ≡ false
-no_front_by true quoted front is = is
-no_front_by false quoted front is = refl
+no_front_by : (here quoted ends lone : Bool) → quoted && ends ≡ false → lone ≡ false → here && quoted && (ends || lone) ≡ false
+no_front_by false quoted ends lone is alone = refl
+no_front_by true false ends lone is alone = refl
+no_front_by true true ends lone is alone = or_from ends lone is alone
 
 -- the tokens of such an expression, read
-joined_gives : (text : List ℕ) (slot : Slot) (concat opening base comma list close : Token) (b lists : List ℕ) → takes_modes slot ≡ true → says text concat (codes "CONCAT") ≡ true → is_symbol text opening 40 ≡ true → word_by base.kind (bytes_of text base) ≡ None → base_of base.kind (bytes_of text base) ≡ Some b → is_symbol text comma 41 ≡ false → is_symbol text comma 44 ≡ true → list_of list.kind (bytes_of text list) ≡ Some lists → is_symbol text close 41 ≡ true → is_front text 1 base comma ≡ false → IsBase b → is_added_list lists ≡ true → written text slot (concat ∷ opening ∷ base ∷ comma ∷ list ∷ close ∷ []) ≡ Some (record { slot = slot; value = Text (joined_text b lists); adds = false })
+joined_gives : (text : List ℕ) (slot : Slot) (concat opening base comma list close : Token) (b lists : List ℕ) → takes_modes slot ≡ true → says text concat (codes "CONCAT") ≡ true → is_symbol text opening 40 ≡ true → word_by base.kind (bytes_of text base) ≡ None → is_symbol_kind base.kind ≡ false → base_of base.kind (bytes_of text base) ≡ Some b → is_symbol text comma 41 ≡ false → is_symbol text comma 44 ≡ true → list_of list.kind (bytes_of text list) ≡ Some lists → is_symbol text close 41 ≡ true → is_front text 1 base comma (list ∷ close ∷ []) ≡ false → IsBase b → is_added_list lists ≡ true → written text slot (concat ∷ opening ∷ base ∷ comma ∷ list ∷ close ∷ []) ≡ Some (record { slot = slot; value = Text (joined_text b lists); adds = false })
 unfolding written joined joined_at lists_behind
-joined_gives text slot concat opening base comma list close b lists takes is_concat is_open no_word is_base no_close is_comma is_list is_close no_front of_base are =
+joined_gives text slot concat opening base comma list close b lists takes is_concat is_open no_word no_symbol is_base no_close is_comma is_list is_close no_front of_base are =
     let rest = comma ∷ list ∷ close ∷ [] in
     let end : lists_behind text 1 (close ∷ []) ≡ Some [] = cond-true (is_symbol text close 41) (lists_behind text 0 []) None is_close in
     let behind : lists_behind text 1 rest ≡ Some lists =
@@ -213,12 +211,13 @@ joined_gives text slot concat opening base comma list close b lists takes is_con
     ap (λ (s : Slot). record { slot = s; value = Text (joined_text b lists); adds = bytes_eq b own_mode }) (sym (mode_slot slot takes))
     ∙ ap (λ (adds : Bool). record { slot = slot; value = Text (joined_text b lists); adds = adds }) (base_adds_not b of_base) in
     cond-true (takes_modes slot && true) _ _ (and_from _ _ takes refl)
-    ∙ cond-true (is_opening text concat opening) _ _ (and_from _ _ is_concat is_open)
-    ∙ cond-false (is_opening text base comma) _ _ (and_left _ _ no_concat)
-    ∙ cond-false (is_front text 1 base comma) _ _ no_front
-    ∙ ap (λ (found : Option (List ℕ)). joined_with found (option_map (λ lists. [] ++ lists) (lists_behind text 1 rest))) is_base
-    ∙ ap (λ (found : Option (List ℕ)). joined_with (Some b) (option_map (λ lists. [] ++ lists) found)) behind
-    ∙ cond-true (may_join b lists) _ _ (and_from _ _ (some_list lists are) (or_left _ _ (not_from_false _ (base_adds_not b of_base))))
+    ∙ cond-true (is_opening text concat opening) _ _ (or_left _ _ (and_from _ _ is_concat is_open))
+    ∙ cond-false (is_opening text base comma) _ _ (or_from _ _ (and_left _ _ no_concat) (and_left _ _ (and_left _ _ no_symbol)))
+    ∙ cond-false (is_front text 1 base comma (list ∷ close ∷ [])) _ _ no_front
+    ∙ ap (λ (found : Option (List ℕ)). joined_with found (option_map (λ lists. lists ++ []) (lists_behind text 1 rest))) is_base
+    ∙ ap (λ (found : Option (List ℕ)). joined_with (Some b) (option_map (λ lists. lists ++ []) found)) behind
+    ∙ ap (λ (all : List ℕ). joined_with (Some b) (Some all)) (append-nil lists)
+    ∙ cond-true (may_join b lists) _ _ (and_from _ _ are (or_left _ _ (not_from_false _ (base_adds_not b of_base))))
     ∙ ap (λ (found : Change). Some found) same
 
 joined_read : (text : List ℕ) (place : ℕ) (slot : Slot) (value : SlotValue) (rest : List ℕ) → IsJoined slot value → At text place (value_text value ++ rest) → Stops rest → IsValueRead text place slot value
@@ -280,12 +279,15 @@ joined_read text place slot value rest j at stops =
           (ap (λ word. same_text word (codes "CONCAT")) is0)
           (ap (λ bytes. bytes_eq bytes (40 ∷ [])) is1)
           (ap (word_by b.kind) is2 ∙ b.no_word)
+          b.no_symbol
           (ap (base_of b.kind) is2 ∙ b.gives)
           (ap (λ bytes. bytes_eq bytes (41 ∷ [])) is3)
           (ap (λ bytes. bytes_eq bytes (44 ∷ [])) is3)
-          (ap (list_of Quoted) is4 ∙ list_again lists j.are_lists)
+          (ap (list_of Quoted) is4 ∙ list_again lists)
           (ap (λ bytes. bytes_eq bytes (41 ∷ [])) is5)
-          (no_front_by (nat_le 1 1 && is_symbol text t3 44) (is_quoted b.kind) (is_front_list (inside (bytes_of text t2))) (ap (λ bytes. is_quoted b.kind && is_front_list (inside bytes)) is2 ∙ b.no_front))
+          (no_front_by (nat_le 1 1 && is_symbol text t3 44) (is_quoted b.kind) (ends_with_comma (inside (bytes_of text t2))) (is_lone_comma text (t4 ∷ t5 ∷ []))
+          (ap (λ bytes. is_quoted b.kind && ends_with_comma (inside bytes)) is2 ∙ b.no_front)
+          (and_right (bytes_eq (inside (bytes_of text t4)) (44 ∷ [])) (is_symbol text t5 44) (ap (λ bytes. bytes_eq bytes (44 ∷ [])) is5)))
           j.of_base
           j.are_lists
           ∙ ap (λ (v : SlotValue). Some (record { slot = slot; value = v; adds = false })) (sym j.is);

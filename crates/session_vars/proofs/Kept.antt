@@ -13,11 +13,11 @@ use Rattle.sql_tokens.specs.declared.token.Token.{Token}
 use Rattle.sql_tokens.specs.declared.token.TokenKind.{TokenKind}
 use Rattle.sql_tokens.specs.declared.token.TokenKind.TheVariants.{Word, Quoted, Name, Number, SysVar}
 use Rattle.session_vars.specs.Assignments.{slot_of_variable, slot_of_name, slot_by, change_to, written, behind_colon, assigned, assignment, all_assigned, assignments, part_changes, with_changes}
-use Rattle.session_vars.specs.Modes.{added_to}
+use Rattle.session_vars.specs.Modes.{added_to, takes_modes}
 use Rattle.session_vars.specs.Names.{is_one_word_by, is_one_word, character_set, collation, lower_case, collated, names_value, names_changes}
 use Rattle.session_vars.specs.Scopes.{deeper, divides, parts_of, sets_server}
 use Rattle.session_vars.specs.Settings.{value_at, value_after, changed, applied}
-use Rattle.session_vars.specs.Shapes.{own_changes, own_shape, sets_mode_once, tracked_or_other, shape_behind, shape_by, set_shape}
+use Rattle.session_vars.specs.Shapes.{own_changes, own_shape, sets_mode_once, with_last_mode, tracked_or_other, shape_behind, shape_by, set_shape}
 use Rattle.session_vars.specs.Slots.{name_of, all_slots, assigned_slots, place_of, slot_named, unless_transaction}
 use Rattle.session_vars.specs.Statement.{says_first, is_session_word, spoken_by, statement_of}
 use Rattle.session_vars.specs.Texts.{is_names}
@@ -28,7 +28,7 @@ use Rattle.session_vars.specs.declared.change.Change.{Change}
 use Rattle.session_vars.specs.declared.change.SlotValue.{SlotValue}
 use Rattle.session_vars.specs.declared.change.SlotValue.TheVariants.{Default, Text}
 use Rattle.session_vars.specs.declared.shape.SetShape.{SetShape}
-use Rattle.session_vars.specs.declared.shape.SetShape.TheVariants.{Tracked, Global, NextTransaction, Other, NotSet}
+use Rattle.session_vars.specs.declared.shape.SetShape.TheVariants.{Tracked, Global, NextTransaction, NotSet}
 use Rattle.session_vars.specs.declared.slot.Slot.{Slot}
 use Rattle.session_vars.specs.declared.slot.Slot.TheVariants.{Names, CharacterSetResults, SqlMode, TransactionIsolation, TransactionReadOnly}
 use Rattle.session_vars.specs.declared.transaction.Mode.{Mode}
@@ -317,12 +317,20 @@ assignments_tracked : (text : List ℕ) (tokens : List Token) (changes : List Ch
 unfolding assignments
 assignments_tracked text tokens changes are is = all_tracked text (parts_of text 0 tokens) changes (split_found text 0 tokens are) is
 
+-- and so are those that are left without the earlier changes of the mode
+last_tracked : (changes : List Change) → AreTrackedChanges changes → AreTrackedChanges (with_last_mode changes)
+last_tracked [] all = tt
+last_tracked (change ∷ changes) all =
+    cond_both (takes_modes change.slot && list_any (λ later. takes_modes later.slot) changes) (with_last_mode changes) (change ∷ with_last_mode changes) AreTrackedChanges
+    (λ _. last_tracked changes all.1) (λ _. (all.0, last_tracked changes all.1))
+
 -- so all that a SET statement gives is tracked
 given_tracked : (found : Option (List Change)) (changes : List Change) → AllTracked found → tracked_or_other found ≡ Tracked changes → AreTrackedChanges changes
 given_tracked None changes all is = absurd (cc)
 given_tracked (Some found) changes all is =
-    cond_both (sets_mode_once found) (Tracked found) Other (λ (shape : SetShape). shape ≡ Tracked changes → AreTrackedChanges changes)
-    (λ _ here. let same : found ≡ changes = cc in subst AreTrackedChanges same (all found refl)) (λ _ apart. absurd (cc)) is
+    cond_both (sets_mode_once found) (Tracked found) (Tracked (with_last_mode found)) (λ (shape : SetShape). shape ≡ Tracked changes → AreTrackedChanges changes)
+    (λ _ here. let same : found ≡ changes = cc in subst AreTrackedChanges same (all found refl))
+    (λ _ here. let same : with_last_mode found ≡ changes = cc in subst AreTrackedChanges same (last_tracked found (all found refl))) is
 
 behind_tracked : (text : List ℕ) (tokens : List Token) (changes : List Change) → AreFound text tokens → shape_behind text tokens ≡ Tracked changes → AreTrackedChanges changes
 unfolding shape_behind

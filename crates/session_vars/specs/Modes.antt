@@ -24,16 +24,13 @@ is_added_list list = nat_eq (slice_index_or list 0 0) 44 && is_mode_list list
 abbrev pub without_last : (count : ℕ) → List ℕ → List ℕ
 without_last count bytes = take (length bytes - count) bytes
 
--- one that ends with a comma, so that it adds whole modes to whatever stands behind it, and what is kept of it: the same
--- behind the mode
 abbrev pub ends_with_comma : List ℕ → Bool
 ends_with_comma list = nat_eq (slice_index_or list (length list - 1) 0) 44
 
-abbrev pub is_front_list : List ℕ → Bool
-is_front_list list = ends_with_comma list && is_mode_list (without_last 1 list)
-
+-- What is kept of texts in front of the mode, the last of which ends with a comma, so that they add whole modes to whatever
+-- stands behind them: the same behind all else.
 abbrev pub moved_behind : List ℕ → List ℕ
-moved_behind list = 44 ∷ without_last 1 list
+moved_behind front = if nat_eq (length front) 0 then [] else 44 ∷ without_last 1 front
 
 -- the session's own mode, and the server's, which a session that sets nothing has
 abbrev pub own_mode : List ℕ
@@ -54,18 +51,18 @@ base_of SysVar bytes =
 base_of Quoted bytes = if is_base_list (inside bytes) then Some (39 ∷ [] ++ inside bytes ++ 39 ∷ []) else None
 base_of _ bytes = None
 
--- what is added
+-- what is added, which may be a part of a list, as a comma alone
 unfoldable pub list_of : TokenKind → List ℕ → Option (List ℕ)
-list_of Quoted bytes = if is_added_list (inside bytes) then Some (inside bytes) else None
+list_of Quoted bytes = Some (inside bytes)
 list_of _ bytes = None
 
--- one list and then others, where both are there
+-- one text and then others, where both are there
 abbrev pub lists_joined : Option (List ℕ) → Option (List ℕ) → Option (List ℕ)
 lists_joined None rest = None
 lists_joined (Some list) None = None
 lists_joined (Some list) (Some rest) = Some (list ++ rest)
 
--- lists, each behind a comma, and the brackets that close, where so many are open
+-- texts, each behind a comma, and the brackets that close, where so many are open
 unfoldable pub lists_behind : (text : List ℕ) → (depth : ℕ) → List Token → Option (List ℕ)
 lists_behind text depth [] = if nat_eq depth 0 then Some [] else None
 lists_behind text depth (token ∷ []) = if nat_eq depth 0 then None else if is_symbol text token 41 then lists_behind text (depth - 1) [] else None
@@ -83,35 +80,41 @@ joined_text base lists = codes "CONCAT(" ++ base ++ codes ", '" ++ lists ++ code
 abbrev pub joined_change : (base lists : List ℕ) → Change
 joined_change base lists = record { slot = SqlMode; value = Text (joined_text base lists); adds = bytes_eq base own_mode }
 
--- something is added, and to the mode before it at most 1,024 bytes
+-- whole modes are added, and to the mode before it at most 1,024 bytes
 abbrev pub may_join : (base lists : List ℕ) → Bool
-may_join base lists = nat_le 1 (length lists) && (not (bytes_eq base own_mode) || nat_le (length lists) 1024)
+may_join base lists = is_added_list lists && (not (bytes_eq base own_mode) || nat_le (length lists) 1024)
 
 abbrev pub joined_with : Option (List ℕ) → Option (List ℕ) → Option Change
 joined_with None lists = None
 joined_with (Some base) None = None
 joined_with (Some base) (Some lists) = if may_join base lists then Some (joined_change base lists) else None
 
--- a list in front of the mode, within a CONCAT
 abbrev pub is_quoted : TokenKind → Bool
 is_quoted Quoted = true
 is_quoted _ = false
 
-abbrev pub is_front : (text : List ℕ) → (depth : ℕ) → (token next : Token) → Bool
-is_front text depth token next = nat_le 1 depth && is_symbol text next 44 && is_quoted token.kind && is_front_list (inside (bytes_of text token))
+-- a comma alone in quotes, and a comma behind it
+abbrev pub is_lone_comma : (text : List ℕ) → List Token → Bool
+is_lone_comma text (token ∷ next ∷ tokens) = is_quoted token.kind && bytes_eq (inside (bytes_of text token)) (44 ∷ []) && is_symbol text next 44
+is_lone_comma text _ = false
 
--- `CONCAT (`
+-- a text in front of the mode, within a CONCAT: it ends with a comma, or a lone one stands behind it
+abbrev pub is_front : (text : List ℕ) → (depth : ℕ) → (token next : Token) → List Token → Bool
+is_front text depth token next tokens =
+    nat_le 1 depth && is_symbol text next 44 && is_quoted token.kind && (ends_with_comma (inside (bytes_of text token)) || is_lone_comma text tokens)
+
+-- `CONCAT (`, or `( SELECT`, within which a server takes no comma
 abbrev pub is_opening : (text : List ℕ) → (token next : Token) → Bool
-is_opening text token next = says text token (codes "CONCAT") && is_symbol text next 40
+is_opening text token next = (says text token (codes "CONCAT") && is_symbol text next 40) || (is_symbol text token 40 && says text next (codes "SELECT"))
 
--- behind so many `CONCAT (`, and these lists
+-- behind so many of these, and such texts in front
 unfoldable pub joined_at : (text : List ℕ) → (depth : ℕ) → (front : List ℕ) → List Token → Option Change
 joined_at text depth front [] = None
 joined_at text depth front (token ∷ []) = None
 joined_at text depth front (token ∷ next ∷ tokens) =
     if is_opening text token next then joined_at text (depth + 1) front tokens
-    else if is_front text depth token next then joined_at text depth (front ++ moved_behind (inside (bytes_of text token))) tokens
-    else joined_with (base_of token.kind (bytes_of text token)) (option_map (λ lists. front ++ lists) (lists_behind text depth (next ∷ tokens)))
+    else if is_front text depth token next tokens then joined_at text depth (front ++ inside (bytes_of text token)) tokens
+    else joined_with (base_of token.kind (bytes_of text token)) (option_map (λ lists. lists ++ moved_behind front) (lists_behind text depth (next ∷ tokens)))
 
 abbrev pub takes_modes : Slot → Bool
 takes_modes SqlMode = true

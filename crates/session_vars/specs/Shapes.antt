@@ -1,5 +1,5 @@
 -- The shapes of SET statements.
-use Rattle.std.specs.Prelude.{ℕ, Bool, true, not, ◌||◌, nat_le, List, [], ◌∷◌, length, filter, codes, Option, Some, None, if◌then◌else◌}
+use Rattle.std.specs.Prelude.{ℕ, Bool, true, not, ◌&&◌, ◌||◌, nat_le, List, [], ◌∷◌, length, filter, codes, Option, Some, None, if◌then◌else◌}
 use Rattle.std.specs.List.{list_any}
 use Rattle.std.specs.Option.{option_or}
 use Rattle.sql_tokens.specs.declared.token.Token.{Token}
@@ -17,14 +17,20 @@ use Rattle.session_vars.specs.declared.shape.SetShape.TheVariants.{Tracked, Glob
 abbrev pub own_changes : (text : List ℕ) → List Token → Option (List Change)
 own_changes text tokens = option_or (mode_changes (transaction_mode text tokens)) (assignments text tokens)
 
--- A server works out each value of a statement before it sets the first: an expression over the mode sees the mode before the
--- statement, so the mode is set once there.
+-- the mode is set once, or by no expression over the one before it
 unfoldable pub sets_mode_once : List Change → Bool
 sets_mode_once changes = nat_le (length (filter (λ change. takes_modes change.slot) changes)) 1 || not (list_any (λ change. change.adds) changes)
 
+-- A server works out each value of a statement before it sets the first, so an expression over the mode sees the mode before
+-- the statement. The last one that sets the mode says what it is then.
+abbrev pub with_last_mode : List Change → List Change
+with_last_mode [] = []
+with_last_mode (change ∷ changes) =
+    if takes_modes change.slot && list_any (λ later. takes_modes later.slot) changes then with_last_mode changes else change ∷ with_last_mode changes
+
 abbrev pub tracked_or_other : Option (List Change) → SetShape
 tracked_or_other None = Other
-tracked_or_other (Some changes) = if sets_mode_once changes then Tracked changes else Other
+tracked_or_other (Some changes) = if sets_mode_once changes then Tracked changes else Tracked (with_last_mode changes)
 
 -- by what stands behind SET, where nothing is set of the whole server
 abbrev pub own_shape : (text : List ℕ) → List Token → SetShape

@@ -52,6 +52,17 @@ pub struct Change {
 }
 
 impl Change {
+    // A copy.
+    pub(crate) fn copy(&self, alloc: Global) -> Result<Self, OutOfMemory>
+        ensures { IfOk result (λ change. change ≡ self.now) }
+    {
+        Ok(Change {
+            slot: self.slot,
+            value: self.value.copy(alloc)?,
+            adds: self.adds,
+        })
+    }
+
     // What it makes of its setting's value.
     pub(crate) fn after(&self, alloc: Global, old: &SlotValue) -> Result<SlotValue, OutOfMemory>
         ensures { IfOk result (λ value. value ≡ value_after old.now self.now) }

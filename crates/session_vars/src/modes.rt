@@ -1,7 +1,7 @@
 // Values of sql_mode by an expression: CONCAT, also nested, of a mode and of lists of modes that are added to it.
 ghost use Rattle.std.specs.Prelude.{◌≡◌, ◌+◌, ◌<◌, ◌^◌, not, nat_eq, [], ◌∷◌, ◌++◌, length, take, fold, option_copied, Some, None, IfOk, OnOk, option_map, if◌then◌else◌};
 ghost use Rattle.sql_tokens.specs.Words.{bytes_of as bytes_at};
-ghost use Rattle.session_vars.specs.Modes.{is_mode_list, is_added_list, ends_with_comma, is_front_list, is_base_list, is_front, is_opening, moved_behind, may_join, base_of, list_of, lists_behind, joined_text, joined_change, joined_with, joined_at, takes_modes, joined, names_mode, with_named, as_value, is_joined_text, without_last, with_modes, with_more, grown, named_by, added_to};
+ghost use Rattle.session_vars.specs.Modes.{is_mode_list, is_added_list, ends_with_comma, is_base_list, is_lone_comma, is_front, is_opening, moved_behind, may_join, base_of, list_of, lists_behind, joined_text, joined_change, joined_with, joined_at, takes_modes, joined, names_mode, with_named, as_value, is_joined_text, without_last, with_modes, with_more, grown, named_by, added_to};
 ghost use Rattle.std.specs.List.{prefix_len, slice_split};
 
 use crate::value::{LONGEST_VALUE, has_reading_mode, is_plain_text};
@@ -41,13 +41,6 @@ fn ends_with_comma(list: &[u8]) -> bool
     ensures { result ≡ ends_with_comma list.now }
 {
     !list.is_empty() && list[list.len() - 1] == b','
-}
-
-// One that ends with a comma, so that it adds whole modes to whatever stands behind it.
-fn is_front_list(list: &[u8]) -> bool
-    ensures { result ≡ is_front_list list.now }
-{
-    ends_with_comma(list) && is_mode_list(without_last(list, 1))
 }
 
 // One that other lists are added to.
@@ -97,18 +90,18 @@ fn base_of(alloc: Global, kind: TokenKind, bytes: &[u8]) -> Result<Option<Bytes>
     }
 }
 
-// What is added.
+// What is added, which may be a part of a list.
 #[tactic(auto, unfolding(crate::specs::Modes::list_of))]
 fn list_of(kind: TokenKind, bytes: &[u8]) -> Option<&[u8]>
     ensures { option_copied result ≡ list_of kind bytes.now }
 {
     match kind {
-        TokenKind::Quoted if is_added_list(inside(bytes)) => Some(inside(bytes)),
+        TokenKind::Quoted => Some(inside(bytes)),
         _ => None,
     }
 }
 
-// Appends lists, each behind a comma, up to the brackets that close, where so many are open. Whether nothing else is there.
+// Appends texts, each behind a comma, up to the brackets that close, where so many are open. Whether nothing else is there.
 #[tactic(auto, unfolding(crate::specs::Modes::lists_behind))]
 fn push_lists(
     text: &[u8],
@@ -146,29 +139,62 @@ fn joined_text(alloc: Global, base: &[u8], lists: &[u8]) -> Result<Bytes, OutOfM
     Ok(text)
 }
 
-// Something is added, and to the mode before it no more than a value may have.
+// Whole modes are added, and to the mode before it no more than a value may have.
 fn may_join(base: &[u8], lists: &[u8]) -> bool
     ensures { result ≡ may_join base.now lists.now }
 {
-    !lists.is_empty() && (base != OWN_MODE || lists.len() <= LONGEST_VALUE)
+    is_added_list(lists) && (base != OWN_MODE || lists.len() <= LONGEST_VALUE)
 }
 
-// A base, lists that were in front of it, and lists behind it.
+// Appends what is kept of texts in front of the mode.
+fn push_front(lists: &mut Bytes, front: &[u8]) -> Result<(), OutOfMemory>
+    ensures { OnOk result (lists.new ≡ lists.old ++ moved_behind front.now) }
+{
+    if front.is_empty() {
+        return Ok(());
+    }
+    lists.append(b",")?;
+    lists.append(without_last(front, 1))
+}
+
+// The texts behind the mode, and then those in front of it.
+#[tactic(auto, using(crate::proofs::Adding::front_behind))]
+fn lists_of(
+    alloc: Global,
+    text: &[u8],
+    depth: usize,
+    front: &[u8],
+    rest: &[Token],
+) -> Result<Option<Bytes>, OutOfMemory>
+    ensures { IfOk result (λ lists. lists ≡ option_map (λ more. more ++ moved_behind front.now) (lists_behind text.now depth rest.now)) }
+{
+    let mut lists = Bytes::new(alloc);
+    if !push_lists(text, depth, rest, &mut lists)? {
+        return Ok(None);
+    }
+    push_front(&mut lists, front)?;
+    Ok(Some(lists))
+}
+
+// A base, texts that were in front of it, and texts behind it.
 #[tactic(auto, unfolding(crate::specs::Modes::joined_at))]
 fn joined_with(
     alloc: Global,
     text: &[u8],
     depth: usize,
-    lists: &mut Bytes,
+    front: &[u8],
     token: &Token,
     rest: &[Token],
 ) -> Result<Option<Change>, OutOfMemory>
-    ensures { IfOk result (λ change. change ≡ joined_with (base_of token.now.kind (bytes_at text.now token.now)) (option_map (λ more. lists.old ++ more) (lists_behind text.now depth rest.now))) }
+    ensures { IfOk result (λ change. change ≡ joined_with (base_of token.now.kind (bytes_at text.now token.now)) (option_map (λ more. more ++ moved_behind front.now) (lists_behind text.now depth rest.now))) }
 {
     let Some(base) = base_of(alloc, token.kind, bytes_of(text, token))? else {
         return Ok(None);
     };
-    if !push_lists(text, depth, rest, lists)? || !may_join(base.as_slice(), lists.as_slice()) {
+    let Some(lists) = lists_of(alloc, text, depth, front, rest)? else {
+        return Ok(None);
+    };
+    if !may_join(base.as_slice(), lists.as_slice()) {
         return Ok(None);
     }
     Ok(Some(Change {
@@ -178,42 +204,49 @@ fn joined_with(
     }))
 }
 
-// Whether a list stands in front of the mode, within a CONCAT.
-fn is_front(text: &[u8], depth: usize, token: &Token, next: &Token) -> bool
-    ensures { result ≡ is_front text.now depth token.now next.now }
+// Whether a comma alone in quotes is there, and a comma behind it.
+fn is_lone_comma(text: &[u8], tokens: &[Token]) -> bool
+    ensures { result ≡ is_lone_comma text.now tokens.now }
+{
+    match tokens {
+        [token, next, ..] => {
+            token.kind == TokenKind::Quoted
+                && inside(bytes_of(text, token)) == b",".as_slice()
+                && is_symbol(text, next, b',')
+        }
+        _ => false,
+    }
+}
+
+// Whether a text stands in front of the mode, within a CONCAT, behind which these tokens stand.
+fn is_front(text: &[u8], depth: usize, token: &Token, next: &Token, tokens: &[Token]) -> bool
+    ensures { result ≡ is_front text.now depth token.now next.now tokens.now }
 {
     depth >= 1
         && is_symbol(text, next, b',')
         && token.kind == TokenKind::Quoted
-        && is_front_list(inside(bytes_of(text, token)))
+        && (ends_with_comma(inside(bytes_of(text, token))) || is_lone_comma(text, tokens))
 }
 
-// Appends such a list, as it is kept behind the mode.
-fn push_front(lists: &mut Bytes, list: &[u8]) -> Result<(), OutOfMemory>
-    ensures { OnOk result (lists.new ≡ lists.old ++ moved_behind list.now) }
-{
-    lists.append(b",")?;
-    lists.append(without_last(list, 1))
-}
-
-// `CONCAT (`.
+// `CONCAT (`, or `( SELECT`.
 fn is_opening(text: &[u8], token: &Token, next: &Token) -> bool
     ensures { result ≡ is_opening text.now token.now next.now }
 {
-    says(text, token, b"CONCAT") && is_symbol(text, next, b'(')
+    (says(text, token, b"CONCAT") && is_symbol(text, next, b'('))
+        || (is_symbol(text, token, b'(') && says(text, next, b"SELECT"))
 }
 
-// Behind so many `CONCAT (`, and these lists.
+// Behind so many of these, and such texts in front.
 #[tactic(auto, unfolding(crate::specs::Modes::joined_at))]
 fn joined_at(
     alloc: Global,
     text: &[u8],
     depth: usize,
-    lists: &mut Bytes,
+    front: &mut Bytes,
     tokens: &[Token],
 ) -> Result<Option<Change>, OutOfMemory>
     requires { depth + length tokens.now < 2 ^ 64 }
-    ensures { IfOk result (λ change. change ≡ joined_at text.now depth lists.old tokens.now) }
+    ensures { IfOk result (λ change. change ≡ joined_at text.now depth front.old tokens.now) }
 {
     let [token, after @ ..] = tokens else {
         return Ok(None);
@@ -222,13 +255,13 @@ fn joined_at(
         return Ok(None);
     };
     if is_opening(text, token, next) {
-        return joined_at(alloc, text, depth + 1, lists, rest);
+        return joined_at(alloc, text, depth + 1, front, rest);
     }
-    if is_front(text, depth, token, next) {
-        push_front(lists, inside(bytes_of(text, token)))?;
-        return joined_at(alloc, text, depth, lists, rest);
+    if is_front(text, depth, token, next, rest) {
+        front.append(inside(bytes_of(text, token)))?;
+        return joined_at(alloc, text, depth, front, rest);
     }
-    joined_with(alloc, text, depth, lists, token, after)
+    joined_with(alloc, text, depth, front.as_slice(), token, after)
 }
 
 pub(crate) fn takes_modes(slot: Slot) -> bool

@@ -1,9 +1,9 @@
 // SET statements that are read.
-ghost use Rattle.std.specs.Prelude.{◌≡◌, true, length, filter, slice_get, IfOk};
+ghost use Rattle.std.specs.Prelude.{◌≡◌, ◌∷◌, ◌++◌, true, length, filter, slice_get, Some, IfOk, OnOk};
 ghost use Rattle.std.specs.List.{list_any};
 ghost use Rattle.session_vars.specs.Modes.{takes_modes as is_mode};
 ghost use Rattle.session_vars.specs.Scopes.{server_set};
-ghost use Rattle.session_vars.specs.Shapes.{own_changes, own_shape, set_shape, sets_mode_once};
+ghost use Rattle.session_vars.specs.Shapes.{own_changes, own_shape, set_shape, sets_mode_once, tracked_or_other, with_last_mode};
 ghost use Rattle.session_vars.specs.Statement.{begins_with_session};
 ghost use Rattle.session_vars.specs.Transactions.{mode_changes};
 
@@ -95,6 +95,52 @@ fn mode_changes_in(changes: &[Change]) -> usize
         .count()
 }
 
+// Whether the mode is among these.
+fn sets_mode(changes: &[Change]) -> bool
+    ensures { result ≡ list_any (λ change. is_mode change.slot) changes.now }
+{
+    changes.iter().any(|change| takes_modes(change.slot))
+}
+
+// Appends a copy of a change, unless it is one of the mode and a later one is too.
+fn push_unless_set_again(
+    alloc: Global,
+    kept: &mut Changes,
+    change: &Change,
+    later: &[Change],
+) -> Result<(), OutOfMemory>
+    ensures { OnOk result (kept.new ++ with_last_mode later.now ≡ kept.old ++ with_last_mode (change.now ∷ later.now)) }
+{
+    if !takes_modes(change.slot) || !sets_mode(later) {
+        kept.push(change.copy(alloc)?)?;
+    }
+    Ok(())
+}
+
+// Copies of the changes without those of the mode behind which another one stands.
+fn with_last_mode(alloc: Global, changes: &[Change]) -> Result<Changes, OutOfMemory>
+    ensures { IfOk result (λ kept. kept ≡ with_last_mode changes.now) }
+{
+    let mut kept = Changes::new(alloc);
+    let mut left = changes;
+    while let [change, later @ ..] = left {
+        push_unless_set_again(alloc, &mut kept, change, later)?;
+        left = later;
+    }
+    Ok(kept)
+}
+
+// The shape of a statement that makes these changes.
+fn tracked(alloc: Global, changes: Changes) -> Result<SetShape, OutOfMemory>
+    ensures { IfOk result (λ shape. shape ≡ tracked_or_other (Some changes)) }
+{
+    if sets_mode_once(changes.as_slice()) {
+        Ok(SetShape::Tracked(changes))
+    } else {
+        Ok(SetShape::Tracked(with_last_mode(alloc, changes.as_slice())?))
+    }
+}
+
 // The shape, by the tokens behind SET, where nothing is set of the whole server.
 fn own_shape(alloc: Global, text: &[u8], tokens: &mut SetTokens) -> Result<SetShape, OutOfMemory>
     requires { tokens.old.depth ≡ 0 }
@@ -106,8 +152,8 @@ fn own_shape(alloc: Global, text: &[u8], tokens: &mut SetTokens) -> Result<SetSh
         return Ok(SetShape::NextTransaction);
     }
     match own_changes(alloc, text, first, tokens)? {
-        Some(changes) if sets_mode_once(changes.as_slice()) => Ok(SetShape::Tracked(changes)),
-        _ => Ok(SetShape::Other),
+        Some(changes) => tracked(alloc, changes),
+        None => Ok(SetShape::Other),
     }
 }
 
