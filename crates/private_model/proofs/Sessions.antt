@@ -239,9 +239,9 @@ plain_suits pin s out plain = record {
 pub suits_plain : (pin : Pin) (s : Session) → needs_reset pin ≡ false → Suits pin s → IsPlain s
 suits_plain pin s harmless suits =
     let tx : pin.tx ≡ false = or_left pin.tx _ harmless in
-    let e1 : (pin.after_err || (pin.locks || (pin.next_tx || (pin.deep || pin.uncommitted)))) ≡ false = or_right pin.tx _ harmless in
-    let e2 : (pin.locks || (pin.next_tx || (pin.deep || pin.uncommitted))) ≡ false = or_right pin.after_err _ e1 in
-    let e3 : (pin.next_tx || (pin.deep || pin.uncommitted)) ≡ false = or_right pin.locks _ e2 in
+    let e1 : (pin.after_err || (pin.locks || (pin.next_tx || (pin.deep || (pin.uncommitted || pin.rule))))) ≡ false = or_right pin.tx _ harmless in
+    let e2 : (pin.locks || (pin.next_tx || (pin.deep || (pin.uncommitted || pin.rule)))) ≡ false = or_right pin.after_err _ e1 in
+    let e3 : (pin.next_tx || (pin.deep || (pin.uncommitted || pin.rule))) ≡ false = or_right pin.locks _ e2 in
     let deep : pin.deep ≡ false = or_left pin.deep _ (or_right pin.next_tx _ e3) in
     record {
       tx = is_empty s.tx (suits.tx (or_left pin.after_err _ e1) ∙ tx);

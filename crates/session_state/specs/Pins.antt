@@ -9,12 +9,12 @@ use Rattle.session_state.specs.declared.reply_end.ReplyEnd.{ReplyEnd}
 abbrev pub no_pin : Pin
 no_pin = record { deep = false; locks = false; next_tx = false; tx = false; after_err = false; uncommitted = false; diag = false; own_diag = false; own_found = false; rule = false }
 
--- only a reset takes it back
+-- Only a reset takes it back. So does what a rule keeps: that may be anything, as no text shows it.
 abbrev pub needs_reset : Pin → Bool
-needs_reset pin = pin.tx || (pin.after_err || (pin.locks || (pin.next_tx || (pin.deep || pin.uncommitted))))
+needs_reset pin = pin.tx || (pin.after_err || (pin.locks || (pin.next_tx || (pin.deep || (pin.uncommitted || pin.rule)))))
 
 abbrev pub is_pinned : Pin → Bool
-is_pinned pin = needs_reset pin || (pin.diag || pin.rule)
+is_pinned pin = needs_reset pin || pin.diag
 
 -- What one reply brings and takes. What it brings, it doesn't take.
 

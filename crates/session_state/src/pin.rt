@@ -29,7 +29,7 @@ pub struct Pin {
     pub own_diag: bool,
     /// What FOUND_ROWS() answers on its link is of this session's statements.
     pub own_found: bool,
-    /// A rule forbids that the link is shared.
+    /// A rule forbids that the link is shared: it may have state that no text shows.
     pub rule: bool,
 }
 
@@ -169,14 +169,14 @@ pub fn pin_after(pin: Pin, class: &Class, multiplex: Option<bool>, end: &ReplyEn
 pub fn needs_reset(pin: Pin) -> bool
     ensures { result ≡ needs_reset pin }
 {
-    pin.tx || pin.after_err || pin.locks || pin.next_tx || pin.deep || pin.uncommitted
+    pin.tx || pin.after_err || pin.locks || pin.next_tx || pin.deep || pin.uncommitted || pin.rule
 }
 
 /// Whether a reason stands. Takes no memory.
 pub fn is_pinned(pin: Pin) -> bool
     ensures { result ≡ is_pinned pin }
 {
-    needs_reset(pin) || pin.diag || pin.rule
+    needs_reset(pin) || pin.diag
 }
 
 /// Whether what a statement of this class reads of earlier ones, by SHOW WARNINGS, ROW_COUNT(), FOUND_ROWS() and their
