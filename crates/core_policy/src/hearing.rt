@@ -166,9 +166,7 @@ impl Policy {
                 if cut {
                     self.cuts(link);
                 }
-                if let Some(name) = name {
-                    self.notes_rule(tables, link, name);
-                }
+                self.notes_rule(tables, link, name, purpose);
                 Ok(answered(tables, link, name, purpose, &end, behind || cut))
             }
             Said::Bad { place } => match name {
@@ -178,12 +176,19 @@ impl Policy {
         }
     }
 
-    // Whether a rule keeps a session on its link, behind an answer there.
-    fn notes_rule(&mut self, tables: &Tables, link: LinkId, name: SessionName) {
-        let Some(ruled) = is_ruled(tables, link, name) else {
-            return;
+    // Whether a rule keeps a session on its link, behind an answer there. A reset doesn't change that: what the rule kept may outlast it.
+    fn notes_rule(
+        &mut self,
+        tables: &Tables,
+        link: LinkId,
+        name: Option<SessionName>,
+        purpose: Purpose,
+    ) {
+        let ruled = match (name, purpose) {
+            (_, Purpose::End { .. }) | (None, _) => None,
+            (Some(name), _) => is_ruled(tables, link, name),
         };
-        if let Some(part) = self.links.get_mut(&link.0) {
+        if let (Some(ruled), Some(part)) = (ruled, self.links.get_mut(&link.0)) {
             part.ruled = ruled;
         }
     }
