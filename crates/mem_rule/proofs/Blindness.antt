@@ -10,6 +10,7 @@ use Rattle.session_vars.specs.declared.long_part.LongPart.{LongPart}
 use Rattle.session_vars.specs.declared.slot.Slot.{Slot}
 use Rattle.session_state.specs.Classes.{Effect, Tracked, Uses, Neither, effect_of}
 use Rattle.pin_classifier.specs.Classes.{class_of, is_deep, marks_id, reads_diagnostics}
+use Rattle.pin_classifier.specs.Judged.{judged}
 use Rattle.server_rule.proofs.Blind.{blind_whole}
 use Rattle.server_rule.specs.Classes.{router_reads, sees_diag, sees_id}
 use Rattle.server_rule.specs.Laws.{BlindLaw}
@@ -100,15 +101,15 @@ of_same forms.LockTables diag d c = fault_same diag (table_fault (place c)) c _ 
 of_same forms.Warnings diag d c = tt
 of_same _ diag d c = refl
 
-does_same : (form : Form) (text : List ℕ) → Tells form text → reads_diagnostics text ≡ false → (diag : List ℕ) (d : Said) (c : Scene) → Unmarked form diag d c → does form d (marked diag c) ≡ does form d c
-does_same forms.Warnings text tells unread diag d c is = absurd (both_ways (reads_diagnostics text) unread tells)
+does_same : (form : Form) (text : List ℕ) → Tells form text → reads_diagnostics (judged text) ≡ false → (diag : List ℕ) (d : Said) (c : Scene) → Unmarked form diag d c → does form d (marked diag c) ≡ does form d c
+does_same forms.Warnings text tells unread diag d c is = absurd (both_ways (reads_diagnostics (judged text)) unread tells)
 does_same _ text tells unread diag d c is = is
 
-leaves_same : (form : Form) (text : List ℕ) → Tells form text → reads_diagnostics text ≡ false → (is_binary : Bool) (s : Session) (diag : List ℕ) (did : Did) → ran_by is_binary form (with_diag diag s) did ≡ ran_by is_binary form s did
-leaves_same forms.Warnings text tells unread is_binary s diag did = absurd (both_ways (reads_diagnostics text) unread tells)
+leaves_same : (form : Form) (text : List ℕ) → Tells form text → reads_diagnostics (judged text) ≡ false → (is_binary : Bool) (s : Session) (diag : List ℕ) (did : Did) → ran_by is_binary form (with_diag diag s) did ≡ ran_by is_binary form s did
+leaves_same forms.Warnings text tells unread is_binary s diag did = absurd (both_ways (reads_diagnostics (judged text)) unread tells)
 leaves_same _ text tells unread is_binary s diag did = refl
 
-said_blind : (text : List ℕ) (said : Option Said) → Fitted text said → reads_diagnostics text ≡ false → (is_binary : Bool) (schema : List ℕ) (t : Tables) (s : Session) (diag : List ℕ) → says said is_binary schema t (with_diag diag s) ≡ says said is_binary schema t s
+said_blind : (text : List ℕ) (said : Option Said) → Fitted text said → reads_diagnostics (judged text) ≡ false → (is_binary : Bool) (schema : List ℕ) (t : Tables) (s : Session) (diag : List ℕ) → says said is_binary schema t (with_diag diag s) ≡ says said is_binary schema t s
 said_blind text None fits unread is_binary schema t s diag = refl
 said_blind text (Some said) fits unread is_binary schema t s diag =
     let c = scene t s schema in
@@ -120,7 +121,7 @@ settings_blind : (on : Bool) (s : Session) (diag : List ℕ) → with_settings o
 settings_blind true s diag = refl
 settings_blind false s diag = refl
 
-effect_blind : (e : Effect) (text : List ℕ) → reads_diagnostics text ≡ false → (b : Option Binding) (is_binary : Bool) (schema : List ℕ) (t : Tables) (s : Session) (diag : List ℕ) → by_effect e text b is_binary schema t (with_diag diag s) ≡ by_effect e text b is_binary schema t s
+effect_blind : (e : Effect) (text : List ℕ) → reads_diagnostics (judged text) ≡ false → (b : Option Binding) (is_binary : Bool) (schema : List ℕ) (t : Tables) (s : Session) (diag : List ℕ) → by_effect e text b is_binary schema t (with_diag diag s) ≡ by_effect e text b is_binary schema t s
 effect_blind (Tracked changes) text unread b is_binary schema t s diag = settings_blind (turns_on changes s) (record s { settings = applied s.settings changes }) diag
 effect_blind (Uses chosen) text unread b is_binary schema t s diag = refl
 effect_blind Neither text unread b is_binary schema t s diag = said_blind text (said_in text b) (fitted text b) unread is_binary schema t s diag
@@ -211,13 +212,13 @@ deep_marks : (text : List ℕ) → is_deep text ≡ true → marks_id text ≡ t
 unfolding marks_id
 deep_marks text deep = or_left _ _ (or_right _ _ deep)
 
-form_id : (form : Form) (text : List ℕ) → Tells form text → marks_id text ≡ false → (n : ℕ) (d : Said) (c : Scene) → Unnumbered form n d c → does form d (numbered n c) ≡ did_with n (does form d c)
-form_id forms.Insert text tells unmarked n d c is = absurd (both_ways (marks_id text) unmarked tells)
-form_id forms.SetId text tells unmarked n d c is = absurd (both_ways (marks_id text) unmarked (deep_marks text tells))
-form_id forms.Id text tells unmarked n d c is = absurd (both_ways (marks_id text) unmarked tells)
+form_id : (form : Form) (text : List ℕ) → Tells form text → marks_id (judged text) ≡ false → (n : ℕ) (d : Said) (c : Scene) → Unnumbered form n d c → does form d (numbered n c) ≡ did_with n (does form d c)
+form_id forms.Insert text tells unmarked n d c is = absurd (both_ways (marks_id (judged text)) unmarked tells)
+form_id forms.SetId text tells unmarked n d c is = absurd (both_ways (marks_id (judged text)) unmarked (deep_marks (judged text) tells))
+form_id forms.Id text tells unmarked n d c is = absurd (both_ways (marks_id (judged text)) unmarked tells)
 form_id _ text tells unmarked n d c is = is
 
-said_id : (text : List ℕ) (said : Option Said) → Fitted text said → marks_id text ≡ false → (is_binary : Bool) (schema : List ℕ) (t : Tables) (s : Session) (n : ℕ) → says said is_binary schema t (with_id n s) ≡ ran_with n (says said is_binary schema t s)
+said_id : (text : List ℕ) (said : Option Said) → Fitted text said → marks_id (judged text) ≡ false → (is_binary : Bool) (schema : List ℕ) (t : Tables) (s : Session) (n : ℕ) → says said is_binary schema t (with_id n s) ≡ ran_with n (says said is_binary schema t s)
 said_id text None fits unmarked is_binary schema t s n = refl
 said_id text (Some said) fits unmarked is_binary schema t s n =
     let c = scene t s schema in
@@ -227,7 +228,7 @@ settings_id : (on : Bool) (s : Session) (n : ℕ) → with_settings on (with_id 
 settings_id true s n = refl
 settings_id false s n = refl
 
-effect_id : (e : Effect) (text : List ℕ) → marks_id text ≡ false → (b : Option Binding) (is_binary : Bool) (schema : List ℕ) (t : Tables) (s : Session) (n : ℕ) → by_effect e text b is_binary schema t (with_id n s) ≡ ran_with n (by_effect e text b is_binary schema t s)
+effect_id : (e : Effect) (text : List ℕ) → marks_id (judged text) ≡ false → (b : Option Binding) (is_binary : Bool) (schema : List ℕ) (t : Tables) (s : Session) (n : ℕ) → by_effect e text b is_binary schema t (with_id n s) ≡ ran_with n (by_effect e text b is_binary schema t s)
 effect_id (Tracked changes) text unmarked b is_binary schema t s n = settings_id (turns_on changes s) (record s { settings = applied s.settings changes }) n
 effect_id (Uses chosen) text unmarked b is_binary schema t s n = refl
 effect_id Neither text unmarked b is_binary schema t s n = said_id text (said_in text b) (fitted text b) unmarked is_binary schema t s n

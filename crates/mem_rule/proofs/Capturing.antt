@@ -1,5 +1,5 @@
 -- The two texts by which the insert id is set and read.
-use Rattle.std.specs.Prelude.{◌≡◌, ℕ, ◌+◌, ◌^◌, ◌<◌, false, List, [], ◌∷◌, ◌++◌, codes, decimal, length, Option, None, Some}
+use Rattle.std.specs.Prelude.{◌≡◌, ℕ, ◌+◌, ◌^◌, ◌<◌, false, List, [], ◌∷◌, ◌++◌, codes, decimal, length, slice_get, Option, None, Some}
 use Rattle.std.proofs.Common.{refl, sym, ap, ◌∙◌, subst, inl, append-nil}
 use Rattle.std.specs.Option.{option_map}
 use Rattle.mx_base.specs.Pieces.{pieces}
@@ -9,16 +9,18 @@ use Rattle.sql_tokens.specs.Numbers.{decimal_length, exponent_length, fraction_l
 use Rattle.sql_tokens.specs.Quotes.{begins_name, begins_quoted, quoted_length}
 use Rattle.sql_tokens.specs.Tokens.{plain_token_at, token_at, tokens_behind, tokens_from, tokens_of}
 use Rattle.sql_tokens.specs.Variables.{system_variable_length, variable_name_length}
-use Rattle.sql_tokens.specs.Words.{bytes_of}
+use Rattle.sql_tokens.specs.Words.{bytes_of, same_text}
 use Rattle.sql_tokens.specs.declared.token.Token.{Token}
 use Rattle.sql_tokens.specs.declared.token.TokenKind.TheVariants.{Number, Symbol, Word}
 use Rattle.session_state.specs.Classes.{Effect, Neither, effect_in, effect_of, set_effect}
 use Rattle.session_vars.proofs.Pieces.{At, at_end, behind, past_blank, said, scanned, token_of}
 use Rattle.session_vars.proofs.Rules.{IsOrdinary, number_piece, symbol_piece, word_piece}
+use Rattle.session_vars.specs.Shapes.{set_shape}
 use Rattle.session_vars.specs.declared.shape.SetShape.TheVariants.{Other}
 use Rattle.pin_classifier.proofs.Sets.{shape_of_set}
 use Rattle.pin_classifier.specs.Classes.{class_of}
-use Rattle.pin_classifier.specs.Shapes.{set_in, shape_of}
+use Rattle.pin_classifier.specs.Judged.{judged}
+use Rattle.pin_classifier.specs.Shapes.{is_there, set_in, shape_of}
 use Rattle.pin_classifier.specs.Statement.{statement}
 use Rattle.pin_classifier.specs.declared.class.Shape.{Shape}
 use Rattle.pin_classifier.specs.declared.class.Shape.TheVariants as shapes
@@ -35,9 +37,10 @@ use Rattle.mem_rule.specs.declared.did.Said.{Said}
 use Rattle.mem_rule.specs.declared.form.Form.{Form}
 use Rattle.mem_rule.specs.declared.form.Form.TheVariants as forms
 use Rattle.mem_rule.proofs.Spelling.{number_again, number_text}
-use Rattle.mem_rule.proofs.Taking.{Found, HasForm, all_found}
-use Rattle.mem_rule.proofs.Telling.{no_effect, starts, there_first}
+use Rattle.mem_rule.proofs.Taking.{Found, HasForm, all_found, pieces_of}
+use Rattle.mem_rule.proofs.Telling.{head_of, no_effect, starts, there_first}
 use Rattle.mem_rule.proofs.Unscoped.{other_shape}
+use Rattle.mem_rule.proofs.Whole.{whole}
 
 -- The tokens of the first.
 
@@ -96,7 +99,7 @@ by_shape shapes.Other is = refl
 
 its_effect : (text : List ℕ) → HasForm text forms.SetId → effect_of (class_of text) ≡ Neither
 unfolding class_of
-its_effect text has = by_shape (shape_of text) (shape_of_set text ∙ other_shape text has)
+its_effect text has = by_shape (shape_of (judged text)) (shape_of_set (judged text) ∙ ap set_shape (whole text forms.SetId has) ∙ other_shape text has)
 
 it_says : (id : ℕ) → Said
 it_says id = record { form = forms.SetId; id = id; name = []; text = [] }
@@ -128,6 +131,6 @@ unfolding ran
 reading t s =
     let text = read_id_text in
     let has : HasForm text forms.Id = subst (Found text) read_form (all_found text all_forms) in
-    let first = λ (word : List ℕ). there_first text (statement text) word ∙ starts text forms.Id has word in
+    let first = λ (word : List ℕ). subst (λ one. is_there one (slice_get (statement one) 0) word ≡ same_text (head_of (pieces_of forms.Id)) word) (sym (whole text forms.Id has)) (there_first text (statement text) word ∙ starts text forms.Id has word) in
     ap (λ (e : Effect). by_effect e text None false s.schema t s) (no_effect text (first (codes "SET")) (first (codes "USE")))
     ∙ ap (λ found. says (found >>= said_with None) false s.schema t s) read_form

@@ -21,3 +21,4 @@ mod Telling
 mod Tracking
 mod Unlocking
 mod Unscoped
+mod Whole

@@ -10,6 +10,7 @@ use Rattle.session_state.specs.Endings.{brings_id, is_err, is_ok, is_ok_kind}
 use Rattle.session_state.specs.declared.reply_end.EndKind.TheVariants.{Ok}
 use Rattle.session_state.specs.declared.reply_end.ReplyEnd.{ReplyEnd}
 use Rattle.pin_classifier.specs.Classes.{class_of, is_deep}
+use Rattle.pin_classifier.specs.Judged.{judged}
 use Rattle.server_rule.proofs.Blind.{blind_same}
 use Rattle.server_rule.specs.Classes.{router_reads}
 use Rattle.server_rule.specs.Laws.{IdLaw}
@@ -105,25 +106,25 @@ of_number _ d c = refl
 ok_brings : (end : ReplyEnd) (id : ℕ) → end.kind ≡ Ok → end.insert_id ≡ id + 1 → brings_id end ≡ true
 ok_brings end id kind is = or_right (is_err end) _ (and_from (is_ok end) (nat_lt 0 end.insert_id) (ap is_ok_kind kind) (ap (nat_lt 0) is ∙ lt-ltb 0 (id + 1) (omega arith)))
 
-form_number : (form : Form) (text : List ℕ) → Tells form text → is_deep text ≡ false → (c : Scene) (did : Did) → Numbers form c did → (is_binary : Bool) (n : ℕ) → brings_id (reply_end false (payloads_of is_binary n did.answer)) ≡ false → did.last_id ≡ c.last_id
+form_number : (form : Form) (text : List ℕ) → Tells form text → is_deep (judged text) ≡ false → (c : Scene) (did : Did) → Numbers form c did → (is_binary : Bool) (n : ℕ) → brings_id (reply_end false (payloads_of is_binary n did.answer)) ≡ false → did.last_id ≡ c.last_id
 form_number forms.Insert text tells shallow c did (inl same) is_binary n none = same
 form_number forms.Insert text tells shallow c did (inr (id, small, done)) is_binary n none =
     let brings = ok_brings (reply_end false (payloads_of is_binary n (Done 1 (id + 1)))) id (ok_kind n 1 (id + 1)) (ok_shows_id n 1 (id + 1) (omega arith) small) in
     absurd (both_ways _ none (ap (λ answer. brings_id (reply_end false (payloads_of is_binary n answer))) done ∙ brings))
-form_number forms.SetId text tells shallow c did numbers is_binary n none = absurd (both_ways (is_deep text) shallow tells)
+form_number forms.SetId text tells shallow c did numbers is_binary n none = absurd (both_ways (is_deep (judged text)) shallow tells)
 form_number _ text tells shallow c did numbers is_binary n none = numbers
 
 abbrev KeepsId : Session → Ran → Type 0
 KeepsId s r = brings_id (reply_end false r.reply) ≡ false → r.session.last_id ≡ s.last_id
 
-said_number : (text : List ℕ) (said : Option Said) → Fitted text said → is_deep text ≡ false → (is_binary : Bool) (schema : List ℕ) (t : Tables) (s : Session) → KeepsId s (says said is_binary schema t s)
+said_number : (text : List ℕ) (said : Option Said) → Fitted text said → is_deep (judged text) ≡ false → (is_binary : Bool) (schema : List ℕ) (t : Tables) (s : Session) → KeepsId s (says said is_binary schema t s)
 said_number text None fits shallow is_binary schema t s none = refl
 said_number text (Some said) fits shallow is_binary schema t s none =
     let c = scene t s schema in
     let did = does said.form said c in
     form_number said.form text (told text said.form fits) shallow c did (of_number said.form said c) is_binary (status did.tx s.settings) none
 
-effect_number : (e : Effect) (text : List ℕ) → is_deep text ≡ false → (b : Option Binding) (is_binary : Bool) (schema : List ℕ) (t : Tables) (s : Session) → KeepsId s (by_effect e text b is_binary schema t s)
+effect_number : (e : Effect) (text : List ℕ) → is_deep (judged text) ≡ false → (b : Option Binding) (is_binary : Bool) (schema : List ℕ) (t : Tables) (s : Session) → KeepsId s (by_effect e text b is_binary schema t s)
 effect_number (Tracked changes) text shallow b is_binary schema t s none = (kept s changes).last_id
 effect_number (Uses chosen) text shallow b is_binary schema t s none = refl
 effect_number Neither text shallow b is_binary schema t s none = said_number text (said_in text b) (fitted text b) shallow is_binary schema t s none

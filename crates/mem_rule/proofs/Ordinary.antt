@@ -12,6 +12,7 @@ use Rattle.session_vars.specs.Shapes.{set_shape}
 use Rattle.session_vars.specs.Statement.{says_first}
 use Rattle.session_vars.proofs.First.{other_statement}
 use Rattle.sql_tokens.specs.Words.{same_text}
+use Rattle.pin_classifier.specs.Judged.{judged}
 use Rattle.pin_classifier.specs.Statement.{statement}
 use Rattle.server_rule.specs.Classes.{router_reads}
 use Rattle.server_rule.specs.Laws.{TextLaw}
@@ -45,6 +46,7 @@ use Rattle.mem_rule.proofs.Running.{of_run}
 use Rattle.mem_rule.proofs.Taking.{Fitted, fitted, pieces_of}
 use Rattle.mem_rule.proofs.Telling.{head_of, starts}
 use Rattle.mem_rule.proofs.Tracking.{kept}
+use Rattle.mem_rule.proofs.Whole.{whole}
 
 -- Schema and settings.
 
@@ -106,7 +108,7 @@ of_locks forms.LockTables d c = locks_fault (table_fault (place c)) c _ (locks_o
 of_locks _ d c = refl
 
 form_locks : (form : Form) (text : List ℕ) → Tells form text → (c : Scene) → c.locks ≡ [] → (did : Did) → Leaves form c did → (is_binary : Bool) (n : ℕ)
-    → (takes_by (locking_of (first text) (second text)) && not (is_err (reply_end false (payloads_of is_binary n did.answer)))) ≡ false → did.locks ≡ []
+    → (takes_by (locking_of (first (judged text)) (second (judged text))) && not (is_err (reply_end false (payloads_of is_binary n did.answer)))) ≡ false → did.locks ≡ []
 form_locks forms.LockTables text tells c none did (inl same) is_binary n free = same ∙ none
 form_locks forms.LockTables text tells c none did (inr done) is_binary n free =
     let reply : is_err (reply_end false (payloads_of is_binary n did.answer)) ≡ false = ap (λ answer. is_err (reply_end false (payloads_of is_binary n answer))) done ∙ ap is_err_kind (ok_kind n 0 0) in
@@ -115,7 +117,7 @@ form_locks forms.UnlockTables text tells c none did leaves is_binary n free = le
 form_locks _ text tells c none did leaves is_binary n free = leaves ∙ none
 
 said_locks : (text : List ℕ) (said : Option Said) → Fitted text said → (is_binary : Bool) (schema : List ℕ) (t : Tables) (s : Session) → s.locks ≡ []
-    → (takes_by (locking_of (first text) (second text)) && not (is_err (reply_end false (says said is_binary schema t s).reply))) ≡ false → (says said is_binary schema t s).session.locks ≡ []
+    → (takes_by (locking_of (first (judged text)) (second (judged text))) && not (is_err (reply_end false (says said is_binary schema t s).reply))) ≡ false → (says said is_binary schema t s).session.locks ≡ []
 said_locks text None fits is_binary schema t s none free = none
 said_locks text (Some said) fits is_binary schema t s none free =
     let c = scene t s schema in
@@ -190,13 +192,13 @@ of_deep forms.Lock d c is = tt
 of_deep forms.LockTables d c is = fault_deep (table_fault (place c)) c _ (locks_deep (place c) c)
 of_deep _ d c is = refl
 
-form_deep : (form : Form) (text : List ℕ) → Tells form text → is_deep text ≡ false → (c : Scene) (did : Did) → Deepens form c did → did.deep ≡ c.deep
-form_deep forms.CreateTemporary text tells shallow c did deepens = absurd (both_ways (is_deep text) shallow tells)
-form_deep forms.SetVariable text tells shallow c did deepens = absurd (both_ways (is_deep text) shallow tells)
-form_deep forms.Lock text tells shallow c did deepens = absurd (both_ways (is_deep text) shallow tells)
+form_deep : (form : Form) (text : List ℕ) → Tells form text → is_deep (judged text) ≡ false → (c : Scene) (did : Did) → Deepens form c did → did.deep ≡ c.deep
+form_deep forms.CreateTemporary text tells shallow c did deepens = absurd (both_ways (is_deep (judged text)) shallow tells)
+form_deep forms.SetVariable text tells shallow c did deepens = absurd (both_ways (is_deep (judged text)) shallow tells)
+form_deep forms.Lock text tells shallow c did deepens = absurd (both_ways (is_deep (judged text)) shallow tells)
 form_deep _ text tells shallow c did deepens = deepens
 
-said_deep : (text : List ℕ) (said : Option Said) → Fitted text said → is_deep text ≡ false → (is_binary : Bool) (schema : List ℕ) (t : Tables) (s : Session) → s.deep ≡ [] → (says said is_binary schema t s).session.deep ≡ s.deep
+said_deep : (text : List ℕ) (said : Option Said) → Fitted text said → is_deep (judged text) ≡ false → (is_binary : Bool) (schema : List ℕ) (t : Tables) (s : Session) → s.deep ≡ [] → (says said is_binary schema t s).session.deep ≡ s.deep
 said_deep text None fits shallow is_binary schema t s none = refl
 said_deep text (Some said) fits shallow is_binary schema t s none =
     let c = scene t s schema in form_deep said.form text (told text said.form fits) shallow c (does said.form said c) (of_deep said.form said c (here c none))
@@ -207,7 +209,7 @@ effect_deep (Uses chosen) text b is_binary schema t s said = refl
 effect_deep Neither text b is_binary schema t s said = said
 
 -- a text that isn't deep leaves nothing deep where nothing is
-shallow_stays : (text : List ℕ) → is_deep text ≡ false → (t : Tables) (s : Session) → s.deep ≡ [] → (b : Option Binding) (is_binary : Bool) (schema : List ℕ) → (on_text text b is_binary schema t s).session.deep ≡ []
+shallow_stays : (text : List ℕ) → is_deep (judged text) ≡ false → (t : Tables) (s : Session) → s.deep ≡ [] → (b : Option Binding) (is_binary : Bool) (schema : List ℕ) → (on_text text b is_binary schema t s).session.deep ≡ []
 shallow_stays text shallow t s none b is_binary schema = effect_deep (effect_of (class_of text)) text b is_binary schema t s (said_deep text (said_in text b) (fitted text b) shallow is_binary schema t s none) ∙ none
 
 -- a session that is taken and has no more than a brief one has nothing deep
@@ -224,17 +226,17 @@ begins_set text next =
       | inr isnt ↦ absurd (both_ways (is_next_transaction (set_shape text)) (ap is_next_transaction (other_statement text isnt)) next)
     ]
 
-set_deep : (form : Form) (text : List ℕ) → Tells form text → same_text (head_of (pieces_of form)) (codes "SET") ≡ true → is_deep text ≡ true
+set_deep : (form : Form) (text : List ℕ) → Tells form text → same_text (head_of (pieces_of form)) (codes "SET") ≡ true → is_deep (judged text) ≡ true
 set_deep forms.SetVariable text tells is = tells
 set_deep forms.SetId text tells is = tells
 set_deep _ text tells is = absurd (cc)
 
-said_unset : (text : List ℕ) (said : Option Said) → Fitted text said → is_deep text ≡ false → says_first text (statement text) (codes "SET") ≡ true → (is_binary : Bool) (schema : List ℕ) (t : Tables) (s : Session) → (says said is_binary schema t s).session.deep ≡ s.deep
+said_unset : (text : List ℕ) (said : Option Said) → Fitted text said → is_deep (judged text) ≡ false → says_first (judged text) (statement (judged text)) (codes "SET") ≡ true → (is_binary : Bool) (schema : List ℕ) (t : Tables) (s : Session) → (says said is_binary schema t s).session.deep ≡ s.deep
 said_unset text None fits shallow is is_binary schema t s = refl
-said_unset text (Some said) fits shallow is is_binary schema t s = absurd (both_ways (is_deep text) shallow (set_deep said.form text (told text said.form fits) (sym (starts text said.form fits (codes "SET")) ∙ is)))
+said_unset text (Some said) fits shallow is is_binary schema t s = absurd (both_ways (is_deep (judged text)) shallow (set_deep said.form text (told text said.form fits) (sym (starts text said.form fits (codes "SET")) ∙ subst (λ one. says_first one (statement one) (codes "SET") ≡ true) (whole text said.form fits) is)))
 
-unset_stays : (text : List ℕ) → is_deep text ≡ false → is_next_transaction (set_shape text) ≡ true → (t : Tables) (s : Session) (b : Option Binding) (is_binary : Bool) (schema : List ℕ) → (on_text text b is_binary schema t s).session.deep ≡ s.deep
-unset_stays text shallow next t s b is_binary schema = effect_deep (effect_of (class_of text)) text b is_binary schema t s (said_unset text (said_in text b) (fitted text b) shallow (begins_set text next) is_binary schema t s)
+unset_stays : (text : List ℕ) → is_deep (judged text) ≡ false → is_next_transaction (set_shape (judged text)) ≡ true → (t : Tables) (s : Session) (b : Option Binding) (is_binary : Bool) (schema : List ℕ) → (on_text text b is_binary schema t s).session.deep ≡ s.deep
+unset_stays text shallow next t s b is_binary schema = effect_deep (effect_of (class_of text)) text b is_binary schema t s (said_unset text (said_in text b) (fitted text b) shallow (begins_set (judged text) next) is_binary schema t s)
 
 pub ordinary : TextLaw router_reads tests step
 unfolding step router_reads class_of

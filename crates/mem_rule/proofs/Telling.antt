@@ -1,7 +1,7 @@
 -- What the form of a text tells of its class.
 use Rattle.std.specs.Prelude.{◌≡◌, ℕ, Bool, true, false, not, ◌&&◌, ◌||◌, nat_eq, bytes_eq, List, [], ◌∷◌, codes, length, map, slice_get, Option, None, Some, if◌then◌else◌}
 use Rattle.std.proofs.Common.{refl, sym, ap, ◌∙◌}
-use Rattle.std.proofs.lemmas.Bool.{cond-true, cond-false, and_from, and_left, or_left, or_right}
+use Rattle.std.proofs.lemmas.Bool.{cond-true, cond-false, and_from, and_left, or_from, or_left, or_right}
 use Rattle.std.specs.Char.{to_ascii_lowercase}
 use Rattle.std.specs.Cmp.Lexicographic.{bytes_decides}
 use Rattle.std.specs.List.{list_any}
@@ -12,10 +12,11 @@ use Rattle.sql_tokens.specs.declared.token.TokenKind.TheVariants as kinds
 use Rattle.session_state.specs.Classes.{Neither, effect_in, effect_of}
 use Rattle.session_vars.proofs.First.{no_symbol}
 use Rattle.session_vars.specs.Statement.{says_first}
-use Rattle.pin_classifier.specs.Classes.{class_of, first, is_deep, is_deep_inside, is_deep_start, locking_of, makes_temporary, marks_id, reads_diagnostics, reads_id, second}
+use Rattle.pin_classifier.specs.Classes.{class_of, first, is_deep, is_deep_inside, is_deep_start, locking_of, makes_temporary, marks_id, reads_diagnostics, reads_id, second, spares_variables}
 use Rattle.pin_classifier.specs.Functions.{calls_any, names_session_function}
+use Rattle.pin_classifier.specs.Judged.{judged}
 use Rattle.pin_classifier.specs.Shapes.{asks_connection_id, is_end, is_there, shape_of, use_or_other, used_schema}
-use Rattle.pin_classifier.specs.Starts.{locks_tables, makes_id, names_tables, shows_diagnostics}
+use Rattle.pin_classifier.specs.Starts.{defines, locks_tables, makes_id, names_accounts, names_tables, shows_diagnostics, stores}
 use Rattle.pin_classifier.specs.Statement.{first_word, has_user_variable, has_word, is_quoted, is_user_variable, neighbours, next_word, statement}
 use Rattle.pin_classifier.specs.declared.class.Locking.TheVariants.{Takes as Locks}
 use Rattle.pin_classifier.specs.declared.class.Shape.TheVariants.{ConnectionId}
@@ -79,16 +80,17 @@ neither : (asks : Bool) (schema : Option (List ℕ)) → schema ≡ None → eff
 neither true schema none = refl
 neither false schema none = ap (λ used. effect_in (use_or_other used)) none
 
-pub no_effect : (text : List ℕ) → is_there text (slice_get (statement text) 0) (codes "SET") ≡ false → is_there text (slice_get (statement text) 0) (codes "USE") ≡ false → effect_of (class_of text) ≡ Neither
+pub no_effect : (text : List ℕ) → is_there (judged text) (slice_get (statement (judged text)) 0) (codes "SET") ≡ false → is_there (judged text) (slice_get (statement (judged text)) 0) (codes "USE") ≡ false → effect_of (class_of text) ≡ Neither
 unfolding class_of shape_of used_schema
 no_effect text no_set no_use =
-    let tokens = statement text in
-    let uses = is_there text (slice_get tokens 0) (codes "USE") && is_end text (slice_get tokens 2) (slice_get tokens 3) in
-    ap effect_in (cond-false (is_there text (slice_get tokens 0) (codes "SET")) _ _ no_set) ∙ neither (asks_connection_id text tokens) (used_schema text tokens) (cond-false uses _ _ (and_left _ _ no_use))
+    let inner = judged text in
+    let tokens = statement inner in
+    let uses = is_there inner (slice_get tokens 0) (codes "USE") && is_end inner (slice_get tokens 2) (slice_get tokens 3) in
+    ap effect_in (cond-false (is_there inner (slice_get tokens 0) (codes "SET")) _ _ no_set) ∙ neither (asks_connection_id inner tokens) (used_schema inner tokens) (cond-false uses _ _ (and_left _ _ no_use))
 
 -- The second one.
 
-by_second : (text : List ℕ) (tokens : List Token) (a b : List ℕ) (pieces : List (List ℕ)) → is_word_piece b ≡ true → Takes text tokens (a ∷ b ∷ pieces) → (word : List ℕ) → is_word (next_word text (slice_get tokens 1)) word ≡ same_text b word
+pub by_second : (text : List ℕ) (tokens : List Token) (a b : List ℕ) (pieces : List (List ℕ)) → is_word_piece b ≡ true → Takes text tokens (a ∷ b ∷ pieces) → (word : List ℕ) → is_word (next_word text (slice_get tokens 1)) word ≡ same_text b word
 by_second text [] a b pieces is takes word = absurd takes
 by_second text (one ∷ []) a b pieces is takes word = absurd takes.1
 by_second text (one ∷ two ∷ tokens) a b pieces is takes word = said_as (word_of text two) b (says_piece text b two is takes.1.0) word
@@ -150,7 +152,7 @@ locks_by_name text has =
     let call = calls_second text (statement text) (codes "SELECT") (codes "GET_LOCK") (codes "<x>" ∷ codes "," ∷ codes "0" ∷ codes ")" ∷ []) refl (stated text forms.Lock has) names_session_function is_function in
     deep_inside text (or_left _ _ (or_left _ _ (or_left _ _ (or_right _ _ call))))
 
-names_by : (kind : TokenKind) (text : List ℕ) (token : Token) → is_taken (captured_by kind text (codes "<a>") token) ≡ true → is_user_variable kind ≡ true
+pub names_by : (kind : TokenKind) (text : List ℕ) (token : Token) → is_taken (captured_by kind text (codes "<a>") token) ≡ true → is_user_variable kind ≡ true
 names_by kinds.UserVar text token is = refl
 names_by kinds.Symbol text token is = asks (bytes_eq (bytes_of text token) (codes "?")) is
   where
@@ -169,10 +171,20 @@ hides_second text (one ∷ []) a pieces is takes = absurd takes.1
 hides_second text (one ∷ two ∷ tokens) a pieces is takes =
     or_left _ _ (and_from _ _ (names_by two.kind text two takes.1.0) (no_account one.kind (bytes_of text one) a (says_piece text a one is takes.0)))
 
+-- a SET names no accounts and stores nothing
+unspared : (text : List ℕ) → HasForm text forms.SetVariable → not (spares_variables text) ≡ true
+unfolding spares_variables names_accounts stores defines
+unspared text has =
+    let isnt = first_is text forms.SetVariable has in
+    let defines_none = or_from _ _ (or_from _ _ (or_from _ _ (isnt (codes "CREATE")) (isnt (codes "ALTER"))) (isnt (codes "DROP"))) (isnt (codes "RENAME")) in
+    let no_account = or_from _ _ (or_from _ _ (or_from _ _ (isnt (codes "GRANT")) (isnt (codes "REVOKE"))) (and_left _ _ defines_none)) (and_left _ _ (isnt (codes "SHOW"))) in
+    ap not (or_from _ _ no_account (and_left _ _ (and_left _ _ defines_none)))
+
 pub sets_variable : (text : List ℕ) → HasForm text forms.SetVariable → is_deep text ≡ true
 unfolding is_deep_inside
 sets_variable text has =
-    deep_inside text (or_left _ _ (or_left _ _ (or_left _ _ (or_left _ _ (or_right _ _ (hides_second text (statement text) (codes "SET") (codes "=" ∷ codes "<n>" ∷ []) refl (stated text forms.SetVariable has)))))))
+    let hides = hides_second text (statement text) (codes "SET") (codes "=" ∷ codes "<n>" ∷ []) refl (stated text forms.SetVariable has) in
+    deep_inside text (or_left _ _ (or_left _ _ (or_left _ _ (or_left _ _ (or_right _ _ (and_from _ _ hides (unspared text has)))))))
 
 has_second : (text : List ℕ) (tokens : List Token) (a b : List ℕ) (pieces : List (List ℕ)) → is_word_piece b ≡ true → Takes text tokens (a ∷ b ∷ pieces) → has_word text tokens b ≡ true
 has_second text [] a b pieces is takes = absurd takes

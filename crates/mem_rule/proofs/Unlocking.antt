@@ -7,6 +7,7 @@ use Rattle.sql_tokens.specs.declared.token.Token.{Token}
 use Rattle.session_state.specs.Classes.{Effect, Neither, effect_of, frees_by, frees_locks}
 use Rattle.session_state.specs.Endings.{is_ok}
 use Rattle.pin_classifier.specs.Classes.{class_of, first, locking_of, second}
+use Rattle.pin_classifier.specs.Judged.{judged}
 use Rattle.pin_classifier.specs.Shapes.{is_there}
 use Rattle.pin_classifier.specs.Starts.{locks_tables, names_tables, unlocks_tables}
 use Rattle.pin_classifier.specs.Statement.{first_word, statement}
@@ -29,6 +30,7 @@ use Rattle.mem_rule.proofs.Endings.{err_isnt_ok}
 use Rattle.mem_rule.proofs.Running.{of_run}
 use Rattle.mem_rule.proofs.Taking.{Fitted, fitted, pieces_of}
 use Rattle.mem_rule.proofs.Telling.{first_is, head_of, no_effect, said_as}
+use Rattle.mem_rule.proofs.Whole.{whole}
 
 -- The class frees locks: its text begins with UNLOCK, and so it is neither a SET nor USE.
 
@@ -49,8 +51,8 @@ there_as text (Some token) is word =
       | inr isnt ↦ said_as (word_of text token) (codes "UNLOCK") (sym (ap (λ named. is_word named (codes "UNLOCK")) (cond-false (is_symbol text token 40) (Some (codes "SELECT")) (word_of text token) isnt)) ∙ is) word
     ]
 
-no_change : (text : List ℕ) → is_word (first text) (codes "UNLOCK") ≡ true → effect_of (class_of text) ≡ Neither
-no_change text is = let there = there_as text (slice_get (statement text) 0) is in no_effect text (there (codes "SET")) (there (codes "USE"))
+no_change : (text : List ℕ) → is_word (first (judged text)) (codes "UNLOCK") ≡ true → effect_of (class_of text) ≡ Neither
+no_change text is = let there = there_as (judged text) (slice_get (statement (judged text)) 0) is in no_effect text (there (codes "SET")) (there (codes "USE"))
 
 -- What it does.
 
@@ -58,15 +60,15 @@ by_form : (form : Form) → same_text (head_of (pieces_of form)) (codes "UNLOCK"
 by_form forms.UnlockTables is d c = refl
 by_form _ is d c = absurd (cc)
 
-by_said : (text : List ℕ) (said : Option Said) → Fitted text said → is_word (first text) (codes "UNLOCK") ≡ true → (is_binary : Bool) (schema : List ℕ) (t : Tables) (s : Session)
+by_said : (text : List ℕ) (said : Option Said) → Fitted text said → is_word (first (judged text)) (codes "UNLOCK") ≡ true → (is_binary : Bool) (schema : List ℕ) (t : Tables) (s : Session)
     → is_ok (reply_end false (says_it said is_binary schema t s).reply) ≡ true → (says_it said is_binary schema t s).session.locks ≡ []
 by_said text None fits is is_binary schema t s ok = absurd (both_ways _ (err_isnt_ok faults.Syntax) ok)
-by_said text (Some said) fits is is_binary schema t s ok = by_form said.form (sym (first_is text said.form fits (codes "UNLOCK")) ∙ is) said (scene t s schema)
+by_said text (Some said) fits is is_binary schema t s ok = by_form said.form (sym (first_is text said.form fits (codes "UNLOCK")) ∙ subst (λ one. is_word (first one) (codes "UNLOCK") ≡ true) (whole text said.form fits) is) said (scene t s schema)
 
 abbrev IsFree : Ran → Type 0
 IsFree r = is_ok (reply_end false r.reply) ≡ true → r.session.locks ≡ []
 
-of_text : (text : List ℕ) → is_word (first text) (codes "UNLOCK") ≡ true → (binding : Option Binding) (is_binary : Bool) (schema : List ℕ) (t : Tables) (s : Session) → IsFree (on_text text binding is_binary schema t s)
+of_text : (text : List ℕ) → is_word (first (judged text)) (codes "UNLOCK") ≡ true → (binding : Option Binding) (is_binary : Bool) (schema : List ℕ) (t : Tables) (s : Session) → IsFree (on_text text binding is_binary schema t s)
 of_text text is binding is_binary schema t s =
     subst (λ (e : Effect). IsFree (by_effect e text binding is_binary schema t s)) (sym (no_change text is)) (by_said text (said_in text binding) (fitted text binding) is is_binary schema t s)
 
@@ -76,8 +78,8 @@ FreesIt text r = frees_locks (class_of text) (reply_end false r.reply) ≡ true 
 freed : (text : List ℕ) (binding : Option Binding) (is_binary : Bool) (schema : List ℕ) (t : Tables) (s : Session) → FreesIt text (on_text text binding is_binary schema t s)
 unfolding class_of
 freed text binding is_binary schema t s frees =
-    let both = and_parts (frees_by (locking_of (first text) (second text))) (is_ok (reply_end false (on_text text binding is_binary schema t s).reply)) frees in
-    of_text text (unlocks (first text) (second text) both.0) binding is_binary schema t s both.1
+    let both = and_parts (frees_by (locking_of (first (judged text)) (second (judged text)))) (is_ok (reply_end false (on_text text binding is_binary schema t s).reply)) frees in
+    of_text text (unlocks (first (judged text)) (second (judged text)) both.0) binding is_binary schema t s both.1
 
 pub unlocking : UnlockLaw router_reads tests step
 unfolding step router_reads

@@ -6,7 +6,7 @@ use Rattle.pin_classifier.specs.Passing.{callee, is_quoted_call, is_release, is_
 use Rattle.pin_classifier.specs.WordLists.{is_any}
 use Rattle.pin_classifier.specs.declared.word_list.WordList.TheVariants as lists
 use Rattle.pin_classifier.specs.Functions.{calls_any, has_call_of, names_session_function}
-use Rattle.pin_classifier.specs.Statement.{calls, calls_quoted, has_call, has_variable, has_word, is_from, is_hidden, is_part, is_unread, is_variable_behind, is_wide_name, releases, variable_of}
+use Rattle.pin_classifier.specs.Statement.{calls, calls_quoted, has_call, has_variable, has_word, is_from, is_part, is_unread, is_variable_behind, is_wide_name, releases, variable_of}
 use Rattle.pin_classifier.specs.declared.seen.Seen.{Seen}
 use Rattle.pin_classifier.proofs.Anywhere.{seen_token, seen_pair, callee_is, callee_passes}
 use Rattle.pin_classifier.proofs.Firsts.{opening_seen}
@@ -35,7 +35,6 @@ seen_is text tokens =
     let variable : (field : Seen → Bool) (part : List ℕ) → ((seen : Seen) (before : Option Token) (token : Token) → field (with_next text seen before token) ≡ (field seen || is_part (variable_of text token) part)) → field nothing ≡ false → field (seen_behind text nothing None tokens) ≡ has_variable text tokens part = λ field part step none. variable_seen text field part step none tokens in
     λ i. record {
       opening = opening_seen text nothing None tokens refl i;
-      hidden = seen_token text (λ seen. seen.hidden) (is_hidden text) nothing (λ _ _ _. refl) refl tokens i;
       unread = seen_token text (λ seen. seen.unread) (is_unread text) nothing (λ _ _ _. refl) refl tokens i;
       calls = record {
         session_function = call_of (λ seen. seen.calls.session_function) names_session_function refl (λ _ _ _. refl) refl i;

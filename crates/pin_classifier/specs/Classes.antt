@@ -7,17 +7,19 @@ use Rattle.session_vars.specs.declared.shape.SetShape.{SetShape}
 use Rattle.session_vars.specs.declared.shape.SetShape.TheVariants.{Global, NextTransaction, Other}
 use Rattle.pin_classifier.specs.WordLists.{is_any}
 use Rattle.pin_classifier.specs.declared.word_list.WordList.TheVariants as lists
+use Rattle.pin_classifier.specs.Diagnostics.{has_any}
 use Rattle.pin_classifier.specs.Functions.{has_call_of, names_session_function}
+use Rattle.pin_classifier.specs.Judged.{judged}
 use Rattle.pin_classifier.specs.Marks.{is_other_blank, stands}
 use Rattle.pin_classifier.specs.Shapes.{is_end, shape_of}
-use Rattle.pin_classifier.specs.Starts.{begins_unknown, analyzes_other, changes_schema, explains, flushes_other, gives_rows, goes_back, returns_rows, shows_connection, starts_other, writes_tables, locks_tables, unlocks_tables, locks_other, ends_transaction, is_savepoint, makes_id, shows_diagnostics}
-use Rattle.pin_classifier.specs.Statement.{statement, first_word, next_word, has_from, has_word, has_call, has_release, has_variable, has_wide_variable, has_hidden, has_unread, has_quoted_call, has_user_variable}
+use Rattle.pin_classifier.specs.Starts.{begins_unknown, analyzes_other, changes_schema, explains, flushes_other, gives_rows, goes_back, returns_rows, shows_connection, starts_other, writes_tables, locks_tables, unlocks_tables, locks_other, ends_transaction, is_savepoint, makes_id, names_accounts, shows_diagnostics, stores, subject}
+use Rattle.pin_classifier.specs.Statement.{statement, first_word, next_word, has_from, has_word, has_call, has_release, has_variable, has_wide_variable, has_unread, has_quoted_call, has_user_variable}
 use Rattle.pin_classifier.specs.declared.class.Class.{Class}
 use Rattle.pin_classifier.specs.declared.class.Locking.{Locking}
 use Rattle.pin_classifier.specs.declared.class.Locking.TheVariants.{None as Neither, Takes, Frees}
 use Rattle.pin_classifier.specs.declared.class.Refusal.{Refusal}
 use Rattle.pin_classifier.specs.declared.class.Refusal.TheVariants.{SetsServer, NamesConnection, ReadsLast}
-use Rattle.pin_classifier.specs.declared.marks.Mark.TheVariants.{GivenId, PreviousValue, ForConnection, BlankInWord, Diagnostic, LastValue, Lasting}
+use Rattle.pin_classifier.specs.declared.marks.Mark.TheVariants.{GivenId, PreviousValue, ForConnection, BlankInWord, Diagnostic, Lasting, Event}
 use Rattle.pin_classifier.specs.declared.class.Shape.{Shape}
 use Rattle.pin_classifier.specs.declared.class.Shape.TheVariants.{ConnectionId, Use}
 
@@ -70,17 +72,23 @@ uses_other text = is_word (first text) (codes "USE") && not (is_use (shape_of te
 unfoldable pub gives_id : (text : List ℕ) → Bool
 gives_id text = has_call text (statement text) (codes "LAST_INSERT_ID") && stands text GivenId
 
--- a server may read it as another statement: it has an executed comment, what isn't closed, a NUL byte, or a word with a
--- byte A0 or FF
+-- a server may read it as another statement: it has an executed comment, what isn't closed, half of a system variable, a NUL byte,
+-- or a word or a variable's name with a byte A0 or FF
 unfoldable pub is_unread_text : (text : List ℕ) → Bool
 is_unread_text text = has_unread text (statement text) || (list_any is_other_blank text && stands text BlankInWord)
+
+-- No user variable lives there: an `@` is part of an account, or stands in what isn't run yet. The times of an event are worked
+-- out at once.
+unfoldable pub spares_variables : (text : List ℕ) → Bool
+spares_variables text =
+    names_accounts (first text) (subject (second text) (third text) (fourth text))
+    || (stores (first text) (subject (second text) (third text) (fourth text)) && not (stands text Event))
 
 -- something in it lives in a session, or can't be read as a server does
 unfoldable pub is_deep_inside : (text : List ℕ) → Bool
 is_deep_inside text =
     is_unread_text text
-    || has_hidden text (statement text)
-    || has_user_variable text (statement text)
+    || (has_user_variable text (statement text) && not (spares_variables text))
     || has_call_of text (statement text) names_session_function
     || has_quoted_call text (statement text)
     || has_wide_variable text (statement text)
@@ -107,6 +115,19 @@ is_deep_start text =
 unfoldable pub is_deep : (text : List ℕ) → Bool
 is_deep text = is_deep_inside text || is_deep_start text || is_other (set_shape text) || uses_other text
 
+-- No reset takes back what a deep one may do that can't be read, isn't known, or sets what lasts or how statements are read.
+unfoldable pub may_last : (text : List ℕ) → Bool
+may_last text =
+    is_unread_text text
+    || begins_unknown text (slice_get (statement text) 0)
+    || begins_other text
+    || flushes_other (first text) (second text)
+    || (is_other (set_shape text) && stands text Lasting)
+
+-- so a session in which it ran is closed, and not reset
+unfoldable pub outlasts : (text : List ℕ) → Bool
+outlasts text = is_deep text && may_last text
+
 -- LOCK TABLES takes locks, UNLOCK TABLES frees them
 unfoldable pub locking_of : (first second : Option (List ℕ)) → Locking
 locking_of first second = if locks_tables first second then Takes else if unlocks_tables first second then Frees else Neither
@@ -124,12 +145,14 @@ marks_id text = reads_id text || is_deep text || makes_id (first text)
 unfoldable pub sets_id : (text : List ℕ) → Bool
 sets_id text = (gives_id text && gives_rows (first text)) || (returns_rows (first text) && has_word text (statement text) (codes "RETURNING"))
 
--- it has words of diagnostics, and may be read as another statement
+-- it has words of diagnostics, and may be read as another statement; or it may run others, and SHOW WARNINGS or its like stands
+-- among them
 unfoldable pub hides_diagnostics : (text : List ℕ) → Bool
-hides_diagnostics text = is_unread_text text && stands text Diagnostic
+hides_diagnostics text = (is_unread_text text && has_any lists.Diagnostics text) || (outlasts text && stands text Diagnostic)
 
 -- it reads what the statement before it left: a call of ROW_COUNT or FOUND_ROWS, SHOW WARNINGS and its like, a variable
--- warning_count or error_count, or one whose name may be read so; where it may be read otherwise, each word of these
+-- warning_count or error_count, or one whose name may be read so; where it may be read otherwise, each word of these; and what
+-- it may run that does
 unfoldable pub reads_diagnostics : (text : List ℕ) → Bool
 reads_diagnostics text =
     has_call text (statement text) (codes "ROW_COUNT")
@@ -163,15 +186,6 @@ keeps_found text = is_unread_text text || not (is_word (first text) (codes "SELE
 unfoldable pub ends_transaction_of : (text : List ℕ) → Bool
 ends_transaction_of text = ends_transaction (first text) && not (is_unread_text text) && not (goes_back (second text) (third text))
 
--- No reset takes back what a deep one may do that can't be read, isn't known, or sets what lasts or how statements are read.
-unfoldable pub may_last : (text : List ℕ) → Bool
-may_last text =
-    is_unread_text text
-    || begins_unknown text (slice_get (statement text) 0)
-    || begins_other text
-    || flushes_other (first text) (second text)
-    || (is_other (set_shape text) && stands text Lasting)
-
 -- it names a connection: KILL, a call of CONNECTION_ID but for SELECT CONNECTION_ID(), a call of a function that names the
 -- session's thread, a variable pseudo_thread_id, EXPLAIN FOR CONNECTION, SHOW EXPLAIN or SHOW ANALYZE
 unfoldable pub names_connection : (text : List ℕ) → Bool
@@ -190,7 +204,7 @@ reads_last text =
     has_call_of text (statement text) (is_any lists.LastFunctions)
     || has_variable text (statement text) (codes "last_gtid")
     || (has_word text (statement text) (codes "VALUE") && stands text PreviousValue)
-    || (is_unread_text text && stands text LastValue)
+    || (is_unread_text text && has_any lists.LastValues text)
 
 -- why it is refused: where it sets something of the whole server, else where it names a connection, else where it reads a
 -- last value
@@ -201,15 +215,15 @@ refusal_of text =
     else if reads_last text then Some ReadsLast
     else None
 
--- the class of a statement
-unfoldable pub class_of : (text : List ℕ) → Class
-class_of text = record {
+-- the class of a statement that has no front
+abbrev pub class_by_itself : (text : List ℕ) → Class
+class_by_itself text = record {
   deep = is_deep text;
   locks = locking_of (first text) (second text);
   next_tx = is_next_transaction (set_shape text);
   savepoint = is_savepoint (first text);
   ends_tx = ends_transaction_of text;
-  outlasts_reset = is_deep text && may_last text;
+  outlasts_reset = outlasts text;
   marks_id = marks_id text;
   sets_id = sets_id text;
   reads_id = reads_id text;
@@ -221,3 +235,7 @@ class_of text = record {
   refusal = refusal_of text;
   shape = shape_of text;
 }
+
+-- the class of a statement: that of the text by which it is judged
+unfoldable pub class_of : (text : List ℕ) → Class
+class_of text = class_by_itself (judged text)

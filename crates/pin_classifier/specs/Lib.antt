@@ -1,8 +1,10 @@
 pub mod Classes
 pub mod Diagnostics
 pub mod Functions
+pub mod Judged
 pub mod Kinds
 pub mod Marks
+pub mod Opened
 pub mod Passing
 pub mod Shapes
 pub mod Sides

@@ -5,7 +5,7 @@ use Rattle.sql_tokens.specs.declared.token.Token.{Token}
 use Rattle.pin_classifier.specs.WordLists.{is_any}
 use Rattle.pin_classifier.specs.declared.word_list.WordList.TheVariants as lists
 use Rattle.pin_classifier.specs.Functions.{has_call_of, names_session_function}
-use Rattle.pin_classifier.specs.Statement.{calls_quoted, has_quoted_call, has_user_variable, has_word, has_call, has_release, has_variable, has_wide_variable, has_hidden, has_unread, has_from, is_from, is_hidden, is_unread, is_part, is_variable_behind, is_wide_name, variable_of}
+use Rattle.pin_classifier.specs.Statement.{calls_quoted, has_quoted_call, has_user_variable, has_word, has_call, has_release, has_variable, has_wide_variable, has_unread, has_from, is_from, is_unread, is_part, is_variable_behind, is_wide_name, variable_of}
 use Rattle.pin_classifier.specs.declared.calls.Calls.{Calls}
 use Rattle.pin_classifier.specs.declared.opening.Opening.{Opening}
 use Rattle.pin_classifier.specs.declared.seen.Seen.{Seen}
@@ -62,11 +62,11 @@ with_variable variables name = record { last_insert_id = variables.last_insert_i
 
 -- what is seen of a statement
 abbrev pub seen_of : (text : List ℕ) → List Token → Seen
-seen_of text tokens = record { opening = opening_of tokens; hidden = has_hidden text tokens; unread = has_unread text tokens; calls = calls_of text tokens; variables = variables_of text tokens; temporary = has_word text tokens (codes "TEMPORARY"); release = has_release text tokens; calc_rows = has_word text tokens (codes "SQL_CALC_FOUND_ROWS"); returning = has_word text tokens (codes "RETURNING"); value = has_word text tokens (codes "VALUE"); from = has_from text tokens; dual = has_word text tokens (codes "DUAL"); into = has_word text tokens (codes "INTO"); quoted_call = has_quoted_call text tokens; user_variable = has_user_variable text tokens }
+seen_of text tokens = record { opening = opening_of tokens; unread = has_unread text tokens; calls = calls_of text tokens; variables = variables_of text tokens; temporary = has_word text tokens (codes "TEMPORARY"); release = has_release text tokens; calc_rows = has_word text tokens (codes "SQL_CALC_FOUND_ROWS"); returning = has_word text tokens (codes "RETURNING"); value = has_word text tokens (codes "VALUE"); from = has_from text tokens; dual = has_word text tokens (codes "DUAL"); into = has_word text tokens (codes "INTO"); quoted_call = has_quoted_call text tokens; user_variable = has_user_variable text tokens }
 
 -- what is seen once a token more went by, behind the one before it
 abbrev pub with_next : (text : List ℕ) → Seen → (before : Option Token) → Token → Seen
-with_next text seen before token = record { opening = with_token seen.opening token; hidden = seen.hidden || is_hidden text token; unread = seen.unread || is_unread text token; calls = with_call seen.calls (callee text before token); variables = with_variable seen.variables (variable_of text token); temporary = seen.temporary || says text token (codes "TEMPORARY"); release = seen.release || is_release text before (word_of text token); calc_rows = seen.calc_rows || says text token (codes "SQL_CALC_FOUND_ROWS"); returning = seen.returning || says text token (codes "RETURNING"); value = seen.value || says text token (codes "VALUE"); from = seen.from || is_from text token; dual = seen.dual || says text token (codes "DUAL"); into = seen.into || says text token (codes "INTO"); quoted_call = seen.quoted_call || is_quoted_call text before token; user_variable = seen.user_variable || is_variable before token }
+with_next text seen before token = record { opening = with_token seen.opening token; unread = seen.unread || is_unread text token; calls = with_call seen.calls (callee text before token); variables = with_variable seen.variables (variable_of text token); temporary = seen.temporary || says text token (codes "TEMPORARY"); release = seen.release || is_release text before (word_of text token); calc_rows = seen.calc_rows || says text token (codes "SQL_CALC_FOUND_ROWS"); returning = seen.returning || says text token (codes "RETURNING"); value = seen.value || says text token (codes "VALUE"); from = seen.from || is_from text token; dual = seen.dual || says text token (codes "DUAL"); into = seen.into || says text token (codes "INTO"); quoted_call = seen.quoted_call || is_quoted_call text before token; user_variable = seen.user_variable || is_variable before token }
 
 abbrev pub seen_behind : (text : List ℕ) → Seen → (before : Option Token) → List Token → Seen
 seen_behind text seen before [] = seen

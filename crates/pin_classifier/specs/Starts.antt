@@ -1,9 +1,11 @@
 -- How statements begin: by their first word, and the word behind it.
-use Rattle.std.specs.Prelude.{ℕ, Bool, false, not, ◌||◌, ◌&&◌, List, [], ◌∷◌, ◌++◌, codes, Option, Some, None}
+use Rattle.std.specs.Prelude.{ℕ, Bool, false, not, ◌||◌, ◌&&◌, List, [], ◌∷◌, ◌++◌, codes, Option, Some, None, if◌then◌else◌}
 use Rattle.std.specs.List.{list_any}
 use Rattle.sql_tokens.specs.declared.token.Token.{Token}
 use Rattle.sql_tokens.specs.Words.{same_text, is_word}
 use Rattle.pin_classifier.specs.Statement.{opening_word}
+use Rattle.pin_classifier.specs.WordLists.{is_any}
+use Rattle.pin_classifier.specs.declared.word_list.WordList.TheVariants as lists
 
 -- statements on rows
 abbrev pub data_words : List (List ℕ)
@@ -116,3 +118,23 @@ makes_id first = is_word first (codes "INSERT") || is_word first (codes "REPLACE
 -- SHOW WARNINGS, SHOW ERRORS, SHOW COUNT, GET DIAGNOSTICS and GET CURRENT
 unfoldable pub shows_diagnostics : (first second : Option (List ℕ)) → Bool
 shows_diagnostics first second = (is_word first (codes "SHOW") && (is_word second (codes "WARNINGS") || is_word second (codes "ERRORS") || is_word second (codes "COUNT"))) || (is_word first (codes "GET") && (is_word second (codes "DIAGNOSTICS") || is_word second (codes "CURRENT")))
+
+-- what CREATE, ALTER, DROP, RENAME and SHOW are about: the word behind them, or behind OR REPLACE
+abbrev pub subject : (second third fourth : Option (List ℕ)) → Option (List ℕ)
+subject second third fourth = if is_word second (codes "OR") && is_word third (codes "REPLACE") then fourth else second
+
+-- CREATE, ALTER, DROP and RENAME
+unfoldable pub defines : (first : Option (List ℕ)) → Bool
+defines first = is_word first (codes "CREATE") || is_word first (codes "ALTER") || is_word first (codes "DROP") || is_word first (codes "RENAME")
+
+-- statements of accounts and rights: GRANT, REVOKE, those that define USER or ROLE, SHOW GRANTS and SHOW CREATE
+unfoldable pub names_accounts : (first about : Option (List ℕ)) → Bool
+names_accounts first about =
+    is_word first (codes "GRANT")
+    || is_word first (codes "REVOKE")
+    || (defines first && (is_word about (codes "USER") || is_word about (codes "ROLE")))
+    || (is_word first (codes "SHOW") && (is_word about (codes "GRANTS") || is_word about (codes "CREATE")))
+
+-- those that define a view or a stored program
+unfoldable pub stores : (first about : Option (List ℕ)) → Bool
+stores first about = defines first && is_any lists.Stored about

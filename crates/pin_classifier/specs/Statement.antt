@@ -88,18 +88,6 @@ has_wide_variable text tokens = list_any (λ token. is_wide_name (variable_of te
 abbrev pub has_variable : (text : List ℕ) → List Token → (part : List ℕ) → Bool
 has_variable text tokens part = list_any (λ token. is_part (variable_of text token) part) tokens
 
--- what isn't read as a server does: an executed comment, what isn't closed, and a NUL byte
-abbrev pub is_unread_kind : TokenKind → Bool
-is_unread_kind Executed = true
-is_unread_kind Unclosed = true
-is_unread_kind _ = false
-
-abbrev pub is_unread : (text : List ℕ) → Token → Bool
-is_unread text token = is_unread_kind token.kind || is_symbol text token 0
-
-abbrev pub has_unread : (text : List ℕ) → List Token → Bool
-has_unread text tokens = list_any (is_unread text) tokens
-
 -- FROM, and not in backticks
 abbrev pub is_plain_word : TokenKind → Bool
 is_plain_word Word = true
@@ -131,13 +119,21 @@ has_user_variable text tokens = list_any is_variable_behind (neighbours tokens)
 abbrev pub variable_scopes : List (List ℕ)
 variable_scopes = codes "global" ∷ codes "session" ∷ codes "local" ∷ codes "persist" ∷ codes "persist_only" ∷ []
 
--- a system variable that is a scope alone or ends in a dot, so that its name goes on
+-- half of a system variable, whose name goes on behind it: a scope alone, what ends in a dot, and the first `@` of an `@@` before
+-- a name in backticks
 abbrev pub is_half : TokenKind → List ℕ → Bool
 is_half SysVar bytes = list_any (same_text (drop 2 bytes)) variable_scopes || nat_eq (slice_index_or bytes (length bytes - 1) 0) 46
+is_half UserVar bytes = nat_eq (length bytes) 1
 is_half _ bytes = false
 
-abbrev pub is_hidden : (text : List ℕ) → Token → Bool
-is_hidden text token = is_half token.kind (bytes_of text token)
+-- what isn't read as a server does: an executed comment, what isn't closed, half of a system variable, and a NUL byte
+abbrev pub is_unread_kind : TokenKind → Bool
+is_unread_kind Executed = true
+is_unread_kind Unclosed = true
+is_unread_kind _ = false
 
-abbrev pub has_hidden : (text : List ℕ) → List Token → Bool
-has_hidden text tokens = list_any (is_hidden text) tokens
+abbrev pub is_unread : (text : List ℕ) → Token → Bool
+is_unread text token = is_unread_kind token.kind || (is_half token.kind (bytes_of text token) || is_symbol text token 0)
+
+abbrev pub has_unread : (text : List ℕ) → List Token → Bool
+has_unread text tokens = list_any (is_unread text) tokens

@@ -1,59 +1,30 @@
-// Words of a list, in a statement and in its executed comments.
+// Words of a list, whatever stands around them.
 ghost use Rattle.std.specs.Prelude.{◌≡◌, option_copied};
-ghost use Rattle.pin_classifier.specs.Diagnostics.{has_any_part, inside_comment, is_any_part, names_any, tells, text_names_any};
+ghost use Rattle.pin_classifier.specs.Diagnostics.{has_any, is_letter, names_any};
 
-use crate::word_list::{WordList, is_any, lists};
-use crate::words::variable_of;
-use sql_tokens::{Token, TokenKind, Tokens, behind, bytes_of, front, word_of};
+use crate::word_list::{WordList, lists};
 
-// Whether one of the parts of a name, between its dots, is in a list.
-fn has_any_part(words: WordList, name: &[u8]) -> bool
-    ensures { result ≡ has_any_part words name.now }
+// ASCII letters and `_`, of which the words of the lists are made.
+fn is_letter(byte: u8) -> bool
+    ensures { result ≡ is_letter byte }
 {
-    name.split(|byte| *byte == b'.')
-        .any(|part| lists(words, part))
+    byte.is_ascii_alphabetic() || byte == b'_'
 }
 
-pub(crate) fn is_any_part(words: WordList, name: Option<&[u8]>) -> bool
-    ensures { result ≡ is_any_part words (option_copied name.entry) }
+// Whether a longest run of these is a word of the list.
+pub(crate) fn has_any(words: WordList, bytes: &[u8]) -> bool
+    ensures { result ≡ has_any words bytes.now }
+{
+    bytes
+        .split(|byte| !is_letter(*byte))
+        .any(|run| lists(words, run))
+}
+
+pub(crate) fn names_any(words: WordList, name: Option<&[u8]>) -> bool
+    ensures { result ≡ names_any words (option_copied name.entry) }
 {
     match name {
-        Some(name) => has_any_part(words, name),
+        Some(name) => has_any(words, name),
         None => false,
-    }
-}
-
-fn names_any(words: WordList, text: &[u8], token: &Token) -> bool
-    ensures { result ≡ names_any words text.now token.now }
-{
-    is_any(words, word_of(text, token)) || is_any_part(words, variable_of(text, token))
-}
-
-// What stands inside an executed comment.
-fn inside_comment(bytes: &[u8]) -> &[u8]
-    ensures { result.now ≡ inside_comment bytes.now }
-{
-    let rest = behind(bytes, 3);
-    front(rest, rest.len().saturating_sub(2))
-}
-
-fn text_names_any(words: WordList, text: &[u8]) -> bool
-    ensures { result ≡ text_names_any words text.now }
-{
-    for token in Tokens::of(text) {
-        if names_any(words, text, &token) {
-            return true;
-        }
-    }
-    false
-}
-
-// Whether a token is a word of a list, or an executed comment with one.
-pub(crate) fn tells(words: WordList, text: &[u8], token: &Token) -> bool
-    ensures { result ≡ tells words text.now token.now }
-{
-    match token.kind {
-        TokenKind::Executed => text_names_any(words, inside_comment(bytes_of(text, token))),
-        _ => names_any(words, text, token),
     }
 }

@@ -3,10 +3,11 @@ ghost use Rattle.std.specs.Prelude.{◌≡◌};
 ghost use Rattle.std.specs.List.{list_any};
 ghost use Rattle.pin_classifier.specs.Marks.{has_blank, is_other_blank, lasts, passes, stands};
 
-use crate::diagnostics::{is_any_part, tells};
+use crate::diagnostics::names_any;
 use crate::recent::Recent;
+use crate::starts::shows_diagnostics;
 use crate::word_list::{WordList, is_any};
-use crate::words::{is_byte, is_there, is_wide_name, variable_of};
+use crate::words::{is_byte, is_there, is_wide_name, next_word, variable_of};
 use sql_tokens::{Token, TokenKind, Tokens, bytes_of, is_symbol, says, word_of};
 
 #[derive(Clone, Copy)]
@@ -17,13 +18,14 @@ pub(crate) enum Mark {
     // PREVIOUS VALUE FOR (MariaDB, "Sequence Functions").
     PreviousValue,
     ForConnection,
-    // A byte A0 or FF in a word, which servers may read as a blank.
+    // A byte A0 or FF in a word or a variable's name, which servers may read as a blank.
     BlankInWord,
-    // What reads diagnostics or last values, also in executed comments.
+    // SHOW WARNINGS and its like, also behind other words.
     Diagnostic,
-    LastValue,
     // What a SET statement may set that no reset takes back, or that changes how statements are read.
     Lasting,
+    // EVENT.
+    Event,
 }
 
 // Whether a token is a word of what lasts, or a name that may be read as one.
@@ -34,7 +36,7 @@ fn lasts(text: &[u8], token: &Token) -> bool
     let variable = variable_of(text, token);
     is_any(WordList::Lasting, word)
         || is_wide_name(word)
-        || is_any_part(WordList::Lasting, variable)
+        || names_any(WordList::Lasting, variable)
         || is_wide_name(variable)
 }
 
@@ -49,7 +51,7 @@ fn has_blank(kind: TokenKind, bytes: &[u8]) -> bool
     ensures { result ≡ has_blank kind bytes.now }
 {
     match kind {
-        TokenKind::Word => has_blank_byte(bytes),
+        TokenKind::Word | TokenKind::UserVar | TokenKind::SysVar => has_blank_byte(bytes),
         _ => false,
     }
 }
@@ -73,9 +75,11 @@ fn passes(text: &[u8], mark: Mark, recent: Recent, token: &Token) -> bool
             says(text, token, b"CONNECTION") && is_there(text, recent.last, b"FOR")
         }
         Mark::BlankInWord => has_blank(token.kind, bytes_of(text, token)),
-        Mark::Diagnostic => tells(WordList::Diagnostics, text, token),
-        Mark::LastValue => tells(WordList::LastValues, text, token),
+        Mark::Diagnostic => {
+            shows_diagnostics(next_word(text, recent.last), word_of(text, token))
+        }
         Mark::Lasting => lasts(text, token),
+        Mark::Event => says(text, token, b"EVENT"),
     }
 }
 

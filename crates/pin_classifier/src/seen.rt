@@ -7,7 +7,7 @@ use crate::calls::Calls;
 use crate::opening::Opening;
 use crate::variables::Variables;
 use crate::words::{
-    callee, is_from, is_hidden, is_quoted_call, is_release, is_unread, is_variable, variable_of,
+    callee, is_from, is_quoted_call, is_release, is_unread, is_variable, variable_of,
 };
 use sql_tokens::{Token, TokenKind, Tokens, is_word, word_of};
 
@@ -15,9 +15,7 @@ use sql_tokens::{Token, TokenKind, Tokens, is_word, word_of};
 #[derive(Clone, Copy)]
 pub(crate) struct Seen {
     pub opening: Opening,
-    // Half of a system variable.
-    pub hidden: bool,
-    // An executed comment, what isn't closed, or a NUL byte.
+    // An executed comment, what isn't closed, half of a system variable, or a NUL byte.
     pub unread: bool,
     pub calls: Calls,
     pub variables: Variables,
@@ -42,7 +40,6 @@ impl Seen {
     {
         Seen {
             opening: Opening::new(),
-            hidden: false,
             unread: false,
             calls: Calls::new(),
             variables: Variables::new(),
@@ -65,7 +62,6 @@ impl Seen {
     {
         let word = word_of(text, &token);
         self.opening.take(token);
-        self.hidden |= is_hidden(text, &token);
         self.unread |= is_unread(text, &token);
         self.calls.take(callee(text, before, &token));
         self.variables.take(variable_of(text, &token));

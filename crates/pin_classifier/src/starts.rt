@@ -1,7 +1,8 @@
 // How statements begin.
 ghost use Rattle.std.specs.Prelude.{◌≡◌, option_copied};
-ghost use Rattle.pin_classifier.specs.Starts.{is_known, begins_unknown, analyzes_other, changes_schema, explains, flushes_other, gives_rows, goes_back, names_schema, returns_rows, shows_connection, starts_other, writes_tables, names_tables, locks_tables, unlocks_tables, locks_other, ends_transaction, is_savepoint, makes_id, shows_diagnostics};
+ghost use Rattle.pin_classifier.specs.Starts.{is_known, begins_unknown, analyzes_other, changes_schema, explains, flushes_other, gives_rows, goes_back, names_schema, returns_rows, shows_connection, starts_other, writes_tables, names_accounts, names_tables, defines, stores, subject, locks_tables, unlocks_tables, locks_other, ends_transaction, is_savepoint, makes_id, shows_diagnostics};
 
+use crate::word_list::{WordList, is_any};
 use crate::words::opening_word;
 use sql_tokens::{Token, is_one_of, is_word};
 
@@ -249,4 +250,49 @@ pub(crate) fn shows_diagnostics(first: Option<&[u8]>, second: Option<&[u8]>) -> 
             || is_word(second, b"COUNT")))
         || (is_word(first, b"GET")
             && (is_word(second, b"DIAGNOSTICS") || is_word(second, b"CURRENT")))
+}
+
+// What CREATE, ALTER, DROP, RENAME and SHOW are about: the word behind them, or behind OR REPLACE.
+pub(crate) fn subject<'a>(
+    second: Option<&'a [u8]>,
+    third: Option<&'a [u8]>,
+    fourth: Option<&'a [u8]>,
+) -> Option<&'a [u8]>
+    ensures { option_copied result ≡ subject (option_copied second.entry) (option_copied third.entry) (option_copied fourth.entry) }
+{
+    if is_word(second, b"OR") && is_word(third, b"REPLACE") {
+        fourth
+    } else {
+        second
+    }
+}
+
+// CREATE, ALTER, DROP, RENAME.
+#[tactic(auto, unfolding(crate::specs::Starts::defines))]
+fn defines(first: Option<&[u8]>) -> bool
+    ensures { result ≡ defines (option_copied first.entry) }
+{
+    is_word(first, b"CREATE")
+        || is_word(first, b"ALTER")
+        || is_word(first, b"DROP")
+        || is_word(first, b"RENAME")
+}
+
+// Statements of accounts and rights.
+#[tactic(auto, unfolding(crate::specs::Starts::names_accounts))]
+pub(crate) fn names_accounts(first: Option<&[u8]>, about: Option<&[u8]>) -> bool
+    ensures { result ≡ names_accounts (option_copied first.entry) (option_copied about.entry) }
+{
+    is_word(first, b"GRANT")
+        || is_word(first, b"REVOKE")
+        || (defines(first) && (is_word(about, b"USER") || is_word(about, b"ROLE")))
+        || (is_word(first, b"SHOW") && (is_word(about, b"GRANTS") || is_word(about, b"CREATE")))
+}
+
+// Those that define a view or a stored program.
+#[tactic(auto, unfolding(crate::specs::Starts::stores))]
+pub(crate) fn stores(first: Option<&[u8]>, about: Option<&[u8]>) -> bool
+    ensures { result ≡ stores (option_copied first.entry) (option_copied about.entry) }
+{
+    defines(first) && is_any(WordList::Stored, about)
 }

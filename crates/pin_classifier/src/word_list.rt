@@ -20,6 +20,10 @@ pub(crate) enum WordList {
     LastValues,
     // What a SET statement may set that no reset takes back, or that changes how statements are read.
     Lasting,
+    // Variables by which SET STATEMENT limits a statement, and does nothing else.
+    Limits,
+    // Words behind CREATE and ALTER with which only views and stored programs begin.
+    Stored,
 }
 
 // MySQL Reference Manual, "Performance Schema Functions".
@@ -62,19 +66,39 @@ static LAST_VALUES: [&[u8]; 5] = [
     b"WSREP_LAST_SEEN_GTID",
 ];
 
-// A role, a resource group, an account, and how statements are read (MySQL Reference Manual, "SET ROLE Statement", "SET RESOURCE
-// GROUP Statement", "SET NAMES Statement", "SET CHARACTER SET Statement", "Server SQL Modes"; MariaDB, "SET SESSION
-// AUTHORIZATION", "SET STATEMENT").
-static LASTING: [&[u8]; 9] = [
+// A role, a resource group, an account, what SHOW PROFILES shows, and how statements are read (MySQL Reference Manual, "SET ROLE
+// Statement", "SET RESOURCE GROUP Statement", "SHOW PROFILE Statement", "SET NAMES Statement", "SET CHARACTER SET Statement",
+// "Server SQL Modes"; MariaDB, "SET SESSION AUTHORIZATION", "SET STATEMENT").
+static LASTING: [&[u8]; 10] = [
     b"ROLE",
     b"RESOURCE",
     b"AUTHORIZATION",
+    b"profiling",
     b"STATEMENT",
     b"NAMES",
     b"CHARACTER",
     b"CHARSET",
     b"sql_mode",
     b"character_set_client",
+];
+
+// MariaDB, "Server System Variables", "InnoDB System Variables".
+static LIMITS: [&[u8]; 3] = [
+    b"max_statement_time",
+    b"lock_wait_timeout",
+    b"innodb_lock_wait_timeout",
+];
+
+// MySQL Reference Manual, "CREATE PROCEDURE and CREATE FUNCTION Statements", "CREATE TRIGGER Statement", "CREATE VIEW Statement".
+static STORED: [&[u8]; 8] = [
+    b"VIEW",
+    b"PROCEDURE",
+    b"FUNCTION",
+    b"AGGREGATE",
+    b"TRIGGER",
+    b"DEFINER",
+    b"ALGORITHM",
+    b"SQL",
 ];
 
 // Whether a word is in a list, in any ASCII case.
@@ -88,6 +112,8 @@ pub(crate) fn lists(words: WordList, word: &[u8]) -> bool
         WordList::Diagnostics => is_one_of(word, &DIAGNOSTICS),
         WordList::LastValues => is_one_of(word, &LAST_VALUES),
         WordList::Lasting => is_one_of(word, &LASTING),
+        WordList::Limits => is_one_of(word, &LIMITS),
+        WordList::Stored => is_one_of(word, &STORED),
     }
 }
 

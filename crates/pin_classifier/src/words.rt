@@ -4,7 +4,7 @@ ghost use Rattle.std.specs.List.{list_all, list_any, slice_split};
 ghost use Rattle.sql_tokens.specs.Words.{is_word, same_text};
 ghost use Rattle.pin_classifier.specs.Passing.{callee, is_quoted_call, is_release, is_variable};
 ghost use Rattle.pin_classifier.specs.Shapes.{is_there, is_byte};
-ghost use Rattle.pin_classifier.specs.Statement.{first_word, next_word, opening_word, has_part, is_part, is_double_quoted, is_half, is_hidden, is_plain_word, is_quoted, is_user_variable, is_unread, is_unread_kind, is_wide, is_wide_name, releases, variable_of};
+ghost use Rattle.pin_classifier.specs.Statement.{first_word, next_word, opening_word, has_part, is_part, is_double_quoted, is_half, is_plain_word, is_quoted, is_user_variable, is_unread, is_unread_kind, is_wide, is_wide_name, releases, variable_of};
 
 use sql_tokens::{
     Token, TokenKind, behind, bytes_of, is_one_of, is_symbol, is_word, same_text, says, word_of,
@@ -105,6 +105,27 @@ pub(crate) fn is_release(text: &[u8], before: Option<Token>, word: Option<&[u8]>
     }
 }
 
+// Scopes that are no names of variables.
+static VARIABLE_SCOPES: [&[u8]; 5] = [b"global", b"session", b"local", b"persist", b"persist_only"];
+
+// Half of a system variable, whose name goes on behind it: a scope alone, what ends in a dot, and the first `@` of an `@@` before a
+// name in backticks.
+fn is_half(kind: TokenKind, bytes: &[u8]) -> bool
+    ensures { result ≡ is_half kind bytes.now }
+{
+    match kind {
+        TokenKind::SysVar => { is_one_of(behind(bytes, 2), &VARIABLE_SCOPES) || ends_in_dot(bytes) }
+        TokenKind::UserVar => bytes.len() == 1,
+        _ => false,
+    }
+}
+
+fn ends_in_dot(bytes: &[u8]) -> bool
+    ensures { result ≡ nat_eq (slice_index_or bytes.now (length bytes.now - 1) 0) 46 }
+{
+    !bytes.is_empty() && bytes[bytes.len() - 1] == b'.'
+}
+
 // An executed comment, or what isn't closed.
 fn is_unread_kind(kind: TokenKind) -> bool
     ensures { result ≡ is_unread_kind kind }
@@ -119,7 +140,9 @@ fn is_unread_kind(kind: TokenKind) -> bool
 pub(crate) fn is_unread(text: &[u8], token: &Token) -> bool
     ensures { result ≡ is_unread text.now token.now }
 {
-    is_unread_kind(token.kind) || is_symbol(text, token, b'\0')
+    is_unread_kind(token.kind)
+        || is_half(token.kind, bytes_of(text, token))
+        || is_symbol(text, token, b'\0')
 }
 
 fn is_user_variable(kind: TokenKind) -> bool
@@ -142,32 +165,6 @@ pub(crate) fn is_variable(before: Option<Token>, token: &Token) -> bool
         Some(before) => is_user_variable(token.kind) && !is_quoted(before.kind),
         None => false,
     }
-}
-
-// Scopes that are no names of variables.
-static VARIABLE_SCOPES: [&[u8]; 5] = [b"global", b"session", b"local", b"persist", b"persist_only"];
-
-// A system variable that is a scope alone or ends in a dot, so that its name goes on.
-fn is_half(kind: TokenKind, bytes: &[u8]) -> bool
-    ensures { result ≡ is_half kind bytes.now }
-{
-    match kind {
-        TokenKind::SysVar => { is_one_of(behind(bytes, 2), &VARIABLE_SCOPES) || ends_in_dot(bytes) }
-        _ => false,
-    }
-}
-
-fn ends_in_dot(bytes: &[u8]) -> bool
-    ensures { result ≡ nat_eq (slice_index_or bytes.now (length bytes.now - 1) 0) 46 }
-{
-    !bytes.is_empty() && bytes[bytes.len() - 1] == b'.'
-}
-
-// Whether this token may be read in another way.
-pub(crate) fn is_hidden(text: &[u8], token: &Token) -> bool
-    ensures { result ≡ is_hidden text.now token.now }
-{
-    is_half(token.kind, bytes_of(text, token))
 }
 
 // The name of a system variable, behind its `@@`.

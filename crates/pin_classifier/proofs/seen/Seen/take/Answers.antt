@@ -10,7 +10,6 @@ returns c =
     let word = c.word_of-word.ensures in
     λ i. record {
       opening = c.take.ensures i;
-      hidden = before.hidden || c.is_hidden.ensures i;
       unread = before.unread || c.is_unread.ensures i;
       calls = (c.take-2.ensures ∙ ap (λ name. with_call before.calls name) c.callee.ensures) i;
       variables = (c.take-3.ensures ∙ ap (λ name. with_variable before.variables name) c.variable_of.ensures) i;
