@@ -1,6 +1,7 @@
 -- What a rule does where it fires: the effects of its row, one by one.
-use Rattle.std.specs.Prelude.{ℕ, Bool, ◌||◌, List, Option, Some, is_some, unwrap_or, option_map}
-use Rattle.std.specs.Option.{option_or}
+use Rattle.std.specs.Prelude.{ℕ, Bool, false, ◌&&◌, ◌||◌, List, Option, Some, is_some, nat_eq, unwrap_or, option_map}
+use Rattle.std.specs.List.{list_any}
+use Rattle.std.specs.Option.{option_map_or, option_or}
 use Rattle.regex.specs.declared.bytes.regex.Regex.{Regex}
 use Rattle.query_rules.specs.declared.ask.Stop.{Stop}
 use Rattle.query_rules.specs.declared.ask.Stop.TheVariants as stops
@@ -34,3 +35,11 @@ after rule pass = record {
   multiplex = option_or rule.row.multiplex pass.multiplex;
   stop = answer_of rule;
 }
+
+-- rules are tried first by flag 0, or by one that an active rule sets for what comes next
+
+abbrev pub sets_flag : (flag : ℕ) → Rule → Bool
+sets_flag flag rule = rule.row.active && option_map_or (nat_eq flag) rule.row.next_query_flagIN false
+
+abbrev pub is_first_flag : List Rule → (flag : ℕ) → Bool
+is_first_flag rules flag = nat_eq flag 0 || list_any (sets_flag flag) rules

@@ -2,7 +2,7 @@
 ghost use Rattle.std.specs.Prelude.{◌≡◌, IfOk, OnOk, IfErr};
 ghost use Rattle.query_rules.specs.Building.{IsFieldRead, IsCompiled, IsSound, IsFaultOfNew};
 ghost use Rattle.query_rules.specs.Conditions.{fits_name, admits, fits_digest, fits_match_digest, fits_match_pattern, fires};
-ghost use Rattle.query_rules.specs.Effects.{rewritten, answer_of, after, is_last};
+ghost use Rattle.query_rules.specs.Effects.{rewritten, answer_of, after, is_last, sets_flag};
 
 use crate::pass::Pass;
 use crate::pattern::{compile_field, finds, replaced};
@@ -65,6 +65,13 @@ impl Rule {
             match_digest,
             match_pattern,
         })
+    }
+
+    /// Whether it may set this flag for what comes next.
+    pub(crate) fn sets_flag(&self, flag: u16) -> bool
+        ensures { result ≡ sets_flag flag self.now }
+    {
+        self.row.active && self.row.next_query_flagIN == Some(flag)
     }
 
     // The conditions that cost nothing of the text's length.

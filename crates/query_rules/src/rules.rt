@@ -1,5 +1,7 @@
 // The rules in force.
 ghost use Rattle.std.specs.Prelude.{◌≡◌, ◌≢◌, map, All, IfOk, OnOk, IfErr, None};
+ghost use Rattle.std.specs.List.{list_any};
+ghost use Rattle.query_rules.specs.Effects.{is_first_flag, sets_flag};
 ghost use Rattle.query_rules.specs.Passing.{rules_of, rows_of, passed, route_of};
 ghost use Rattle.query_rules.specs.Building.{IsInOrder, IsCompiled, Stands, AllStand, IsFaultOf, IsFirstOf, IsFirstFault};
 
@@ -45,6 +47,13 @@ impl Rules {
         Ok(end.routed(ask.default_hostgroup))
     }
 
+    /// Whether rules may be tried first by this flag: 0, or one that an active rule sets by `next_query_flagIN`.
+    pub fn is_first_flag(&self, flag: u16) -> bool
+        ensures { result ≡ is_first_flag (rules_of self.now) flag }
+    {
+        flag == 0 || sets_flag(self.rules.as_slice(), flag)
+    }
+
     // The pass at its end.
     fn passed(
         &self,
@@ -65,6 +74,13 @@ impl Rules {
         }
         Ok(pass)
     }
+}
+
+// Whether one of these rules may set a flag for what comes next.
+fn sets_flag(rules: &[Rule], flag: u16) -> bool
+    ensures { result ≡ list_any (sets_flag flag) rules.now }
+{
+    rules.iter().any(|rule| rule.sets_flag(flag))
 }
 
 // Copies of the rows, in order of `rule_id`.
