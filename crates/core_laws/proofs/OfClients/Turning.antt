@@ -251,6 +251,9 @@ module _ (laws : Laws) (service : Service) (default : List ℕ) (first client : 
     is_found : up.message ≡ came.up.message
     is_found = let both : Some up.message ≡ Some came.up.message = sym up.found ∙ came.up.found in cc
 
+    up_found : slice_get (messages g.plan client) client.taken ≡ Some up.message
+    up_found = came.up.next.next ∙ ap (λ (m : Framed). Some m) (sym is_found)
+
     looking : IsTaking service first from seen between client
     looking = taking_looks service first client from g t is.taking between came.stands
 
@@ -405,9 +408,8 @@ module _ (laws : Laws) (service : Service) (default : List ℕ) (first client : 
 
   pub turn_found : (choice : Choice) (now : Tabled) → (turn : IsTurn choice service default c t now)
       → IsFoundAt choice service default c t now turn (slice_get (messages g.plan client) client.taken)
-  turn_found (Goes route) now turn =
-      (came turn.between turn.up).up.next.next ∙ ap (λ (m : Framed). Some m) (sym (is_found turn.between turn.up))
-  turn_found (Answers payloads) now turn = tt
+  turn_found (Goes route) now turn = up_found turn.between turn.up
+  turn_found (Answers payloads) now turn = up_found turn.between turn.up
 
   quits_turn : (now : Tabled) → QuitsThere service default c t now
       → IsHaltIn Quits g.plan g.tale.moment (name_of client (suc client.taken)) → IsGone service first from (suc client.taken) g c now

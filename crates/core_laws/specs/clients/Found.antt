@@ -1,4 +1,4 @@
--- Which messages a client's turns took up that go to servers.
+-- Which messages a client's turns took up.
 use Rattle.std.specs.Prelude.{◌≡◌, ℕ, suc, slice_get, List, [], ◌∷◌, Option, Some}
 use Rattle.mx_base.specs.declared.names.ClientNo.{ClientNo}
 use Rattle.packet_frame.specs.Packets.{Framed}
@@ -10,7 +10,7 @@ use Rattle.core_laws.specs.clients.Turns.{Answers, Choice, Goes, Halt, IsTurn, T
 abbrev pub IsFoundAt : (choice : Choice) → (service : Service) → (default : List ℕ) → (c : ClientNo) → (old new : Tabled)
     → IsTurn choice service default c old new → Option Framed → Type 0
 IsFoundAt (Goes route) service default c old new turn message = message ≡ Some turn.up.message
-IsFoundAt (Answers payloads) service default c old new turn message = Unit {0}
+IsFoundAt (Answers payloads) service default c old new turn message = message ≡ Some turn.up.message
 
 -- of these messages from the k-th on
 abbrev pub AreFoundAt : (choices : List Choice) → (halt : Halt) → (service : Service) → (default : List ℕ) → (c : ClientNo) → (old new : Tabled)
