@@ -2,3 +2,5 @@ pub mod Kept
 pub mod Waiting
 pub mod Asking
 pub mod Shared
+pub mod Plain
+pub mod OnClasses

@@ -5,17 +5,20 @@ use Rattle.client_session.specs.Errors.{connection_refused}
 use Rattle.mx_wire.specs.Moments.{AllLawful}
 use Rattle.private_model.specs.Names.{ClientNo}
 use Rattle.private_model.specs.Story.{is_message}
-use Rattle.log_story.specs.Plan.{LastWord, OwnAnswer, Route}
+use Rattle.log_story.specs.Plan.{LastWord, OwnAnswer, Route, com_query}
 use Rattle.own_words.specs.Own.{GivesUp, IsOwn, NoLink, SpeaksOwn}
-use Rattle.core_promises.specs.Asks.{AsksSo, CopiesNothing}
+use Rattle.core_promises.specs.Asks.{CopiesNothing}
+use Rattle.core_promises.specs.Judges.{IsVerdictFor, JudgesSo, goes_by}
 use Rattle.core_promises.specs.Waits.{WaitsSo}
 use Rattle.promise_tests.proofs.Moments.{entries-so}
 use Rattle.promise_tests.specs.Tests.{each_entry}
 use Rattle.router_cases.proofs.OnLogs.{on_logs}
-use Rattle.router_cases.specs.Worked.{Stored, insert, log, message, plan, route, router, terms_with}
+use Rattle.router_cases.specs.Worked.{Stored, group, insert, log, message, plan, route, router, terms_with}
 use Rattle.router_promises.specs.Now.{at_first, now_at}
-use Rattle.apart_cases.specs.Tests.{all_ask, waits}
-use Rattle.apart_cases.proofs.Asking.{asks-so}
+use Rattle.apart_cases.specs.Tests.{all_say, waits}
+use Rattle.apart_cases.proofs.Asking.{judges-so}
+use Rattle.apart_cases.proofs.OnClasses.{on_classes}
+use Rattle.apart_cases.proofs.Plain.{goes-as-it-is}
 use Rattle.apart_cases.proofs.Waiting.{waits-so}
 
 waited : (stored : Stored) → each_entry (terms_with stored) (waits (terms_with stored)) [] (at_first (terms_with stored)) log ≡ true
@@ -27,12 +30,18 @@ waits-worked stored =
     entries-so (terms_with stored) (waits (terms_with stored)) (WaitsSo (terms_with stored)) log
     (λ l e so. waits-so (terms_with stored) l (now_at (terms_with stored) l) e so) (waited stored)
 
-asked : (stored : Stored) → all_ask insert plan (now_at (terms_with stored) log) ≡ true
-unfolding on_logs
-asked stored = refl
+-- Each message is an INSERT, which goes to the one server.
 
-pub asks-worked : (stored : Stored) → AsksSo (terms_with stored) log
-asks-worked stored = asks-so (terms_with stored) insert route refl (λ m. refl) refl log (asked stored)
+goes-there : (c : ClientNo) → IsVerdictFor router.rules c (com_query ∷ insert) (goes_by route)
+unfolding on_classes
+goes-there c = goes-as-it-is c group insert refl refl
+
+said : (stored : Stored) → all_say (com_query ∷ insert) plan (now_at (terms_with stored) log) ≡ true
+unfolding on_logs
+said stored = refl
+
+pub judges-worked : (stored : Stored) → JudgesSo (terms_with stored) log
+judges-worked stored = judges-so (terms_with stored) (com_query ∷ insert) route (λ m. refl) goes-there log (said stored)
 
 one-route : (a b : Route) → ◌≡◌ {A = Option Route} (Some a) (Some b) → a ≡ b
 one-route a b is = cc

@@ -1,5 +1,5 @@
--- Tests of a log: where the loop waits, while no statement is on its way; and of a text that all clients ask for.
-use Rattle.std.specs.Prelude.{Bool, true, false, not, ◌&&◌, ◌||◌, ◌++◌, bytes_eq, drop, take, ℕ, List}
+-- Tests of a log: where the loop waits, while no statement is on its way; and of a message that all clients send.
+use Rattle.std.specs.Prelude.{Bool, true, false, not, ◌&&◌, ◌||◌, ◌++◌, bytes_eq, take, ℕ, List}
 use Rattle.std.specs.List.{list_all}
 use Rattle.std.specs.Option.{option_map_or}
 use Rattle.mx_base.specs.declared.names.LinkId.{LinkId}
@@ -54,9 +54,9 @@ waits terms log now WaitFailed = is_done terms log now
 waits terms log now Over = is_done terms log now
 waits terms log now _ = true
 
--- what was taken up of a client is this text
-abbrev pub asks_this : (text : List ℕ) → Plan → Client → Bool
-asks_this text plan client = list_all (λ (message : Framed). bytes_eq (drop 1 message.payload) text) (take client.taken (messages plan client))
+-- what was taken up of a client is this message
+abbrev pub says_this : (payload : List ℕ) → Plan → Client → Bool
+says_this payload plan client = list_all (λ (message : Framed). bytes_eq message.payload payload) (take client.taken (messages plan client))
 
-abbrev pub all_ask : (text : List ℕ) → Plan → Now → Bool
-all_ask text plan now = list_all (asks_this text plan) now.tale.clients
+abbrev pub all_say : (payload : List ℕ) → Plan → Now → Bool
+all_say payload plan now = list_all (says_this payload plan) now.tale.clients

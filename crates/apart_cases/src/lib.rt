@@ -1,11 +1,13 @@
 //! What the promise that clients are kept apart refuses: routers that are wrong; and a log that keeps it.
 #![tactic(auto)]
 
+mod judged;
 mod lent;
 mod told;
 mod worked;
 mod written;
 
+pub use judged::{answers_ok_by_itself, sends_a_kill, sends_a_ping, sends_a_quit, sets_a_server};
 pub use lent::{
     gives_back_what_is_held, gives_back_what_is_unreset, lends_in_another_schema,
     lends_what_is_held, lends_what_is_lent, lends_with_earlier_settings, reads_what_others_left,

@@ -1,5 +1,6 @@
 // A log that keeps clients apart.
-ghost use Rattle.core_promises.specs.Asks.{AsksSo, CopiesNothing};
+ghost use Rattle.core_promises.specs.Asks.{CopiesNothing};
+ghost use Rattle.core_promises.specs.Judges.{JudgesSo};
 ghost use Rattle.core_promises.specs.Sessions.{KeepsApart, Separates};
 ghost use Rattle.core_promises.specs.Waits.{WaitsSo};
 ghost use Rattle.mx_wire.specs.Log.{Log};
@@ -12,12 +13,12 @@ ghost use Rattle.router_promises.specs.Terms.{Terms, plan_in};
 use promise_tests::kept_by_test;
 use router_promises::said_log;
 
-/// A log that keeps the whole promise keeps this one, where the router speaks its own words, waits only with all done, and asks for clients' own
-/// texts, each of one server.
+/// A log that keeps the whole promise keeps this one, where the router speaks its own words, waits only with all done, and does with each message
+/// what the verdict says that serves no prepared statements, and sends none to two servers.
 pub fn kept_is_apart()
     ensures { (terms : Terms) (log : Log) → Keeps terms log
         → SpeaksOwn terms.router.rules (plan_in terms)
-        → AllLawful (WaitsSo terms) log → AsksSo terms log
+        → AllLawful (WaitsSo terms) log → JudgesSo terms log
         → CopiesNothing (plan_in terms) → KeepsApart terms log }
 {
     said_log();

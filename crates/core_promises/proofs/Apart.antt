@@ -30,8 +30,9 @@ use Rattle.router_promises.specs.Router.{Router, service_of}
 use Rattle.router_promises.specs.Terms.{AreWhoTheySay, IsWhoItSays, Terms, plan_in, setup_in}
 use Rattle.own_words.specs.Own.{SpeaksOwn}
 use Rattle.core_promises.specs.Sessions.{KeepsApart, Separates}
-use Rattle.core_promises.specs.Asks.{AsksBy}
+use Rattle.core_promises.specs.Judges.{JudgesBy, JudgesSo}
 use Rattle.core_promises.specs.Waits.{AreDoneBy}
+use Rattle.core_promises.proofs.Verdicts.{asks-by}
 use Rattle.core_promises.proofs.Past.{lawful_at}
 use Rattle.core_promises.proofs.Who.{decided_by, terms_by, who_at}
 
@@ -72,7 +73,7 @@ single_by routes single m route is = by (routes m) refl is where
 module _ (router : Router) (log : Log) (t : Tabled) (roomy : ClientNo → Bool)
     (core : IsCore (service_of router) router.proxy.default_schema log t roomy) (classes : AreClasses router.reads)
     (single : (m : MessageName) (route : Route) → core.decided.routes m ≡ Some (Some route) → route.mirror ≡ None)
-    (asks : AsksBy router.rules router.proxy.default_schema core.decided log) (speaks : SpeaksOwn router.rules (plan_of core.decided))
+    (judges : JudgesBy router.rules router.proxy.default_schema core.decided log) (speaks : SpeaksOwn router.rules (plan_of core.decided))
     (waited : AreDoneBy router.proxy.default_schema core.decided log)
     (fits : AllLawful FitsLog log) where
   abbrev plan : Plan
@@ -107,6 +108,7 @@ module _ (router : Router) (log : Log) (t : Tabled) (roomy : ClientNo → Bool)
     keeps : KeepsApart terms log
     keeps =
         let rests = core.rests (setup_in terms) no_codes plan (itself core.decided (length log)) fitting in
+        let judged : JudgesSo terms log = judges (setup_in terms) no_codes plan (itself core.decided (length log)) fitting in
         let safe = core.safe (setup_in terms) no_codes plan (itself core.decided (length log)) fitting in
         record {
           router = record { service = rests.stands.service_is; room = rests.stands.room_is };
@@ -116,7 +118,8 @@ module _ (router : Router) (log : Log) (t : Tabled) (roomy : ClientNo → Bool)
           lawful = λ n. lawful_at (setup_in terms) plan n log rests.stands.lawful;
           due = safe.written;
           copies = single_by core.decided.routes single;
-          asks = asks (setup_in terms) no_codes plan (itself core.decided (length log)) fitting;
+          asks = asks-by terms log judged;
+          judges = judged;
           speaks = speaks;
           waits = waited terms no_codes (itself core.decided (length log)) fitting;
         }

@@ -5,3 +5,4 @@ pub mod Who
 pub mod Apart
 pub mod Done
 pub mod Texts
+pub mod Verdicts

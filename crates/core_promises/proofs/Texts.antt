@@ -1,22 +1,53 @@
--- As which text a message goes.
-use Rattle.std.specs.Prelude.{◌≡◌, ℕ, List, [], drop, Some, refl}
+-- What becomes of a message that was taken up.
+use Rattle.std.specs.Prelude.{◌≡◌, ◌≢◌, ℕ, true, ◌∷◌, List, [], Option, Some, None, drop, length, refl}
 use Rattle.std.proofs.Common.{subst, sym, ◌∙◌}
+use Rattle.std.proofs.lemmas.Bool.{false≢true}
+use Rattle.query_rules.specs.Effects.{is_first_flag}
 use Rattle.query_rules.specs.Passing.{route_of}
 use Rattle.query_rules.specs.declared.ask.Ask.{Ask}
 use Rattle.query_rules.specs.declared.rule.Rule.{Rule}
+use Rattle.log_story.specs.Plan.{Route, com_query}
 use Rattle.router_promises.specs.Terms.{Terms, plan_in, tale_at}
+use Rattle.router_promises.specs.Verdicts.{Tells}
 use Rattle.router_promises.proofs.Refusals.{at-index}
-use Rattle.core_promises.specs.Asks.{AsksOwnOf, IsRewritten, IsTextOf}
-use Rattle.core_promises.specs.Wrong.{AsksFor}
+use Rattle.core_promises.specs.Asks.{IsRewritten}
+use Rattle.core_promises.specs.Judges.{AreJudged, IsJudged, IsVerdictFor}
+use Rattle.core_promises.specs.Wrong.{AnswersBy, AsksFor, SendsBy, TakesUp, taken_up}
+use Rattle.core_promises.proofs.Verdicts.{AnswersSo, GoesSo, IsPassed, answers-so, goes-so}
 
--- the rules made it of the message's own
+judged-at : (terms : Terms) (payload : List ℕ) (up : TakesUp terms payload) → IsJudged terms.router.rules (plan_in terms) (length up.log) (taken_up up) payload
+judged-at terms payload up =
+    let judged : AreJudged terms.router.rules (plan_in terms) (length up.log) up.client =
+    at-index (AreJudged terms.router.rules (plan_in terms) (length up.log)) (tale_at terms up.log).clients up.place up.client up.keeps.judges up.within up.is in
+    subst (IsJudged terms.router.rules (plan_in terms) (length up.log) (taken_up up)) up.has (judged up.count up.message up.taken up.there)
+
+pub sent-so : (terms : Terms) (payload : List ℕ) (route : Route) → SendsBy terms payload route → GoesSo terms.router.rules payload route.text
+sent-so terms payload route sends =
+    goes-so terms.router.rules (taken_up sends.up).client payload route ((judged-at terms payload sends.up).goes route sends.goes)
+
+-- what the verdict says of it
+pub answer-for : (terms : Terms) (payload : List ℕ) (payloads : List (List ℕ)) → (answers : AnswersBy terms payload payloads)
+    → IsVerdictFor terms.router.rules (taken_up answers.up).client payload (Tells payloads)
+answer-for terms payload payloads answers = (judged-at terms payload answers.up).tells payloads answers.nowhere answers.answers
+
+pub answered-so : (terms : Terms) (text : List ℕ) (payloads : List (List ℕ)) → AnswersBy terms (com_query ∷ text) payloads → AnswersSo terms.router.rules text payloads
+answered-so terms text payloads answers =
+    answers-so terms.router.rules (taken_up answers.up).client text payloads (answer-for terms (com_query ∷ text) payloads answers)
+
+-- a query goes to a server only where some pass of the rules doesn't stop it
+pub unstopped-by : (terms : Terms) (text : List ℕ) (route : Route) → SendsBy terms (com_query ∷ text) route
+    → ((ask : Ask) → ask.text ≡ text → is_first_flag terms.router.rules ask.flag ≡ true → (route_of terms.router.rules ask).stop ≢ None) → ⊥
+unstopped-by terms text route sends stops = by route.text (sent-so terms (com_query ∷ text) route sends) where
+  by : (made : Option (List ℕ)) → GoesSo terms.router.rules (com_query ∷ text) made → ⊥
+  by None so = false≢true so
+  by (Some other) so = stops so.made.ask so.made.own so.flag so.unstopped
+
+-- it goes as a text that the rules made of the message's own, and that isn't refused
+pub passed-as : (terms : Terms) (payload text : List ℕ) → AsksFor terms payload text → IsPassed terms.router.rules payload text
+passed-as terms payload text asks = subst (GoesSo terms.router.rules payload) asks.as_text (sent-so terms payload asks.route asks.sends)
+
 pub rewritten-as : (terms : Terms) (payload text : List ℕ) → AsksFor terms payload text → IsRewritten terms.router.rules payload text
-rewritten-as terms payload text asks =
-    let own : AsksOwnOf terms.router.rules (plan_in terms) asks.client =
-    at-index (AsksOwnOf terms.router.rules (plan_in terms)) (tale_at terms asks.log).clients asks.place asks.client asks.keeps.asks asks.within asks.is in
-    let so : IsTextOf terms.router.rules asks.message.payload (Some text) =
-    subst (IsTextOf terms.router.rules asks.message.payload) asks.as_text (own asks.count asks.message asks.route asks.taken asks.there asks.goes) in
-    subst (λ (p : List ℕ). IsRewritten terms.router.rules p text) asks.has so
+rewritten-as terms payload text asks = (passed-as terms payload text asks).made
 
 -- without rules it is that
 unruled : (rules : List Rule) (ask : Ask) → rules ≡ [] → (route_of rules ask).text ≡ ask.text

@@ -1,19 +1,14 @@
 -- What a server is asked for a client: the client's own text, or what the rules make of it.
-use Rattle.std.specs.Prelude.{◌≡◌, ◌<◌, ℕ, suc, All, drop, length, slice_get, List, Option, Some, None}
+use Rattle.std.specs.Prelude.{◌≡◌, ◌<◌, ℕ, suc, All, drop, slice_get, List, Option, Some, None}
 use Rattle.mx_wire.specs.Log.{Log}
 use Rattle.packet_frame.specs.Packets.{Framed}
 use Rattle.query_rules.specs.Passing.{route_of}
 use Rattle.query_rules.specs.declared.ask.Ask.{Ask}
 use Rattle.query_rules.specs.declared.rule.Rule.{Rule}
 use Rattle.private_model.specs.Names.{MessageName}
-use Rattle.private_model.specs.View.{Setup}
-use Rattle.link_laws.specs.Stands.{Codes}
-use Rattle.log_story.specs.Headline.{tale_of}
 use Rattle.log_story.specs.Owed.{messages, name_of}
 use Rattle.log_story.specs.Plan.{Plan, Route}
 use Rattle.log_story.specs.Tale.{Client}
-use Rattle.tale_world.specs.Decided.{Decided}
-use Rattle.core_laws.specs.entry.Tells.{Fits, IsOf}
 use Rattle.router_promises.specs.Terms.{Terms, plan_in, tale_at}
 
 -- by some flag, user and schema
@@ -40,9 +35,3 @@ AsksSo terms log = All (AsksOwnOf terms.router.rules (plan_in terms)) (tale_at t
 -- no message goes to a second server
 abbrev pub CopiesNothing : Plan → Type 0
 CopiesNothing plan = (m : MessageName) (route : Route) → plan.routes m ≡ Some route → route.mirror ≡ None
-
--- by each plan that has what was decided
-abbrev pub AsksBy : List Rule → (default : List ℕ) → Decided → Log → Type 0
-AsksBy rules default d log =
-    (setup : Setup) (codes : Codes) (plan : Plan) → IsOf d (length log) plan → Fits setup codes plan default (tale_of setup plan log)
-    → All (AsksOwnOf rules plan) (tale_of setup plan log).clients

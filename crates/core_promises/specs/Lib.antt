@@ -1,4 +1,5 @@
 pub mod Asks
+pub mod Judges
 pub mod Ruled
 pub mod Waits
 pub mod Sessions

@@ -8,6 +8,7 @@ use Rattle.mx_wire.specs.Tells.{Fits}
 use Rattle.private_model.specs.Names.{ServerId}
 use Rattle.own_words.specs.Own.{SpeaksOwn}
 use Rattle.core_promises.specs.Asks.{AsksSo, CopiesNothing}
+use Rattle.core_promises.specs.Judges.{JudgesSo}
 use Rattle.core_promises.specs.Waits.{WaitsSo}
 use Rattle.router_promises.specs.Due.{DueSo}
 use Rattle.router_promises.specs.Headline.{IsLawfulSo}
@@ -17,8 +18,8 @@ use Rattle.router_promises.specs.Terms.{AreWhoTheySay, Decided, IsRouters, Terms
 -- The log is one of a wire. Of each moment: clients are who they say, and begin where they say; each question's bytes are a front of its
 -- spelling, and nothing begins on a link before what was begun there is whole; the story is lawful, so that no session is lent that another's
 -- is in; and each client's bytes are a front of what it is due. What a server is asked for a client is the client's own text, or what the rules
--- make of it. What the router says by itself are its own words, whatever it decided. At each
--- wait all is done but lending.
+-- make of it. What becomes of each message is what the verdict says. What the router says by itself are its own words, whatever it decided. At
+-- each wait all is done but lending.
 pub record KeepsApart (terms : Terms) (log : Log) : Type 0 where
   pub router : IsRouters terms
   pub fits : AllLawful Fits log
@@ -28,6 +29,7 @@ pub record KeepsApart (terms : Terms) (log : Log) : Type 0 where
   pub due : AtEachMoment (DueSo terms) log
   pub asks : AsksSo terms log
   pub copies : CopiesNothing (plan_in terms)
+  pub judges : JudgesSo terms log
   pub speaks : SpeaksOwn terms.router.rules (plan_in terms)
   pub waits : AllLawful (WaitsSo terms) log
 

@@ -1,12 +1,12 @@
 -- Words for routers that are wrong: what no log has that keeps clients apart.
-use Rattle.std.specs.Prelude.{◌≡◌, ℕ, suc, ◌<◌, true, false, List, ◌∷◌, ◌++◌, length, slice_get, slice_index_or, Some}
+use Rattle.std.specs.Prelude.{◌≡◌, ℕ, suc, ◌<◌, Bool, true, false, ◌||◌, nat_eq, List, ◌∷◌, ◌++◌, length, slice_get, slice_index_or, Some, None}
 use Rattle.mx_wire.specs.Log.{Log, is_open}
 use Rattle.mx_wire.specs.declared.entry.Entry.{Entry}
 use Rattle.packet_frame.specs.Packets.{Framed}
-use Rattle.private_model.specs.Names.{SessionName}
+use Rattle.private_model.specs.Names.{MessageName, SessionName}
 use Rattle.private_model.specs.Story.{Happening, Story}
 use Rattle.log_story.specs.Owed.{messages, name_of}
-use Rattle.log_story.specs.Plan.{Route}
+use Rattle.log_story.specs.Plan.{Route, com_field_list, com_init_db, com_query, own_at}
 use Rattle.log_story.specs.Tale.{Client}
 use Rattle.router_promises.specs.Dues.{is_unsent}
 use Rattle.router_promises.specs.Ends.{was_answered}
@@ -54,8 +54,8 @@ pub record Expects (terms : Terms) (before : Log) (client : Client) (route : Rou
   pub goes_to : (plan_in terms).routes (name_of client client.taken) ≡ Some route
   pub sent : is_unsent terms (now_at terms before).tale (session_for terms before client route) ≡ false
 
--- a message with this payload was taken up of a client, and goes to a server as this text
-pub record AsksFor (terms : Terms) (payload text : List ℕ) : Type 0 where
+-- a message with this payload was taken up of a client
+pub record TakesUp (terms : Terms) (payload : List ℕ) : Type 0 where
   pub log : Log
   pub keeps : KeepsApart terms log
   pub client : Client
@@ -67,6 +67,27 @@ pub record AsksFor (terms : Terms) (payload text : List ℕ) : Type 0 where
   pub message : Framed
   pub there : slice_get (messages (plan_in terms) client) count ≡ Some message
   pub has : message.payload ≡ payload
+
+abbrev pub taken_up : {terms : Terms} {payload : List ℕ} → TakesUp terms payload → MessageName
+taken_up up = name_of up.client (suc up.count)
+
+-- and it goes to a server by this route
+pub record SendsBy (terms : Terms) (payload : List ℕ) (route : Route) : Type 0 where
+  pub up : TakesUp terms payload
+  pub goes : (plan_in terms).routes (taken_up up) ≡ Some route
+
+-- as this text
+pub record AsksFor (terms : Terms) (payload text : List ℕ) : Type 0 where
   pub route : Route
-  pub goes : (plan_in terms).routes (name_of client (suc count)) ≡ Some route
+  pub sends : SendsBy terms payload route
   pub as_text : route.text ≡ Some text
+
+-- or it goes to none, and was answered by these
+pub record AnswersBy (terms : Terms) (payload : List ℕ) (payloads : List (List ℕ)) : Type 0 where
+  pub up : TakesUp terms payload
+  pub nowhere : (plan_in terms).routes (taken_up up) ≡ None
+  pub answers : own_at (plan_in terms) (length up.log) (taken_up up) ≡ Some payloads
+
+-- a query, the choice of a schema, or the question for a table's columns
+abbrev pub is_for_servers : (byte : ℕ) → Bool
+is_for_servers byte = nat_eq byte com_query || (nat_eq byte com_init_db || nat_eq byte com_field_list)

@@ -2,10 +2,15 @@
 #![tactic(auto)]
 
 mod asking;
+mod judging;
 mod sessions;
 mod waiting;
 
 pub use asking::{asks_other_texts, copies_a_message, rewrites_without_rules};
+pub use judging::{
+    answers_a_choice, answers_a_ping_otherwise, answers_for_a_server, answers_nothing,
+    sends_another_command, sends_what_is_refused, verdicts_ask,
+};
 pub use sessions::{apart_is_private, cores_keep_apart};
 pub use waiting::{
     forgets_a_statement, leaves_a_link_unnamed, leaves_a_message_unanswered, leaves_a_port_unasked,

@@ -2,7 +2,7 @@
 ghost use Rattle.std.specs.Prelude.{◌≡◌, Bool, None, Some};
 ghost use Rattle.core_tables.specs.Tables.{Tabled};
 ghost use Rattle.core_promises.specs.Sessions.{KeepsApart, Separates};
-ghost use Rattle.core_promises.specs.Asks.{AsksBy};
+ghost use Rattle.core_promises.specs.Judges.{JudgesBy};
 ghost use Rattle.core_promises.specs.Waits.{AreDoneBy};
 ghost use Rattle.own_words.specs.Own.{SpeaksOwn};
 ghost use Rattle.tale_world.specs.Decided.{plan_of};
@@ -23,14 +23,14 @@ ghost use Rattle.server_rule.specs.Servers.{Step, Tests};
 
 use log_story::written_is_private;
 
-/// Where tables stand for a log of a wire, as a core by what a router serves, no message goes to two servers, each goes as its client's own text or
-/// as rules have it, what was decided to be said are the router's own words, and at each wait all was done but lending, the router keeps its
-/// clients apart in that log.
+/// Where tables stand for a log of a wire, as a core by what a router serves, no message goes to two servers, what becomes of each is what the
+/// verdict says, what was decided to be said are the router's own words, and at each wait all was done but lending, the router keeps its clients apart
+/// in that log.
 pub fn cores_keep_apart()
     ensures { (router : Router) (log : Log) (t : Tabled) (roomy : ClientNo → Bool)
         → (core : IsCore (service_of router) router.proxy.default_schema log t roomy) → AreClasses router.reads
         → ((m : MessageName) (route : Route) → core.decided.routes m ≡ Some (Some route) → route.mirror ≡ None)
-        → AsksBy router.rules router.proxy.default_schema core.decided log → SpeaksOwn router.rules (plan_of core.decided)
+        → JudgesBy router.rules router.proxy.default_schema core.decided log → SpeaksOwn router.rules (plan_of core.decided)
         → AreDoneBy router.proxy.default_schema core.decided log
         → AllLawful Fits log → Separates router log }
 {}

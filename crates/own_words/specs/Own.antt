@@ -15,7 +15,6 @@ use Rattle.router_promises.specs.Due.{turned_away}
 use Rattle.router_promises.specs.Errors.{buffers_full, diagnostics_gone, names_connection, no_connection, no_server_in, out_of_memory, refused_by_rule, replay_refused, server_offline, sets_server, too_many_statements, unknown_statement}
 
 -- a rule has this text as its OK_msg, or as its error_msg
-
 abbrev pub is_ok_text : List Rule → (text : List ℕ) → Bool
 is_ok_text rules text = list_any (λ (rule : Rule). option_map_or (bytes_eq text) rule.row.OK_msg false) rules
 

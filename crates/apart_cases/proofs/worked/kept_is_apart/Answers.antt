@@ -1,7 +1,8 @@
+use Rattle.core_promises.proofs.Verdicts.{asks-by}
 use Rattle.apart_cases.proofs.worked.kept_is_apart.Goals as goal
 
 pub returns : goal.returns
-returns c = λ terms log keeps speaks waits asks copies. record {
+returns c = λ terms log keeps speaks waits judges copies. record {
   router = keeps.router;
   fits = keeps.fits;
   who = keeps.who;
@@ -10,6 +11,7 @@ returns c = λ terms log keeps speaks waits asks copies. record {
   due = keeps.due;
   speaks = speaks;
   waits = waits;
-  asks = asks;
+  asks = asks-by terms log judges;
+  judges = judges;
   copies = copies;
 }

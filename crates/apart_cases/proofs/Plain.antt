@@ -1,0 +1,73 @@
+-- A query that isn't refused goes to a server as it is, where there are no rules and a server is there.
+use Rattle.std.specs.Prelude.{◌≡◌, ℕ, Bool, true, false, not, ◌&&◌, ◌||◌, List, [], ◌∷◌, Option, Some, None, if◌then◌else◌, refl}
+use Rattle.pin_classifier.specs.Classes.{class_of}
+use Rattle.pin_classifier.specs.declared.class.Class.{Class}
+use Rattle.pin_classifier.specs.declared.class.Refusal.{Refusal}
+use Rattle.session_state.specs.Pins.{no_pin}
+use Rattle.session_state.specs.declared.pin.Pin.{Pin}
+use Rattle.session_vars.specs.Settings.{defaults}
+use Rattle.server_rule.specs.Classes.{router_reads}
+use Rattle.private_model.specs.Names.{ClientNo, Hostgroup}
+use Rattle.log_story.specs.Plan.{Route, com_query}
+use Rattle.router_promises.specs.Errors.{diagnostics_gone, names_connection}
+use Rattle.router_promises.specs.Verdicts.{Goes, Verdict, Wanted, is_connection_id, plain_route, tells_one}
+use Rattle.message_judge.specs.Judging as judging
+use Rattle.core_promises.specs.Judges.{IsVerdictFor, Knowledge, goes_by}
+
+-- all that is there to be read is its own
+abbrev kept : Pin
+kept = record no_pin { diag = true; own_diag = true; own_found = true }
+
+module _ (c : ClientNo) (home : Hostgroup) (text : List ℕ) where
+  abbrev class : Class
+  class = class_of text
+
+  abbrev pub as_it_is : Route
+  as_it_is = record (plain_route home) { text = Some text }
+
+  abbrev known : Knowledge
+  known = record {
+    caller = record { number = c; user = []; home = home; place = record { schema = []; settings = defaults }; flag = 0; last = None };
+    standing = record { transaction = None; next_number = None };
+    pins = λ hostgroup. kept;
+    is_there = λ hostgroup. true;
+  }
+
+  abbrev wanted : (reads : Bool) → Wanted
+  wanted reads = record { route = record (plain_route (if reads then home else home)) { text = Some text }; key = None }
+
+  abbrev verdict_of : judging.Draft → Verdict
+  verdict_of draft = judging.verdict_by known.pins known.is_there draft
+
+  by-reads : (id diag found : Bool) → goes_by as_it_is
+      ≡ (if (not diag || true) && (not found || true) then Goes (wanted (id || diag)) else tells_one diagnostics_gone)
+  by-reads true true true = refl
+  by-reads true true false = refl
+  by-reads true false true = refl
+  by-reads true false false = refl
+  by-reads false true true = refl
+  by-reads false true false = refl
+  by-reads false false true = refl
+  by-reads false false false = refl
+
+  by-shape : (asks : Bool) → asks ≡ false
+      → goes_by as_it_is ≡ verdict_of (if asks then judging.answers_one names_connection else judging.Sends (Some class) (wanted (class.reads_id || class.reads_diag)))
+  by-shape true is = absurd (cc)
+  by-shape false is = by-reads class.reads_id class.reads_diag class.reads_found
+
+  by-refusal : (why : Option Refusal) → why ≡ None → is_connection_id class.shape ≡ false
+      → goes_by as_it_is ≡ verdict_of (judging.by_class class why (wanted (class.reads_id || class.reads_diag)))
+  by-refusal (Some why) is plain = absurd (cc)
+  by-refusal None is plain = by-shape (is_connection_id class.shape) plain
+
+  asked : (asks : Bool) → asks ≡ false → class.refusal ≡ None → is_connection_id class.shape ≡ false
+      → goes_by as_it_is
+      ≡ verdict_of (if asks then judging.still known.caller (judging.connection_id known.caller known.standing)
+      else judging.by_pass router_reads known.caller known.standing (judging.pass_of [] known.caller text) None).draft
+  unfolding router_reads
+  asked true is free plain = absurd (cc)
+  asked false is free plain = by-refusal class.refusal free plain
+
+  pub goes-as-it-is : class.refusal ≡ None → is_connection_id class.shape ≡ false → IsVerdictFor [] c (com_query ∷ text) (goes_by as_it_is)
+  unfolding router_reads
+  goes-as-it-is free plain = record { known = known; client = refl; flag = refl; is = asked (is_connection_id class.shape) plain free plain }

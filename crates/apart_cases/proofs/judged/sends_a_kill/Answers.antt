@@ -1,0 +1,8 @@
+use Rattle.std.specs.Prelude.{refl}
+use Rattle.pin_classifier.specs.declared.class.Refusal.TheVariants.{NamesConnection}
+use Rattle.apart_cases.proofs.OnClasses.{on_classes}
+use Rattle.apart_cases.proofs.judged.sends_a_kill.Goals as goal
+
+pub returns : goal.returns
+unfolding on_classes
+returns c = λ terms payload asks. c.sends_what_is_refused.ensures terms payload _ NamesConnection asks refl

@@ -1,0 +1,276 @@
+-- What the verdict says of a message, by its first byte.
+use Rattle.std.specs.Prelude.{◌≡◌, ◌⊎◌, ◌||◌, ℕ, Bool, true, false, nat_eq, slice_index_or, length, List, [], ◌∷◌, Option, Some, None, refl, if◌then◌else◌, unwrap_or}
+use Rattle.std.proofs.Common.{sym, subst, ◌∙◌, inl, inr}
+use Rattle.mx_wire.specs.Log.{Log}
+use Rattle.pin_classifier.specs.Classes.{class_of}
+use Rattle.pin_classifier.specs.declared.class.Class.{Class}
+use Rattle.pin_classifier.specs.declared.class.Refusal.{Refusal}
+use Rattle.pin_classifier.specs.declared.class.Refusal.TheVariants as refusal
+use Rattle.query_rules.specs.Effects.{is_first_flag}
+use Rattle.query_rules.specs.Passing.{route_of}
+use Rattle.query_rules.specs.declared.ask.Ask.{Ask}
+use Rattle.query_rules.specs.declared.ask.Routed.{Routed}
+use Rattle.query_rules.specs.declared.ask.Stop.{Stop}
+use Rattle.query_rules.specs.declared.ask.Stop.TheVariants as stop
+use Rattle.query_rules.specs.declared.rule.Rule.{Rule}
+use Rattle.reply_text.specs.Replies.{ok_payload}
+use Rattle.server_rule.specs.Classes.{router_reads}
+use Rattle.session_state.specs.Pins.{reads_own}
+use Rattle.session_state.specs.declared.pin.Pin.{Pin}
+use Rattle.private_model.specs.Names.{ClientNo}
+use Rattle.log_story.specs.Plan.{Plan, Route, com_execute, com_field_list, com_init_db, com_long_data, com_prepare, com_query, com_reset, com_statement_reset}
+use Rattle.log_story.specs.Tale.{Client}
+use Rattle.router_promises.proofs.Refusals.{never}
+use Rattle.router_promises.specs.Errors as error
+use Rattle.router_promises.specs.Statements.{com_close}
+use Rattle.router_promises.specs.Terms.{Terms, plan_in, tale_at}
+use Rattle.router_promises.specs.Verdicts.{Goes, Parts, Tells, Verdict, Wanted, com_fetch, com_ping, com_quit, is_connection_id, plain_route}
+use Rattle.message_judge.specs.Judging as judging
+use Rattle.message_judge.proofs.Commands.{split}
+use Rattle.core_promises.specs.Asks.{AsksOwnOf, AsksSo, IsRewritten, IsTextOf}
+use Rattle.core_promises.specs.Judges.{AreJudged, IsVerdictFor, JudgesSo, Knowledge, goes_by, verdict_on}
+use Rattle.core_promises.specs.Wrong.{is_for_servers}
+
+-- What goes to a server is a query, as a text that isn't refused, and that no rule answers; or the choice of a schema, or the question for a table's columns.
+
+pub record IsPassed (rules : List Rule) (payload text : List ℕ) : Type 0 where
+  pub asks : nat_eq (slice_index_or payload 0 0) com_query ≡ true
+  pub made : IsRewritten rules payload text
+  pub free : (class_of text).refusal ≡ None
+  pub flag : is_first_flag rules made.ask.flag ≡ true
+  pub unstopped : (route_of rules made.ask).stop ≡ None
+
+abbrev pub GoesSo : List Rule → (payload : List ℕ) → Option (List ℕ) → Type 0
+GoesSo rules payload None = (nat_eq (slice_index_or payload 0 0) com_init_db || nat_eq (slice_index_or payload 0 0) com_field_list) ≡ true
+GoesSo rules payload (Some text) = IsPassed rules payload text
+
+abbrev pub IsSo : List Rule → (payload : List ℕ) → Verdict → Type 0
+IsSo rules payload (Goes wanted) = GoesSo rules payload wanted.route.text
+IsSo rules payload _ = Unit {0}
+
+abbrev IsDraft : List Rule → (payload : List ℕ) → judging.Draft → Type 0
+IsDraft rules payload (judging.Sends class wanted) = GoesSo rules payload wanted.route.text
+IsDraft rules payload _ = Unit {0}
+
+-- A query that goes to no server is answered by an error, by a rule's OK, or by more than one payload.
+
+pub record IsByRule (rules : List Rule) (text payload : List ℕ) : Type 0 where
+  pub ask : Ask
+  pub own : ask.text ≡ text
+  pub said : List ℕ
+  pub stops : (route_of rules ask).stop ≡ Some (stop.Ok said)
+  pub status : ℕ
+  pub is : payload ≡ ok_payload status said
+
+abbrev pub AnswersSo : List Rule → (text : List ℕ) → (payloads : List (List ℕ)) → Type 0
+AnswersSo rules text [] = ⊥
+AnswersSo rules text (payload ∷ []) = (slice_index_or payload 0 0 ≡ 255) ⊎ IsByRule rules text payload
+AnswersSo rules text (payload ∷ other ∷ payloads) = Unit {0}
+
+abbrev pub IsToldSo : List Rule → (text : List ℕ) → Verdict → Type 0
+IsToldSo rules text Parts = ⊥
+IsToldSo rules text (Tells payloads) = AnswersSo rules text payloads
+IsToldSo rules text (Goes wanted) = Unit {0}
+
+abbrev IsToldDraft : List Rule → (text : List ℕ) → judging.Draft → Type 0
+IsToldDraft rules text judging.Ends = ⊥
+IsToldDraft rules text (judging.Answers payloads) = AnswersSo rules text payloads
+IsToldDraft rules text (judging.Sends class wanted) = Unit {0}
+
+pub record IsPlainOk (payloads : List (List ℕ)) : Type 0 where
+  pub status : ℕ
+  pub is : payloads ≡ ok_payload status [] ∷ []
+
+abbrev IsPinged : Verdict → Type 0
+IsPinged (Tells payloads) = IsPlainOk payloads
+IsPinged _ = ⊥
+
+-- where a server isn't there
+abbrev pub IsRefusing : Verdict → Type 0
+IsRefusing (Tells (payload ∷ [])) = slice_index_or payload 0 0 ≡ 255
+IsRefusing (Goes wanted) = Unit {0}
+IsRefusing _ = ⊥
+
+sent-refusing : (there : Bool) (wanted : Wanted) → IsRefusing (judging.sent_unless there wanted)
+unfolding error.no_server_in
+sent-refusing true wanted = tt
+sent-refusing false wanted = refl
+
+module _ (rules : List Rule) (known : Knowledge) (flagged : is_first_flag rules known.caller.flag ≡ true) where
+  -- of a draft, as it is admitted
+
+  sent : (payload : List ℕ) (there : Bool) (wanted : Wanted) → GoesSo rules payload wanted.route.text → IsSo rules payload (judging.sent_unless there wanted)
+  sent payload true wanted so = so
+  sent payload false wanted so = tt
+
+  admitted : (payload : List ℕ) (class : Option Class) (pin : Pin) (there : Bool) (wanted : Wanted) → GoesSo rules payload wanted.route.text
+      → IsSo rules payload (judging.admitted class pin there wanted)
+  admitted payload None pin there wanted so = sent payload there wanted so
+  admitted payload (Some class) pin there wanted so = by (reads_own class pin) where
+    by : (own : Bool) → IsSo rules payload (if own then judging.sent_unless there wanted else Tells (error.diagnostics_gone ∷ []))
+    by true = sent payload there wanted so
+    by false = tt
+
+  drafted : (payload : List ℕ) (draft : judging.Draft) → IsDraft rules payload draft → IsSo rules payload (judging.verdict_by known.pins known.is_there draft)
+  drafted payload judging.Ends so = tt
+  drafted payload (judging.Answers payloads) so = tt
+  drafted payload (judging.Sends class wanted) so = admitted payload class _ _ wanted so
+
+  sent-told : (text : List ℕ) (there : Bool) (wanted : Wanted) → IsToldSo rules text (judging.sent_unless there wanted)
+  unfolding error.no_server_in
+  sent-told text true wanted = tt
+  sent-told text false wanted = inl refl
+
+  admitted-told : (text : List ℕ) (class : Option Class) (pin : Pin) (there : Bool) (wanted : Wanted) → IsToldSo rules text (judging.admitted class pin there wanted)
+  unfolding error.diagnostics_gone
+  admitted-told text None pin there wanted = sent-told text there wanted
+  admitted-told text (Some class) pin there wanted = by (reads_own class pin) where
+    by : (own : Bool) → IsToldSo rules text (if own then judging.sent_unless there wanted else Tells (error.diagnostics_gone ∷ []))
+    by true = sent-told text there wanted
+    by false = inl refl
+
+  drafted-told : (text : List ℕ) (draft : judging.Draft) → IsToldDraft rules text draft → IsToldSo rules text (judging.verdict_by known.pins known.is_there draft)
+  drafted-told text judging.Ends so = so
+  drafted-told text (judging.Answers payloads) so = so
+  drafted-told text (judging.Sends class wanted) so = admitted-told text class _ _ wanted
+
+  -- a query, by the class of its text and by the rules
+
+  classed : (rest text : List ℕ) (why : Option Refusal) (wanted : Wanted) → (class_of text).refusal ≡ why → wanted.route.text ≡ Some text
+      → (made : IsRewritten rules (com_query ∷ rest) text) → is_first_flag rules made.ask.flag ≡ true → (route_of rules made.ask).stop ≡ None
+      → IsDraft rules (com_query ∷ rest) (judging.by_class (class_of text) why wanted)
+  classed rest text (Some refusal.SetsServer) wanted free is made flag unstopped = tt
+  classed rest text (Some refusal.NamesConnection) wanted free is made flag unstopped = tt
+  classed rest text (Some refusal.ReadsLast) wanted free is made flag unstopped = tt
+  classed rest text None wanted free is made flag unstopped = by (is_connection_id (class_of text).shape) where
+    by : (asks : Bool) → IsDraft rules (com_query ∷ rest) (if asks then judging.answers_one error.names_connection else judging.Sends (Some (class_of text)) wanted)
+    by true = tt
+    by false = subst (GoesSo rules (com_query ∷ rest)) (sym is) (record { asks = refl; made = made; free = free; flag = flag; unstopped = unstopped })
+
+  ruled : (ask : Ask) (why : Option Stop) → is_first_flag rules ask.flag ≡ true → (route_of rules ask).stop ≡ why
+      → IsDraft rules (com_query ∷ ask.text) (judging.ruled router_reads known.caller known.standing (route_of rules ask) None why)
+  unfolding router_reads
+  ruled ask None flag is =
+      classed ask.text (route_of rules ask).text (class_of (route_of rules ask).text).refusal _ refl refl (record { ask = ask; own = refl; is = refl }) flag is
+  ruled ask (Some (stop.Error text)) flag is = tt
+  ruled ask (Some (stop.Ok text)) flag is = tt
+
+  classed-told : (text : List ℕ) (class : Class) (why : Option Refusal) (wanted : Wanted) → IsToldDraft rules text (judging.by_class class why wanted)
+  unfolding error.sets_server error.names_connection error.diagnostics_gone
+  classed-told text class (Some refusal.SetsServer) wanted = inl refl
+  classed-told text class (Some refusal.NamesConnection) wanted = inl refl
+  classed-told text class (Some refusal.ReadsLast) wanted = inl refl
+  classed-told text class None wanted = by (is_connection_id class.shape) where
+    by : (asks : Bool) → IsToldDraft rules text (if asks then judging.answers_one error.names_connection else judging.Sends (Some class) wanted)
+    by true = inl refl
+    by false = tt
+
+  ruled-told : (ask : Ask) (why : Option Stop) → (route_of rules ask).stop ≡ why
+      → IsToldDraft rules ask.text (judging.ruled router_reads known.caller known.standing (route_of rules ask) None why)
+  unfolding error.refused_by_rule
+  ruled-told ask None is =
+      let class : Class = router_reads.class (route_of rules ask).text in
+      let wanted : Wanted = record {
+        route = record (plain_route (judging.hostgroup_for known.caller known.standing class (route_of rules ask).hostgroup)) {
+          text = Some (route_of rules ask).text;
+          multiplex = (route_of rules ask).multiplex;
+        };
+        key = None;
+      } in
+      classed-told ask.text class class.refusal wanted
+  ruled-told ask (Some (stop.Error text)) is = inl refl
+  ruled-told ask (Some (stop.Ok text)) is = inr (record { ask = ask; own = refl; said = text; stops = is; status = judging.own_status known.caller known.standing; is = refl })
+
+  module _ (text : List ℕ) where
+    abbrev ask : Ask
+    ask = record { user = known.caller.user; schema = known.caller.place.schema; flag = known.caller.flag; text = text; default_hostgroup = known.caller.home }
+
+    abbrev asked_by : Bool → judging.Judged
+    asked_by asks =
+        if asks then judging.still known.caller (judging.connection_id known.caller known.standing)
+        else judging.by_pass router_reads known.caller known.standing (judging.pass_of rules known.caller text) None
+
+    asked : IsDraft rules (com_query ∷ text) (judging.asks router_reads rules known.caller known.standing text).draft
+    asked = by (is_connection_id (router_reads.class text).shape) where
+      by : (asks : Bool) → IsDraft rules (com_query ∷ text) (asked_by asks).draft
+      by true = tt
+      by false = ruled ask (route_of rules ask).stop flagged refl
+
+    asked-told : IsToldDraft rules text (judging.asks router_reads rules known.caller known.standing text).draft
+    asked-told = by (is_connection_id (router_reads.class text).shape) where
+      by : (asks : Bool) → IsToldDraft rules text (asked_by asks).draft
+      by true = tt
+      by false = ruled-told ask (route_of rules ask).stop refl
+
+  -- of any message
+
+  judged-so : (payload : List ℕ) → IsSo rules payload (verdict_on rules known payload)
+  judged-so [] = tt
+  judged-so (byte ∷ rest) =
+      split byte com_query (λ is. moved is (drafted (com_query ∷ rest) _ (asked rest)))
+      (λ query. split byte com_init_db (λ is. moved is (drafted (com_init_db ∷ rest) (judging.plain known.caller known.standing) refl))
+      (λ init. split byte com_field_list (λ is. moved is (drafted (com_field_list ∷ rest) (judging.plain known.caller known.standing) refl))
+      (λ fields. split byte com_quit (λ is. moved is tt)
+      (λ quit. split byte com_ping (λ is. moved is tt)
+      (λ ping. split byte com_prepare (λ is. moved is tt)
+      (λ prepare. split byte com_execute (λ is. moved is tt)
+      (λ execute. split byte com_long_data (λ is. moved is tt)
+      (λ long. split byte com_close (λ is. moved is tt)
+      (λ close. split byte com_statement_reset (λ is. moved is tt)
+      (λ resets. split byte com_fetch (λ is. moved is tt)
+      (λ fetch. split byte com_reset (λ is. moved is tt)
+      (λ reset. rw (query, init, fields, quit, ping, prepare, execute, long, close, resets, fetch, reset) tt))))))))))))
+    where
+      moved : {k : ℕ} → byte ≡ k → IsSo rules (k ∷ rest) (verdict_on rules known (k ∷ rest)) → IsSo rules (byte ∷ rest) (verdict_on rules known (byte ∷ rest))
+      moved is so = subst (λ b. IsSo rules (b ∷ rest) (verdict_on rules known (b ∷ rest))) (sym is) so
+
+  query-told : (text : List ℕ) → IsToldSo rules text (verdict_on rules known (com_query ∷ text))
+  query-told text = drafted-told text (judging.asks router_reads rules known.caller known.standing text).draft (asked-told text)
+
+or-left : (a b : Bool) → a ≡ true → (a || b) ≡ true
+or-left true b is = refl
+or-left false b is = never (sym is)
+
+or-right : (a b : Bool) → b ≡ true → (a || b) ≡ true
+or-right true b is = refl
+or-right false b is = is
+
+-- by no other command
+pub goes-not : {A : Type 0} (rules : List Rule) (payload : List ℕ) (text : Option (List ℕ)) → GoesSo rules payload text → is_for_servers (slice_index_or payload 0 0) ≡ false → A
+goes-not rules payload None so other = never (sym (or-right (nat_eq (slice_index_or payload 0 0) com_query) _ so) ∙ other)
+goes-not rules payload (Some text) so other = never (sym (or-left (nat_eq (slice_index_or payload 0 0) com_query) _ so.asks) ∙ other)
+
+-- for something that is known
+
+module _ (rules : List Rule) (c : ClientNo) where
+  pub goes-so : (payload : List ℕ) (route : Route) → IsVerdictFor rules c payload (goes_by route) → GoesSo rules payload route.text
+  goes-so payload route for = subst (IsSo rules payload) (sym for.is) (judged-so rules for.known for.flag payload)
+
+  pub answers-so : (text : List ℕ) (payloads : List (List ℕ)) → IsVerdictFor rules c (com_query ∷ text) (Tells payloads) → AnswersSo rules text payloads
+  answers-so text payloads for = subst (IsToldSo rules text) (sym for.is) (query-told rules for.known for.flag text)
+
+  -- the choice of a schema is answered by a server, or refused
+  pub choice-told : (schema : List ℕ) (payloads : List (List ℕ)) → IsVerdictFor rules c (com_init_db ∷ schema) (Tells payloads) → IsRefusing (Tells payloads)
+  choice-told schema payloads for = subst IsRefusing (sym for.is) (sent-refusing (for.known.is_there (unwrap_or for.known.standing.transaction for.known.caller.home)) _)
+
+  -- a PING is answered OK, without a text
+  pub ping-told : (rest : List ℕ) (payloads : List (List ℕ)) → IsVerdictFor rules c (com_ping ∷ rest) (Tells payloads) → IsPlainOk payloads
+  ping-told rest payloads for = subst IsPinged (sym for.is) (record { status = judging.own_status for.known.caller for.known.standing; is = refl })
+
+  -- the text that it has
+  text-so : (payload : List ℕ) (text : Option (List ℕ)) → GoesSo rules payload text → IsTextOf rules payload text
+  text-so payload None so = tt
+  text-so payload (Some text) so = so.made
+
+  pub asks-text : (payload : List ℕ) (route : Route) → IsVerdictFor rules c payload (goes_by route) → IsTextOf rules payload route.text
+  asks-text payload route for = text-so payload route.text (goes-so payload route for)
+
+-- of each client
+
+asks-own : (rules : List Rule) (plan : Plan) (moment : ℕ) (client : Client) → AreJudged rules plan moment client → AsksOwnOf rules plan client
+asks-own rules plan moment client judged k message route within there goes =
+    asks-text rules client.number message.payload route ((judged k message within there).goes route goes)
+
+pub asks-by : (terms : Terms) (log : Log) → JudgesSo terms log → AsksSo terms log
+asks-by terms log judges k d within =
+    asks-own terms.router.rules (plan_in terms) (length log) (slice_index_or (tale_at terms log).clients k d) (judges k d within)

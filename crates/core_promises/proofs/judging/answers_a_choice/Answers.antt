@@ -1,0 +1,9 @@
+use Rattle.std.proofs.Common.{arith}
+use Rattle.core_promises.proofs.Texts.{answer-for}
+use Rattle.core_promises.proofs.Verdicts.{choice-told}
+use Rattle.core_promises.proofs.judging.answers_a_choice.Goals as goal
+
+pub returns : goal.returns
+returns c = λ terms schema info status answers.
+    let error = choice-told terms.router.rules _ schema _ (answer-for terms _ _ answers) in
+    absurd (omega (arith, error))

@@ -1,0 +1,8 @@
+use Rattle.core_promises.proofs.Texts.{answer-for}
+use Rattle.core_promises.proofs.Verdicts.{ping-told}
+use Rattle.core_promises.proofs.judging.answers_a_ping_otherwise.Goals as goal
+
+pub returns : goal.returns
+returns c = λ terms rest payloads answers other.
+    let told = ping-told terms.router.rules _ rest payloads (answer-for terms _ payloads answers) in
+    other told.status told.is

@@ -1,0 +1,6 @@
+use Rattle.core_promises.proofs.Texts.{sent-so}
+use Rattle.core_promises.proofs.Verdicts.{goes-not}
+use Rattle.core_promises.proofs.judging.sends_another_command.Goals as goal
+
+pub returns : goal.returns
+returns c = λ terms payload route sends other. goes-not terms.router.rules payload route.text (sent-so terms payload route sends) other

@@ -1,0 +1,69 @@
+// What the verdict says of a message that goes to a server; and routers that do otherwise with one: none that keeps its clients apart does so.
+ghost use Rattle.std.specs.Prelude.{◌≡◌, ◌≢◌, ℕ, false, true, List, [], ◌∷◌, slice_index_or, Some, None};
+ghost use Rattle.core_promises.specs.Asks.{IsTextOf};
+ghost use Rattle.core_promises.specs.Judges.{IsVerdictFor, goes_by};
+ghost use Rattle.core_promises.specs.Wrong.{AnswersBy, AsksFor, SendsBy, is_for_servers};
+ghost use Rattle.log_story.specs.Plan.{Route, com_init_db, com_query};
+ghost use Rattle.pin_classifier.specs.Classes.{class_of};
+ghost use Rattle.pin_classifier.specs.declared.class.Refusal.{Refusal};
+ghost use Rattle.private_model.specs.Names.{ClientNo};
+ghost use Rattle.query_rules.specs.Effects.{is_first_flag};
+ghost use Rattle.query_rules.specs.Passing.{route_of};
+ghost use Rattle.query_rules.specs.declared.ask.Ask.{Ask};
+ghost use Rattle.query_rules.specs.declared.ask.Stop.TheVariants.{Ok as OkBy};
+ghost use Rattle.query_rules.specs.declared.rule.Rule.{Rule};
+ghost use Rattle.reply_text.specs.Replies.{ok_payload};
+ghost use Rattle.router_promises.specs.Terms.{Terms};
+ghost use Rattle.router_promises.specs.Verdicts.{com_ping};
+
+/// Where the verdict says that a message goes to a server, it says so of the client's own text, or of what the rules make of that.
+pub fn verdicts_ask()
+    ensures { (rules : List Rule) (c : ClientNo) (payload : List ℕ) (route : Route)
+        → IsVerdictFor rules c payload (goes_by route) → IsTextOf rules payload route.text }
+{}
+
+/// A text goes to a server that is refused, whatever its client: a KILL, or a SET GLOBAL.
+pub fn sends_what_is_refused()
+    ensures { (terms : Terms) (payload text : List ℕ) (why : Refusal) → AsksFor terms payload text
+        → (class_of text).refusal ≡ Some why → ⊥ }
+{}
+
+/// A command goes to a server that is no query, no choice of a schema and no question for a table's columns: a QUIT, a PING, or one for a prepared
+/// statement.
+pub fn sends_another_command()
+    ensures { (terms : Terms) (payload : List ℕ) (route : Route) → SendsBy terms payload route
+        → is_for_servers (slice_index_or payload 0 0) ≡ false → ⊥ }
+{}
+
+/// A query goes to a server that the rules answer, whoever its client is and whatever its schema, at each flag by which they may be tried first.
+pub fn goes_past_a_rule()
+    ensures { (terms : Terms) (text : List ℕ) (route : Route) → SendsBy terms (com_query ∷ text) route
+        → ((ask : Ask) → ask.text ≡ text → is_first_flag terms.router.rules ask.flag ≡ true
+        → (route_of terms.router.rules ask).stop ≢ None) → ⊥ }
+{}
+
+/// A query is answered by nothing.
+pub fn answers_nothing()
+    ensures { (terms : Terms) (text : List ℕ) → AnswersBy terms (com_query ∷ text) [] → ⊥ }
+{}
+
+/// A query that no rule answers is answered OK in place of a server.
+pub fn answers_for_a_server()
+    ensures { (terms : Terms) (text info : List ℕ) (status : ℕ)
+        → AnswersBy terms (com_query ∷ text) (ok_payload status info ∷ [])
+        → ((ask : Ask) (said : List ℕ) → ask.text ≡ text
+        → (route_of terms.router.rules ask).stop ≢ Some (OkBy said)) → ⊥ }
+{}
+
+/// The choice of a schema is.
+pub fn answers_a_choice()
+    ensures { (terms : Terms) (schema info : List ℕ) (status : ℕ)
+        → AnswersBy terms (com_init_db ∷ schema) (ok_payload status info ∷ []) → ⊥ }
+{}
+
+/// A PING is answered by anything but an OK without a text.
+pub fn answers_a_ping_otherwise()
+    ensures { (terms : Terms) (rest : List ℕ) (payloads : List (List ℕ))
+        → AnswersBy terms (com_ping ∷ rest) payloads
+        → ((status : ℕ) → payloads ≢ ok_payload status [] ∷ []) → ⊥ }
+{}
