@@ -11,7 +11,6 @@ use Rattle.pin_classifier.specs.Classes.{class_of}
 use Rattle.pin_classifier.specs.declared.class.Class.{Class}
 use Rattle.pin_classifier.specs.declared.class.Refusal.{Refusal}
 use Rattle.pin_classifier.specs.declared.class.Refusal.TheVariants as refusal
-use Rattle.query_rules.specs.declared.ask.Ask.{Ask}
 use Rattle.query_rules.specs.declared.ask.Routed.{Routed}
 use Rattle.query_rules.specs.declared.ask.Stop.{Stop}
 use Rattle.query_rules.specs.declared.ask.Stop.TheVariants as stop
@@ -22,21 +21,22 @@ use Rattle.router_promises.specs.Errors as error
 use Rattle.router_promises.specs.Statements.{com_close}
 use Rattle.router_promises.specs.Verdicts as verdicts
 use Rattle.router_promises.specs.Verdicts.{Wanted, is_connection_id}
-use Rattle.message_judge.specs.Drafts.{IsOwnDraft, draft_of, value_of}
+use Rattle.std.specs.Option.{option_or}
+use Rattle.message_judge.specs.Drafts.{draft_of, executed_key, prepared_key, value_of}
 use Rattle.message_judge.specs.Judging as judging
 use Rattle.message_judge.specs.declared.caller.Caller.{Caller}
 use Rattle.message_judge.specs.declared.caller.Standing.{Standing}
 use Rattle.message_judge.specs.declared.draft.Draft.{Draft}
 use Rattle.message_judge.specs.declared.draft.Draft.TheVariants as drafts
+use Rattle.message_judge.specs.declared.draft.Going.{Going}
 use Rattle.message_judge.specs.declared.draft.Judged.{Judged}
 use Rattle.message_judge.proofs.Commands.{split}
-use Rattle.core_promises.specs.Asks.{IsRewritten, IsTextOf}
-use Rattle.core_turns.specs.Judged.{IsDraftOn, IsNoReset, IsOwnDraftOn, IsSayable}
+use Rattle.core_turns.specs.Judged.{IsDraftOn, IsNoReset, IsSayable}
 
-abbrev pub IsSo : List Rule → (payload : List ℕ) → judging.Draft → Type 0
-IsSo rules payload judging.Ends = IsNoReset payload
-IsSo rules payload (judging.Answers payloads) = Unit {0}
-IsSo rules payload (judging.Sends class wanted) = IsSayable payload class wanted.route.text × IsTextOf rules payload wanted.route.text
+abbrev pub IsSo : (payload : List ℕ) → judging.Draft → Type 0
+IsSo payload judging.Ends = IsNoReset payload
+IsSo payload (judging.Answers payloads) = Unit {0}
+IsSo payload (judging.Sends class wanted) = IsSayable payload class wanted.route.text × (wanted.key ≡ None)
 
 -- what the router answers itself, whoever asks
 
@@ -75,9 +75,9 @@ module _ (payload : List ℕ) where
   long-own (Some id) is = part-own id is (number_at 2 5 payload) refl
 
 module _ (rules : List Rule) (caller : Caller) (standing : Standing) where
-  faults : (payload : List ℕ) (byte : ℕ) (why : CommandFault) → IsSo rules payload (judging.faulty byte why)
+  faults : (payload : List ℕ) (byte : ℕ) (why : CommandFault) → IsSo payload (judging.faulty byte why)
   faults payload byte why = by (has_no_reply byte) refl why where
-    by : (silent : Bool) → has_no_reply byte ≡ silent → (why : CommandFault) → IsSo rules payload (judging.faulty byte why)
+    by : (silent : Bool) → has_no_reply byte ≡ silent → (why : CommandFault) → IsSo payload (judging.faulty byte why)
     by silent is (fault.UnknownStatement id) = tt
     by true is fault.Empty = rw is tt
     by true is (fault.Short at) = rw is tt
@@ -87,7 +87,7 @@ module _ (rules : List Rule) (caller : Caller) (standing : Standing) where
     by false is fault.TypesMissing = rw is tt
 
   owns : (payload : List ℕ) (byte : ℕ) (meant : Result Meaning CommandFault) → is_own meant ≡ true
-      → IsSo rules payload (judging.by_parsed router_reads rules caller standing None byte meant).draft
+      → IsSo payload (judging.by_parsed router_reads rules caller standing None byte meant).draft
   owns payload byte (Err why) own = faults payload byte why
   owns payload byte (Ok meaning.Quit) own = absurd (cc)
   owns payload byte (Ok (meaning.InitDb schema)) own = absurd (cc)
@@ -106,49 +106,44 @@ module _ (rules : List Rule) (caller : Caller) (standing : Standing) where
   -- a query
 
   classed : (rest : List ℕ) (class : Class) (why : Option Refusal) (wanted : Wanted) (text : List ℕ)
-      → wanted.route.text ≡ Some text → class ≡ class_of text → IsRewritten rules (com_query ∷ rest) text → IsSo rules (com_query ∷ rest) (judging.by_class class why wanted)
-  classed rest class (Some refusal.SetsServer) wanted text is classes made = tt
-  classed rest class (Some refusal.NamesConnection) wanted text is classes made = tt
-  classed rest class (Some refusal.ReadsLast) wanted text is classes made = tt
-  classed rest class None wanted text is classes made = by (is_connection_id class.shape) where
-    by : (asks : Bool) → IsSo rules (com_query ∷ rest) (if asks then judging.answers_one error.names_connection else judging.Sends (Some class) wanted)
+      → wanted.route.text ≡ Some text → class ≡ class_of text → wanted.key ≡ None → IsSo (com_query ∷ rest) (judging.by_class class why wanted)
+  classed rest class (Some refusal.SetsServer) wanted text is classes keyless = tt
+  classed rest class (Some refusal.NamesConnection) wanted text is classes keyless = tt
+  classed rest class (Some refusal.ReadsLast) wanted text is classes keyless = tt
+  classed rest class None wanted text is classes keyless = by (is_connection_id class.shape) where
+    by : (asks : Bool) → IsSo (com_query ∷ rest) (if asks then judging.answers_one error.names_connection else judging.Sends (Some class) wanted)
     by true = tt
-    by false =
-        (subst (IsSayable (com_query ∷ rest) (Some class)) (sym is) (refl, classes), subst (IsTextOf rules (com_query ∷ rest)) (sym is) made)
+    by false = (subst (IsSayable (com_query ∷ rest) (Some class)) (sym is) (refl, classes), keyless)
 
-  ruled-so : (rest : List ℕ) (routed : Routed) (why : Option Stop) → IsRewritten rules (com_query ∷ rest) routed.text
-      → IsSo rules (com_query ∷ rest) (judging.ruled router_reads caller standing routed None why)
+  ruled-so : (rest : List ℕ) (routed : Routed) (why : Option Stop) → IsSo (com_query ∷ rest) (judging.ruled router_reads caller standing routed None why)
   unfolding router_reads
-  ruled-so rest routed None made = classed rest (class_of routed.text) (class_of routed.text).refusal _ routed.text refl refl made
-  ruled-so rest routed (Some (stop.Error text)) made = tt
-  ruled-so rest routed (Some (stop.Ok text)) made = tt
+  ruled-so rest routed None = classed rest (class_of routed.text) (class_of routed.text).refusal _ routed.text refl refl refl
+  ruled-so rest routed (Some (stop.Error text)) = tt
+  ruled-so rest routed (Some (stop.Ok text)) = tt
 
-  asked-so : (rest : List ℕ) → IsSo rules (com_query ∷ rest) (judging.asks router_reads rules caller standing rest).draft
+  asked-so : (rest : List ℕ) → IsSo (com_query ∷ rest) (judging.asks router_reads rules caller standing rest).draft
   asked-so rest = by (is_connection_id (router_reads.class rest).shape) where
-    ask : Ask
-    ask = record { user = caller.user; schema = caller.place.schema; flag = caller.flag; text = rest; default_hostgroup = caller.home }
-
     routed : Routed
     routed = judging.pass_of rules caller rest
 
     by : (asks : Bool)
-        → IsSo rules (com_query ∷ rest)
+        → IsSo (com_query ∷ rest)
         (if asks then judging.still caller (judging.connection_id caller standing) else judging.by_pass router_reads caller standing routed None).draft
     by true = tt
-    by false = ruled-so rest routed routed.stop (record { ask = ask; own = refl; is = refl })
+    by false = ruled-so rest routed routed.stop
 
-  prepared-so : (rest : List ℕ) (next : Option ℕ) → next ≡ None → IsSo rules (com_prepare ∷ rest) (judging.prepares router_reads rules caller standing rest next).draft
+  prepared-so : (rest : List ℕ) (next : Option ℕ) → next ≡ None → IsSo (com_prepare ∷ rest) (judging.prepares router_reads rules caller standing rest next).draft
   prepared-so rest None none = tt
   prepared-so rest (Some number) none = absurd (cc)
 
   -- by the message's bytes
-  judged-so : standing.next_number ≡ None → (payload : List ℕ) → IsSo rules payload (judging.judged router_reads rules caller standing None payload).draft
+  judged-so : standing.next_number ≡ None → (payload : List ℕ) → IsSo payload (judging.judged router_reads rules caller standing None payload).draft
   judged-so none [] = tt
   judged-so none (byte ∷ rest) =
       split byte verdicts.com_quit (λ is. moved is refl)
-      (λ quit. split byte com_init_db (λ is. moved is (inl refl, tt))
+      (λ quit. split byte com_init_db (λ is. moved is (inl refl, refl))
       (λ init. split byte com_query (λ is. moved is (asked-so rest))
-      (λ query. split byte com_field_list (λ is. moved is (inr refl, tt))
+      (λ query. split byte com_field_list (λ is. moved is (inr refl, refl))
       (λ fields. split byte verdicts.com_ping (λ is. moved is tt)
       (λ ping. split byte com_prepare (λ is. moved is (prepared-so rest standing.next_number none))
       (λ prepare. split byte com_execute (λ is. moved is (owns (com_execute ∷ rest) com_execute _ (execute-own (com_execute ∷ rest) _ refl)))
@@ -159,31 +154,26 @@ module _ (rules : List Rule) (caller : Caller) (standing : Standing) where
       (λ fetch. split byte com_reset (λ is. moved is tt)
       (λ reset. rw (quit, init, query, fields, ping, prepare, execute, long, close, resets, fetch, reset) tt))))))))))))
     where
-      moved : {k : ℕ} → byte ≡ k → IsSo rules (k ∷ rest) (judging.judged router_reads rules caller standing None (k ∷ rest)).draft
-          → IsSo rules (byte ∷ rest) (judging.judged router_reads rules caller standing None (byte ∷ rest)).draft
-      moved is so = subst (λ b. IsSo rules (b ∷ rest) (judging.judged router_reads rules caller standing None (b ∷ rest)).draft) (sym is) so
+      moved : {k : ℕ} → byte ≡ k → IsSo (k ∷ rest) (judging.judged router_reads rules caller standing None (k ∷ rest)).draft
+          → IsSo (byte ∷ rest) (judging.judged router_reads rules caller standing None (byte ∷ rest)).draft
+      moved is so = subst (λ b. IsSo (b ∷ rest) (judging.judged router_reads rules caller standing None (b ∷ rest)).draft) (sym is) so
 
-pub IfOk-both : {X Y : Type 0} (r : Result X Y) (P Q R : X → Type 0) → ((x : X) → P x → Q x → R x) → IfOk r P → IfOk r Q → IfOk r R
-IfOk-both (Ok x) P Q R both p q = both x p q
-IfOk-both (Err y) P Q R both p q = tt
+-- what has no key has no number
+unnumbered : (caller : Caller) (going : Going) → option_or (prepared_key caller going going.number) (executed_key caller None going.class) ≡ None
+    → going.number ≡ None
+unnumbered caller going keyless = by going.number keyless where
+  by : (number : Option ℕ) → option_or (prepared_key caller going number) (executed_key caller None going.class) ≡ None → number ≡ None
+  by None is = refl
+  by (Some number) is = absurd (let e = is in cc)
 
 -- and of the draft that code has
+pub drafted-so : (rules : List Rule) (caller : Caller) (standing : Standing) (payload : List ℕ) (found : Judged) → standing.next_number ≡ None
+    → value_of caller None found ≡ judging.judged router_reads rules caller standing None payload → IsDraftOn payload found.draft
+drafted-so rules caller standing payload found none is = by found.draft so where
+  so : IsSo payload (draft_of caller None found.draft)
+  so = subst (IsSo payload) (sym (ap (λ (j : judging.Judged). j.draft) is)) (judged-so rules caller standing none payload)
 
-module _ (rules : List Rule) (caller : Caller) (standing : Standing) (payload : List ℕ) (found : Judged) (none : standing.next_number ≡ None)
-    (is : value_of caller None found ≡ judging.judged router_reads rules caller standing None payload) where
-  found-so : IsSo rules payload (draft_of caller None found.draft)
-  found-so = subst (IsSo rules payload) (sym (ap (λ (j : judging.Judged). j.draft) is)) (judged-so rules caller standing none payload)
-
-  pub drafted-so : IsDraftOn payload found.draft
-  drafted-so = by found.draft found-so where
-    by : (draft : Draft) → IsSo rules payload (draft_of caller None draft) → IsDraftOn payload draft
-    by drafts.Ends so = so
-    by (drafts.Answers told) so = tt
-    by (drafts.Sends going) so = so.0
-
-  pub drafted-own : IsOwnDraft rules found.draft → IsOwnDraftOn rules payload found.draft
-  drafted-own own = by found.draft found-so own where
-    by : (draft : Draft) → IsSo rules payload (draft_of caller None draft) → IsOwnDraft rules draft → IsOwnDraftOn rules payload draft
-    by drafts.Ends so own = tt
-    by (drafts.Answers told) so own = own
-    by (drafts.Sends going) so own = so.1
+  by : (draft : Draft) → IsSo payload (draft_of caller None draft) → IsDraftOn payload draft
+  by drafts.Ends so = so
+  by (drafts.Answers told) so = tt
+  by (drafts.Sends going) so = (so.0, unnumbered caller going so.1)

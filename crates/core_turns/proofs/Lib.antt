@@ -1,4 +1,5 @@
 pub mod Drafts
+pub mod Promised
 pub mod Forms
 pub mod Able
 pub mod Ups

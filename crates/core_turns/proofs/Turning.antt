@@ -91,15 +91,18 @@ module _ (service : Service) (default : List ℕ) (c : ClientNo) (old between : 
     taken-up turns.Answered is = (
       is.payloads,
       is.own,
-      record {
-        between = between;
-        up = comes-up ordinal message looks found;
-        flag = is.flag;
-        packets = is.packets;
-        statements = is.statements;
-        spelt = is.spelt;
-        makes = makes-so (is_reset message) is.flag is.packets is.statements new able.able.lives is.makes;
-      },
+      (
+        record {
+          between = between;
+          up = comes-up ordinal message looks found;
+          flag = is.flag;
+          packets = is.packets;
+          statements = is.statements;
+          spelt = is.spelt;
+          makes = makes-so (is_reset message) is.flag is.packets is.statements new able.able.lives is.makes;
+        },
+        is.ruled,
+      ),
     )
     taken-up (turns.Due hostgroup) is = record {
       route = is.route;
@@ -196,7 +199,7 @@ turn-some (Answers payloads) service default c old new is =
 
 pub answered-choice : (rules : List Rule) (service : Service) (default : List ℕ) (c : ClientNo) (old new : Tabled) → IsTurned turns.Answered rules service default c old new
     → HasChosen rules service default c old new
-answered-choice rules service default c old new is = record { choice = Answers is.0; said = is.1; turns = (is.2, tt) }
+answered-choice rules service default c old new is = record { choice = Answers is.0; said = is.1; turns = is.2 }
 
 pub due-choice : (hostgroup : Hostgroup) (rules : List Rule) (service : Service) (default : List ℕ) (c : ClientNo) (old new : Tabled) → IsTurned (turns.Due hostgroup) rules service default c old new
     → HasChosen rules service default c old new

@@ -10,7 +10,7 @@ use Rattle.own_words.specs.Own.{IsAnswer}
 use Rattle.query_rules.specs.declared.rule.Rule.{Rule}
 use Rattle.server_rule.specs.Classes.{Reads}
 use Rattle.private_model.specs.Commands.{Command, is_marked}
-use Rattle.log_story.specs.Plan.{Route, com_execute, text_payload}
+use Rattle.log_story.specs.Plan.{com_execute, text_payload}
 use Rattle.link_state.specs.Asks.{marks}
 use Rattle.link_state.specs.declared.asking.Form.{Form}
 use Rattle.link_state.specs.declared.wish.Command.TheVariants.{Plain}
@@ -23,8 +23,9 @@ use Rattle.stmt_map.specs.declared.client.ClientStatements.{ClientStatements}
 use Rattle.core_tables.specs.Tables.{IsSame, Tabled}
 use Rattle.core_tables.specs.Taking.{IsDue, asked_of, found_of, text_work}
 use Rattle.core_tables.specs.declared.client.Client.{Client}
-use Rattle.core_promises.specs.Asks.{IsTextOf}
-use Rattle.core_turns.specs.Judged.{IsSendable}
+use Rattle.router_promises.specs.Verdicts.{Tells}
+use Rattle.core_promises.specs.Judges.{IsVerdictFor, goes_by}
+use Rattle.core_turns.specs.Judged.{IsSendable, route_by}
 use Rattle.core_turns.specs.Taken.{IsAnswered, IsDueThere, OnUp, answered_so}
 
 -- the row is the one that is there
@@ -43,10 +44,12 @@ payload-at payload found message at is = subst (λ (o : Option Framed). IfSome o
 pub answer-so : (anew : Bool) (rules : List Rule) (c : ClientNo) (flag : ℕ) (said packets : List ℕ) (statements : ClientStatements) (payloads : List (List ℕ)) (old new : Tabled)
     → IsAnswer rules c payloads → OnUp c old (λ row message. packets ≡ spellings row.desk.seat.first payloads) → said ≡ packets
     → OnUp c old (λ row message. anew ≡ nat_eq (slice_index_or message.payload 0 0) 0x1F)
-    → IsSame new (answered_so anew c flag said statements old) → OnUp c old (λ row message. IsAnswered rules c row message old new)
-answer-so anew rules c flag said packets statements payloads old new own spelt same is made = λ row there message found. record {
+    → IsSame new (answered_so anew c flag said statements old)
+    → OnUp c old (λ row message. IsVerdictFor rules c message.payload (Tells payloads) → IsAnswered rules c row message old new)
+answer-so anew rules c flag said packets statements payloads old new own spelt same is made = λ row there message found ruled. record {
   payloads = payloads;
   own = own;
+  ruled = ruled;
   flag = flag;
   packets = said;
   statements = statements;
@@ -87,16 +90,15 @@ record IsSendsAs (form : Form) (command : Command) : Type 0 where
   formed : (reads : Reads) → AreClasses reads → IsForm reads form command
   marked : (reads : Reads) → AreClasses reads → is_marked reads command ≡ marks form
 
-abbrev route-by : Hostgroup → (text : Option (List ℕ)) → Option Bool → Route
-route-by hostgroup text multiplex = record { hostgroup = hostgroup; text = text; key = 0; number = 0; multiplex = multiplex; mirror = None }
-
 pub due-there : (rules : List Rule) (hostgroup : Hostgroup) (ordinal flag since : ℕ) (text : Option (List ℕ)) (multiplex : Option Bool) (form : Form) (c : ClientNo) (old new : Tabled)
     → OnUp c old (λ row message. IsSendable message.payload text form)
     → IsDue flag text (text_work ordinal hostgroup since multiplex form) c old new
-    → OnUp c old (λ row message. IsTextOf rules message.payload text → IsDueThere hostgroup ordinal rules c message old new)
+    → OnUp c old (λ row message. IsVerdictFor rules c message.payload (goes_by (route_by hostgroup text multiplex))
+    → IsDueThere hostgroup ordinal rules c message old new)
 due-there rules hostgroup ordinal flag since text multiplex form c old new sendable due =
-    on-up old c due.row (λ row message. IsTextOf rules message.payload text → IsDueThere hostgroup ordinal rules c message old new) due.there
-    (λ message found made.
+    on-up old c due.row (λ row message. IsVerdictFor rules c message.payload (goes_by (route_by hostgroup text multiplex))
+    → IsDueThere hostgroup ordinal rules c message old new) due.there
+    (λ message found ruled.
     let sends : IsSendable message.payload text form = sendable due.row due.there message found in
     let asked : text_in message.payload text ≡ Some (Says due.command) = asked-there due.row message text due.command found due.asked in
     let some : Some (Says sends.command) ≡ Some (Says due.command) = sym sends.asks ∙ asked in
@@ -105,10 +107,10 @@ due-there rules hostgroup ordinal flag since text multiplex form c old new senda
     let at : IsSendsAs form due.command =
     subst (IsSendsAs form) same (record { kind = sends.kind; says = sends.says; formed = sends.formed; marked = sends.marked }) in
     record {
-      route = route-by hostgroup text multiplex;
+      route = route_by hostgroup text multiplex;
       there = refl;
       single = refl;
-      ruled = made;
+      ruled = ruled;
       flag = flag;
       command = due.command;
       work = text_work ordinal hostgroup since multiplex form (spelling 0 (text_payload due.command));

@@ -1,11 +1,14 @@
 -- What a message can be of which this becomes.
-use Rattle.std.specs.Prelude.{◌≡◌, ◌⊎◌, ℕ, true, false, nat_eq, slice_index_or, List, Option, Some, None}
+use Rattle.std.specs.Prelude.{◌≡◌, ◌⊎◌, ℕ, Bool, true, false, nat_eq, slice_index_or, List, Option, Some, None}
+use Rattle.mx_base.specs.declared.names.ClientNo.{ClientNo}
+use Rattle.mx_base.specs.declared.names.Hostgroup.{Hostgroup}
 use Rattle.pin_classifier.specs.Classes.{class_of}
 use Rattle.pin_classifier.specs.declared.class.Class.{Class}
+use Rattle.query_rules.specs.Effects.{is_first_flag}
 use Rattle.query_rules.specs.declared.rule.Rule.{Rule}
-use Rattle.server_rule.specs.Classes.{Reads}
+use Rattle.server_rule.specs.Classes.{Reads, router_reads}
 use Rattle.private_model.specs.Commands.{Command, is_marked}
-use Rattle.log_story.specs.Plan.{com_field_list, com_init_db, com_query, com_reset}
+use Rattle.log_story.specs.Plan.{Route, com_field_list, com_init_db, com_query, com_reset}
 use Rattle.link_state.specs.Asks.{marks}
 use Rattle.link_state.specs.declared.asking.Form.{Form}
 use Rattle.link_state.specs.declared.wish.Command.TheVariants.{Plain}
@@ -13,11 +16,16 @@ use Rattle.link_laws.specs.Stands.{IsForm}
 use Rattle.desk_laws.specs.Stands.{is_text, kind_of}
 use Rattle.row_laws.specs.Readied.{AreClasses}
 use Rattle.client_seat.specs.Requests.{Says, text_in}
-use Rattle.message_judge.specs.Drafts.{class_in}
-use Rattle.message_judge.specs.Told.{IsOwnTold}
+use Rattle.router_promises.specs.Verdicts.{Tells}
+use Rattle.message_judge.specs.Drafts.{class_in, draft_of}
+use Rattle.message_judge.specs.Judging.{judged}
+use Rattle.message_judge.specs.Told.{IsOwnTold, payloads_of}
+use Rattle.message_judge.specs.declared.caller.Caller.{Caller}
+use Rattle.message_judge.specs.declared.caller.Standing.{Standing}
 use Rattle.message_judge.specs.declared.draft.Draft.{Draft}
 use Rattle.message_judge.specs.declared.draft.Draft.TheVariants as drafts
-use Rattle.core_promises.specs.Asks.{IsTextOf}
+use Rattle.message_judge.specs.declared.told.Told.{Told}
+use Rattle.core_promises.specs.Judges.{IsVerdictFor, goes_by, is_of_statement, unserved}
 use Rattle.core_turns.specs.declared.judged.Verdict.{Verdict}
 use Rattle.core_turns.specs.declared.judged.Verdict.TheVariants as verdicts
 
@@ -43,24 +51,42 @@ pub record IsSendable (payload : List ℕ) (text : Option (List ℕ)) (form : Fo
 abbrev pub IsNoReset : (payload : List ℕ) → Type 0
 IsNoReset payload = nat_eq (byte_of payload) com_reset ≡ false
 
+-- it prepares nothing
 abbrev pub IsDraftOn : (payload : List ℕ) → Draft → Type 0
 IsDraftOn payload drafts.Ends = IsNoReset payload
 IsDraftOn payload (drafts.Answers told) = Unit {0}
-IsDraftOn payload (drafts.Sends going) = IsSayable payload (class_in None going.class) going.text
+IsDraftOn payload (drafts.Sends going) = IsSayable payload (class_in None going.class) going.text × (going.number ≡ None)
 
 abbrev pub IsVerdictOn : (payload : List ℕ) → Verdict → Type 0
 IsVerdictOn payload verdicts.Quits = IsNoReset payload
 IsVerdictOn payload (verdicts.Answers told) = Unit {0}
 IsVerdictOn payload (verdicts.Sends hostgroup text multiplex form) = IsSendable payload text form
 
--- What is answered is in the router's own words, and what goes to a server is the client's own text, or what the rules make of it.
+-- What is answered is in the router's own words.
+abbrev pub IsOwnVerdict : List Rule → Verdict → Type 0
+IsOwnVerdict rules (verdicts.Answers told) = IsOwnTold rules told
+IsOwnVerdict rules _ = Unit {0}
 
-abbrev pub IsOwnDraftOn : List Rule → (payload : List ℕ) → Draft → Type 0
-IsOwnDraftOn rules payload drafts.Ends = Unit {0}
-IsOwnDraftOn rules payload (drafts.Answers told) = IsOwnTold rules told
-IsOwnDraftOn rules payload (drafts.Sends going) = IsTextOf rules payload going.text
+-- What becomes of a message is what the promise's verdict says.
 
-abbrev pub IsOwnVerdict : List Rule → (payload : List ℕ) → Verdict → Type 0
-IsOwnVerdict rules payload verdicts.Quits = Unit {0}
-IsOwnVerdict rules payload (verdicts.Answers told) = IsOwnTold rules told
-IsOwnVerdict rules payload (verdicts.Sends hostgroup text multiplex form) = IsTextOf rules payload text
+-- something that may be known of its client makes this draft
+pub record IsDraftFor (rules : List Rule) (c : ClientNo) (payload : List ℕ) (draft : Draft) : Type 0 where
+  pub caller : Caller
+  pub standing : Standing
+  pub client : caller.number ≡ c
+  pub flag : is_first_flag rules caller.flag ≡ true
+  pub is : draft_of caller None draft ≡ (judged router_reads rules caller standing None payload).draft
+
+-- a command about prepared statements is answered without a look at its client
+abbrev pub IsUnserved : (byte : ℕ) → Option Told → Type 0
+IsUnserved byte None = is_of_statement byte ≡ false
+IsUnserved byte (Some told) = (is_of_statement byte ≡ true) × ((number : ℕ) → Tells (payloads_of number told) ≡ unserved byte)
+
+abbrev pub route_by : Hostgroup → (text : Option (List ℕ)) → (multiplex : Option Bool) → Route
+route_by hostgroup text multiplex = record { hostgroup = hostgroup; text = text; key = 0; number = 0; multiplex = multiplex; mirror = None }
+
+abbrev pub IsAsPromised : List Rule → ClientNo → (payload : List ℕ) → Verdict → Type 0
+IsAsPromised rules c payload verdicts.Quits = Unit {0}
+IsAsPromised rules c payload (verdicts.Answers told) = IsVerdictFor rules c payload (Tells (payloads_of c.0 told))
+IsAsPromised rules c payload (verdicts.Sends hostgroup text multiplex form) =
+    IsVerdictFor rules c payload (goes_by (route_by hostgroup text multiplex))

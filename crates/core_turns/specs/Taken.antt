@@ -18,7 +18,8 @@ use Rattle.core_laws.specs.taking.Takes.{is_reset}
 use Rattle.core_tables.specs.Tables.{IsSame, Tabled, client_changed}
 use Rattle.core_tables.specs.Taking.{answers, begins_anew, found_of, goes}
 use Rattle.core_tables.specs.declared.client.Client.{Client}
-use Rattle.core_promises.specs.Asks.{IsTextOf}
+use Rattle.router_promises.specs.Verdicts.{Tells}
+use Rattle.core_promises.specs.Judges.{IsVerdictFor, goes_by}
 use Rattle.core_turns.specs.declared.turn.Stop.{Stop}
 use Rattle.core_turns.specs.declared.turn.Stop.TheVariants as stops
 use Rattle.core_turns.specs.declared.turn.Turn.{Turn}
@@ -28,7 +29,7 @@ use Rattle.core_turns.specs.declared.turn.Turn.TheVariants as turns
 abbrev pub OnUp : ClientNo → Tabled → (Client → Framed → Type 0) → Type 0
 OnUp c t fact = (row : Client) → t.clients c ≡ Some row → (message : Framed) → found_of row ≡ Some message → fact row message
 
--- The router answers it, in its own words; a COM_RESET_CONNECTION begins anew.
+-- The router answers it, in its own words, as the verdict says; a COM_RESET_CONNECTION begins anew.
 
 abbrev pub answered_so : (anew : Bool) → ClientNo → (flag : ℕ) → (packets : List ℕ) → ClientStatements → Tabled → Tabled
 answered_so true c flag packets statements t = begins_anew c flag packets statements t
@@ -37,18 +38,19 @@ answered_so false c flag packets statements t = client_changed c (answers flag p
 pub record IsAnswered (rules : List Rule) (c : ClientNo) (row : Client) (message : Framed) (old new : Tabled) : Type 0 where
   pub payloads : List (List ℕ)
   pub own : IsAnswer rules c payloads
+  pub ruled : IsVerdictFor rules c message.payload (Tells payloads)
   pub flag : ℕ
   pub packets : List ℕ
   pub statements : ClientStatements
   pub spelt : packets ≡ spellings row.desk.seat.first payloads
   pub makes : IsSame new (answered_so (is_reset message) c flag packets statements old)
 
--- It goes to a server in this hostgroup alone: a statement of it is due, whose text is the client's own, or what the rules make of it.
+-- It goes to a server in this hostgroup alone, as the verdict says: a statement of it is due.
 pub record IsDueThere (hostgroup : Hostgroup) (ordinal : ℕ) (rules : List Rule) (c : ClientNo) (message : Framed) (old new : Tabled) : Type 0 where
   pub route : Route
   pub there : route.hostgroup ≡ hostgroup
   pub single : route.mirror ≡ None
-  pub ruled : IsTextOf rules message.payload route.text
+  pub ruled : IsVerdictFor rules c message.payload (goes_by route)
   pub flag : ℕ
   pub command : Command
   pub work : Work

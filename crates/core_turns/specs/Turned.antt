@@ -17,8 +17,8 @@ use Rattle.core_tables.specs.Arrivals.{looked, turn}
 use Rattle.core_tables.specs.Tables.{IsSame, Tabled}
 use Rattle.core_tables.specs.Taking.{IsUpOr}
 use Rattle.core_tables.specs.declared.client.Client.{Client}
-use Rattle.core_laws.specs.clients.Turns.{Answers, AnswersBy, Choice, ComesUp, Ends, Goes, GoesBy, Halt, IsLookedAt, IsTurn, MayLeave, Quits, Rests, RestsThere, Turns, Waits, WaitsThere, waits_at}
-use Rattle.core_promises.specs.Asks.{IsTextOf}
+use Rattle.core_laws.specs.clients.Turns.{Answers, Choice, ComesUp, Ends, Goes, GoesBy, Halt, IsLookedAt, IsTurn, MayLeave, Quits, Rests, RestsThere, Turns, Waits, WaitsThere, waits_at}
+use Rattle.core_promises.specs.Judges.{IsVerdictFor, goes_by}
 use Rattle.core_promises.specs.Ruled.{AreRuled, IsRuled}
 use Rattle.core_turns.specs.declared.turn.Stop.{Stop}
 use Rattle.core_turns.specs.declared.turn.Stop.TheVariants as stops
@@ -68,7 +68,7 @@ StopsSo Rests service default c old new = RestsThere service default c old new
 StopsSo Quits service default c old new = IsToQuit service default c old new
 StopsSo Ends service default c old new = IsToEnd service default c old new
 
--- Turns by these choices whose texts are what the rules make of what came up, and then this end: with the leaving, and but for it.
+-- Turns by these choices, which are what the verdict says of what came up, and then this end: with the leaving, and but for it.
 
 abbrev pub TurnsBy : Type 1
 TurnsBy = List Rule → List Choice → Halt → Service → (default : List ℕ) → ClientNo → (old new : Tabled) → Type 0
@@ -100,16 +100,16 @@ pub record IsDueIn (hostgroup : Hostgroup) (rules : List Rule) (service : Servic
   pub goes : GoesBy service default route c old new
   pub there : route.hostgroup ≡ hostgroup
   pub single : route.mirror ≡ None
-  pub ruled : IsTextOf rules goes.up.message.payload route.text
+  pub ruled : IsVerdictFor rules c goes.up.message.payload (goes_by route)
 
 abbrev pub IsTurned : Turn → List Rule → Service → (default : List ℕ) → ClientNo → (old new : Tabled) → Type 0
 IsTurned (turns.Stops stop) rules service default c old new = StopsSo (halt_of stop) service default c old new
 IsTurned turns.Answered rules service default c old new =
-    (payloads : List (List ℕ)) × IsAnswer rules c payloads × AnswersBy service default payloads c old new
+    (payloads : List (List ℕ)) × IsAnswer rules c payloads × IsRuledTurn rules (Answers payloads) service default c old new
 IsTurned (turns.Due hostgroup) rules service default c old new = IsDueIn hostgroup rules service default c old new
 
 -- One turn, and all that it makes as it goes on, up to where it leaves. No copies are made of its messages, what the router answers is in its
--- own words, and what goes to a server is the client's own text, or what the rules make of it.
+-- own words, and what becomes of each is what the verdict says.
 
 abbrev pub IsSaid : List Rule → ClientNo → Choice → Type 0
 IsSaid rules c (Goes route) = route.mirror ≡ None

@@ -1,14 +1,18 @@
 // What becomes of a message that came up.
-ghost use Rattle.std.specs.Prelude.{◌≡◌, ℕ, nat_eq, drop, List, None, IfOk, IfSome, Option};
+ghost use Rattle.std.specs.Prelude.{◌≡◌, ℕ, false, true, nat_eq, drop, List, None, IfOk, IfSome, Option};
+ghost use Rattle.std.specs.Option.{option_copied};
 ghost use Rattle.log_story.specs.Plan.{com_init_db};
 ghost use Rattle.link_state.specs.Classes as link_classes;
 ghost use Rattle.link_state.specs.declared.asking.Form.TheVariants as forms;
-ghost use Rattle.message_judge.specs.Drafts.{class_in};
+ghost use Rattle.message_judge.specs.Drafts.{IsOwnDraft, class_in};
 ghost use Rattle.message_judge.specs.Told.{IsOwnTold};
+ghost use Rattle.message_judge.specs.declared.draft.Draft.TheVariants as drafts;
+ghost use Rattle.query_rules.specs.Effects.{is_first_flag};
 ghost use Rattle.query_rules.specs.Passing.{rules_of};
 ghost use Rattle.query_rules.specs.declared.rule.Rule.{Rule};
-ghost use Rattle.core_promises.specs.Asks.{IsTextOf};
-ghost use Rattle.core_turns.specs.Judged.{IsDraftOn, IsOwnDraftOn, IsOwnVerdict, IsSayable, IsSendable, IsVerdictOn, byte_of};
+ghost use Rattle.mx_base.specs.declared.names.ClientNo.{ClientNo};
+ghost use Rattle.core_promises.specs.Judges.{is_of_statement};
+ghost use Rattle.core_turns.specs.Judged.{IsAsPromised, IsDraftFor, IsDraftOn, IsOwnVerdict, IsSayable, IsSendable, IsUnserved, IsVerdictOn, byte_of};
 
 use client_desk::Desk;
 use core_service::Service;
@@ -17,7 +21,7 @@ use link_state::{Form, use_class};
 use message_judge::{
     Caller, ClassOf, Draft, Going, Judged, OwnError, Standing, Told, admit, judge,
 };
-use mx_base::{Bytes, Hostgroup, OutOfMemory};
+use mx_base::{Bytes, ClientNo, Hostgroup, OutOfMemory};
 use pin_classifier::Class;
 use session_state::Place;
 use std::alloc::Global;
@@ -66,19 +70,38 @@ fn user_of(alloc: Global, desk: &Desk) -> Result<Bytes, OutOfMemory> {
     }
 }
 
+// The flag by which rules are tried first for a client: the one that a rule left, or 0.
+fn flag_of(service: &Service, desk: &Desk) -> u16
+    ensures { is_first_flag (rules_of service.now.rules) result ≡ true }
+{
+    if service.rules.is_first_flag(desk.seat.flag) {
+        desk.seat.flag
+    } else {
+        0
+    }
+}
+
 // What is known of a client as its message comes up.
-fn caller_of(alloc: Global, service: &Service, desk: &Desk) -> Result<Caller, OutOfMemory> {
+fn caller_of(
+    alloc: Global,
+    service: &Service,
+    desk: &Desk,
+    client: ClientNo,
+) -> Result<Caller, OutOfMemory>
+    ensures client { IfOk result (λ caller. caller.number ≡ client) }
+    ensures flag { IfOk result (λ caller. is_first_flag (rules_of service.now.rules) caller.flag ≡ true) }
+{
     let user = user_of(alloc, desk)?;
     let home = service.home(&user);
     Ok(Caller {
-        number: desk.seat.number(),
+        number: client,
         user,
         home,
         place: Place {
             schema: Bytes::from_slice(alloc, desk.seat.place.schema.as_slice())?,
             settings: desk.seat.place.settings.copy()?,
         },
-        flag: desk.seat.flag,
+        flag: flag_of(service, desk),
         last: desk.seat.last,
     })
 }
@@ -86,7 +109,8 @@ fn caller_of(alloc: Global, service: &Service, desk: &Desk) -> Result<Caller, Ou
 // What is answered to a command about prepared statements, which this router doesn't have: the two that have no reply get
 // none.
 fn unprepared(payload: &[u8]) -> Option<Told>
-    ensures { (rules : List Rule) → IfSome result (λ told. IsOwnTold rules told) }
+    ensures is { IsUnserved (byte_of payload.now) result }
+    ensures own { (rules : List Rule) → IfSome result (λ told. IsOwnTold rules told) }
 {
     let [byte, ..] = payload else {
         return None;
@@ -100,7 +124,9 @@ fn unprepared(payload: &[u8]) -> Option<Told>
     }
 }
 
-fn class_of(class: &ClassOf) -> Option<&Class> {
+fn class_of(class: &ClassOf) -> Option<&Class>
+    ensures { option_copied result ≡ class_in None class.now }
+{
     match class {
         ClassOf::Own(class) => Some(class),
         _ => None,
@@ -165,10 +191,12 @@ fn sent(
     payload: &[u8],
     going: Going,
 ) -> Result<Verdict, OutOfMemory>
-    requires { IsSayable payload.now (class_in None going.class) going.text }
+    requires says { IsSayable payload.now (class_in None going.class) going.text }
+    requires unnumbered { going.number ≡ None }
     ensures is { IfOk result (λ verdict. IsVerdictOn payload.now verdict) }
-    ensures own { IfOk result (λ verdict. (rules : List Rule) → IsTextOf rules payload.now going.text
-        → IsOwnVerdict rules payload.now verdict) }
+    ensures own { IfOk result (λ verdict. (rules : List Rule) → IsOwnVerdict rules verdict) }
+    ensures promised { IfOk result (λ verdict. is_of_statement (byte_of payload.now) ≡ false → (rules : List Rule) (c : ClientNo)
+        → IsDraftFor rules c payload.now (drafts.Sends going) → IsAsPromised rules c payload.now verdict) }
 {
     let session = desk.session(going.hostgroup);
     let is_there = session.home.is_some() || servers.online(going.hostgroup);
@@ -205,8 +233,9 @@ fn verdict_of(
 ) -> Result<Verdict, OutOfMemory>
     requires { IsDraftOn payload.now draft }
     ensures is { IfOk result (λ verdict. IsVerdictOn payload.now verdict) }
-    ensures own { IfOk result (λ verdict. (rules : List Rule) → IsOwnDraftOn rules payload.now draft
-        → IsOwnVerdict rules payload.now verdict) }
+    ensures own { IfOk result (λ verdict. (rules : List Rule) → IsOwnDraft rules draft → IsOwnVerdict rules verdict) }
+    ensures promised { IfOk result (λ verdict. is_of_statement (byte_of payload.now) ≡ false → (rules : List Rule) (c : ClientNo)
+        → IsDraftFor rules c payload.now draft → IsAsPromised rules c payload.now verdict) }
 {
     match draft {
         Draft::Ends => Ok(Verdict::Quits),
@@ -220,12 +249,14 @@ fn drafted(
     alloc: Global,
     service: &Service,
     desk: &Desk,
+    client: ClientNo,
     payload: &[u8],
 ) -> Result<Judged, OutOfMemory>
     ensures is { IfOk result (λ judged. IsDraftOn payload.now judged.draft) }
-    ensures own { IfOk result (λ judged. IsOwnDraftOn (rules_of service.now.rules) payload.now judged.draft) }
+    ensures own { IfOk result (λ judged. IsOwnDraft (rules_of service.now.rules) judged.draft) }
+    ensures known { IfOk result (λ judged. IsDraftFor (rules_of service.now.rules) client payload.now judged.draft) }
 {
-    let caller = caller_of(alloc, service, desk)?;
+    let caller = caller_of(alloc, service, desk, client)?;
     let standing = Standing {
         transaction: desk.transaction(&service.ranks),
         next_number: None,
@@ -239,10 +270,12 @@ pub(crate) fn judged(
     service: &Service,
     servers: &Servers,
     desk: &Desk,
+    client: ClientNo,
     payload: &[u8],
 ) -> Result<Judgement, OutOfMemory>
     ensures is { IfOk result (λ judgement. IsVerdictOn payload.now judgement.verdict) }
-    ensures own { IfOk result (λ judgement. IsOwnVerdict (rules_of service.now.rules) payload.now judgement.verdict) }
+    ensures own { IfOk result (λ judgement. IsOwnVerdict (rules_of service.now.rules) judgement.verdict) }
+    ensures promised { IfOk result (λ judgement. IsAsPromised (rules_of service.now.rules) client payload.now judgement.verdict) }
 {
     if let Some(told) = unprepared(payload) {
         return Ok(Judgement {
@@ -250,7 +283,7 @@ pub(crate) fn judged(
             verdict: Verdict::Answers(told),
         });
     }
-    let Judged { draft, flag } = drafted(alloc, service, desk, payload)?;
+    let Judged { draft, flag } = drafted(alloc, service, desk, client, payload)?;
     let verdict = verdict_of(alloc, servers, desk, payload, draft)?;
     Ok(Judgement { flag, verdict })
 }

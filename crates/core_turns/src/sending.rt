@@ -10,8 +10,9 @@ ghost use Rattle.marked_tables.specs.Goes.{GoesOn};
 ghost use Rattle.message_judge.specs.Told.{IsOwnTold, payloads_of};
 ghost use Rattle.query_rules.specs.Passing.{rules_of};
 ghost use Rattle.query_rules.specs.declared.rule.Rule.{Rule};
-ghost use Rattle.core_promises.specs.Asks.{IsTextOf};
-ghost use Rattle.core_turns.specs.Judged.{IsOwnVerdict, IsSendable, IsVerdictOn};
+ghost use Rattle.router_promises.specs.Verdicts.{Tells};
+ghost use Rattle.core_promises.specs.Judges.{IsVerdictFor, goes_by};
+ghost use Rattle.core_turns.specs.Judged.{IsAsPromised, IsOwnVerdict, IsSendable, IsVerdictOn, route_by};
 ghost use Rattle.core_turns.specs.Taken.{IsAnswered, IsDueThere, IsTakenUp, OnUp};
 
 use crate::judged::{Judgement, Verdict, judged};
@@ -40,12 +41,21 @@ fn judged_of(
     ensures is { IfOk result (λ judgement. OnUp client (tables_of tables.now)
         (λ row message. IsVerdictOn message.payload judgement.verdict)) }
     ensures own { IfOk result (λ judgement. OnUp client (tables_of tables.now)
-        (λ row message. IsOwnVerdict (rules_of service.now.rules) message.payload judgement.verdict)) }
+        (λ row message. IsOwnVerdict (rules_of service.now.rules) judgement.verdict)) }
+    ensures promised { IfOk result (λ judgement. OnUp client (tables_of tables.now)
+        (λ row message. IsAsPromised (rules_of service.now.rules) client message.payload judgement.verdict)) }
 {
     let Some(row) = tables.clients.get(&client.0) else {
         unreachable!()
     };
-    judged(alloc, service, servers, &row.desk, row.desk.seat.payload())
+    judged(
+        alloc,
+        service,
+        servers,
+        &row.desk,
+        client,
+        row.desk.seat.payload(),
+    )
 }
 
 // Whether the client begins anew by its message.
@@ -99,8 +109,8 @@ fn answer(
 ) -> Result<(), OutOfMemory>
     requires { IsUpOr ((tables_of marked.old.tables).clients client) }
     ensures is { OnOk result ((rules : List Rule) → IsOwnTold rules told.now
-        → OnUp client (tables_of marked.old.tables) (λ row message. IsAnswered rules client row message
-        (tables_of marked.old.tables) (tables_of marked.new.tables))) }
+        → OnUp client (tables_of marked.old.tables) (λ row message. IsVerdictFor rules client message.payload (Tells (payloads_of client.0 told.now))
+        → IsAnswered rules client row message (tables_of marked.old.tables) (tables_of marked.new.tables))) }
     ensures goes { OnOk result (GoesOn marked.old marked.new) }
 {
     let packets = packets_of(alloc, &marked.tables, client, told)?;
@@ -136,8 +146,8 @@ fn becomes_due(
     requires sendable { OnUp client (tables_of marked.old.tables)
         (λ row message. IsSendable message.payload text form) }
     ensures is { OnOk result ((rules : List Rule) → OnUp client (tables_of marked.old.tables)
-        (λ row message. IsTextOf rules message.payload text → IsDueThere hostgroup ordinal rules client message
-        (tables_of marked.old.tables) (tables_of marked.new.tables))) }
+        (λ row message. IsVerdictFor rules client message.payload (goes_by (route_by hostgroup text multiplex))
+        → IsDueThere hostgroup ordinal rules client message (tables_of marked.old.tables) (tables_of marked.new.tables))) }
     ensures goes { OnOk result (GoesOn marked.old marked.new) }
 {
     let text = text_of(&text);

@@ -1,6 +1,18 @@
+use Rattle.std.specs.Option.{option_copied}
 use Rattle.message_judge.specs.Told.{payload_of}
 use Rattle.own_words.specs.Own.{Refuses}
+use Rattle.core_turns.proofs.Promised.{refused-so, sends-so}
 use Rattle.core_turns.proofs.judged.sent.Goals as goal
 
 pub returns-in-Some-clause-own : goal.returns-in-Some-clause-own
-returns-in-Some-clause-own c = λ rules made number. Refuses (payload_of c.in-Some.why) (c.in-Some.ensures.own rules)
+returns-in-Some-clause-own c = λ rules number. Refuses (payload_of c.in-Some.why) (c.in-Some.ensures.own rules)
+
+pub returns-in-Some-clause-promised : goal.returns-in-Some-clause-promised
+returns-in-Some-clause-promised c = λ served rules client known.
+    refused-so rules client c.args.payload.now c.args.going known served (option_copied c.class_of.result) c.class_of.ensures c.session-session.result.pin
+    c.if-is_some.is_there c.admit.result c.admit.ensures.is c.in-Some.why c.in-Some.is
+
+pub returns-clause-promised : goal.returns-clause-promised
+returns-clause-promised c = λ served rules client known.
+    sends-so rules client c.args.payload.now c.args.going known served (option_copied c.class_of.result) c.class_of.ensures c.session-session.result.pin
+    c.if-is_some.is_there c.admit.result c.admit.ensures.is c.in_default.is c.requires.unnumbered
