@@ -10,7 +10,7 @@ use Rattle.query_rules.specs.declared.rule.Rule.{Rule}
 use Rattle.tale_world.specs.Decided.{Decided, plan_of}
 use Rattle.core_promises.proofs.Apart.{apart}
 use Rattle.core_promises.specs.Sessions.{ServesApart}
-use Rattle.core_promises.specs.Asks.{AsksBy}
+use Rattle.core_promises.specs.Judges.{JudgesBy}
 use Rattle.core_promises.specs.Waits.{AreDoneBy}
 use Rattle.core_service.specs.Serves.{ServesBy}
 use Rattle.core_service.specs.declared.service.Service.{Service}
@@ -67,7 +67,7 @@ fits-of log follows = lawful-each MayFollow (AllLawful Fits) log (λ l e may fit
 record Served (setup : Setup) (default : List ℕ) (rules : List Rule) (log : Log) (t : Tabled) (roomy : ClientNo → Bool) : Type 0 where
   core : IsCore setup default log t roomy
   single : (m : MessageName) (route : Route) → core.decided.routes m ≡ Some (Some route) → route.mirror ≡ None
-  asks : AsksBy rules default core.decided log
+  judges : JudgesBy rules default core.decided log
   speaks : SpeaksOwn rules (plan_of core.decided)
   waited : AreDoneBy default core.decided log
 
@@ -85,7 +85,7 @@ served_by : (service : Service) (log : Log) (t : Tabled) (roomy : ClientNo → B
 served_by service log t roomy is = record {
   core = is.core;
   single = is.recorded.alone;
-  asks = is.asked;
+  judges = is.judged;
   speaks = speaks_so (rules_of service.rules) is.core.decided is.spoken;
   waited = is.waited;
 }
@@ -99,7 +99,7 @@ apart_of config service log t roomy by stands =
     record {
       router = router;
       configured = configured_by config service by;
-      separates = apart router log t roomy is.core classes is.single is.asks is.speaks is.waited (fits-of log stands.lawful);
+      separates = apart router log t roomy is.core classes is.single is.judges is.speaks is.waited (fits-of log stands.lawful);
     }
 
 -- its log is one that the wire may tell

@@ -1,6 +1,6 @@
 pub mod Fates
 pub mod Recording
-pub mod Asking
+pub mod Judging
 pub mod Keeping
 pub mod Speaking
 pub mod Planning
@@ -10,4 +10,4 @@ pub mod Working
 pub mod Tallying
 pub mod Router
 pub mod Staying
-pub mod AskedOn
+pub mod JudgedOn

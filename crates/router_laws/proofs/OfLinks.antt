@@ -23,4 +23,4 @@ pub mod Answering
 pub mod Ended
 pub mod EndedRests
 pub mod EndedRouted
-pub mod LossAsked
+pub mod LossJudged

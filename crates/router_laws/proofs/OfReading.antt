@@ -10,4 +10,4 @@ pub mod Rows
 pub mod Onward
 pub mod Router
 pub mod Made
-pub mod Asked
+pub mod Judged

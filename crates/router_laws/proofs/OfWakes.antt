@@ -10,7 +10,7 @@ pub mod Homed
 pub mod Called
 pub mod Given
 pub mod Fated
-pub mod Asked
+pub mod Judged
 pub mod Entered
 pub mod Woken
 pub mod Known

@@ -4,7 +4,7 @@ pub mod Plans
 pub mod Links
 pub mod Counting
 pub mod Speaks
-pub mod Asks
+pub mod Judges
 pub mod Routers
 pub mod Goings
 pub mod Rulings

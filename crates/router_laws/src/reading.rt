@@ -5,5 +5,5 @@ mod cores;
 mod reading;
 
 pub use aside::given_up_aside;
-pub use cores::{hears_ask, hears_goes, hears_keep, hears_router, hears_so};
+pub use cores::{hears_goes, hears_judge, hears_keep, hears_router, hears_so};
 pub use reading::hears_rest;

@@ -182,5 +182,5 @@ router_still service log t roomy c row there at router = record {
   open_just = router.open_just;
   spoken = router.spoken;
   waited = router.waited;
-  asked = router.asked;
+  judged = router.judged;
 }

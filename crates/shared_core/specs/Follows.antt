@@ -60,8 +60,8 @@ known_in t (l ∷ ls) = if is_some (t.links l) then l ∷ known_in t ls else kno
 abbrev pub known_more : Tabled → LinkId → List LinkId → List LinkId
 known_more t l known = if is_some (t.links l) then known ++ l ∷ [] else known
 
--- A client took up what it could, and was ended, if it was to. What it was answered, and its last word, are the router's own, and what goes to
--- servers of it is its own text, or what the rules make of it.
+-- A client took up what it could, and was ended, if it was to. What it was answered, and its last word, are the router's own, and what became of
+-- each message is what the verdict says.
 pub record HasGone (service : Service) (c : ClientNo) (ends : Bool) (old new : Tabled) : Type 0 where
   pub choices : List Choice
   pub halt : Halt

@@ -147,7 +147,7 @@ module _ (d : Decided) (n : Counts) (log : Log) (e : Entry) (deeds : Deeds) (mom
   own_by_fate m (Some answer) is once =
       let zero : answer.from ≡ 0 = once answer refl in own_some plan m now answer (of.agrees.answered m answer is) (omega (arith, zero))
 
-  fate_so : (m : MessageName) (fate : Fate) → fate_at deeds n m ≡ Some fate → n.taken m.client < m.ordinal → HasFate plan now m fate
+  pub fate_so : (m : MessageName) (fate : Fate) → fate_at deeds n m ≡ Some fate → n.taken m.client < m.ordinal → HasFate plan now m fate
   fate_so m fate is less =
       let free : IsUndecided d m = recorded.to_come m less in
       record {

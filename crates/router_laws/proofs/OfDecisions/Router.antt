@@ -24,8 +24,7 @@ use Rattle.core_laws.specs.entry.Dues.{AreWrittenTo, IsWrittenTo}
 use Rattle.core_laws.specs.entry.Grows.{IsHeardMore, IsMoreBy}
 use Rattle.core_laws.specs.entry.Safe.{IsSafe}
 use Rattle.core_laws.specs.entry.Tells.{Fits, IsOf, ground}
-use Rattle.core_promises.specs.Asks.{AsksOwnOf}
-use Rattle.router_laws.proofs.OfDecisions.Asking.{asked_then}
+use Rattle.router_laws.proofs.OfDecisions.Judging.{judged_then}
 use Rattle.router_laws.proofs.OfDecisions.Fates.{false_true}
 use Rattle.router_laws.proofs.OfDecisions.Gathering.{plans_so}
 use Rattle.router_laws.proofs.OfDecisions.Keeping.{first_so, recorded_then}
@@ -34,8 +33,8 @@ use Rattle.query_rules.specs.Passing.{rules_of}
 use Rattle.router_promises.specs.Terms.{plan_in, setup_in}
 use Rattle.core_promises.specs.Waits.{AreDoneBy, WaitsSo}
 use Rattle.router_laws.proofs.OfDecisions.Speaking.{first_spoken, ours_alone, spoken_then}
-use Rattle.core_promises.specs.Asks.{AsksBy}
-use Rattle.router_laws.specs.decisions.Asks.{AsksThen}
+use Rattle.core_promises.specs.Judges.{AreJudged, JudgesBy}
+use Rattle.router_laws.specs.decisions.Judges.{JudgesThen}
 use Rattle.router_laws.specs.decisions.Speaks.{AreOurs}
 use Rattle.router_laws.specs.decisions.Deeds.{Counts, Deeds, among, counts_with, decided_with, known_with, no_counts}
 use Rattle.router_laws.specs.decisions.Records.{AreCountsOf, IsRecorded, first_deciding}
@@ -63,7 +62,7 @@ fits_before setup codes plan default log e heard fits = record {
 
 module _ (service : Service) (log : Log) (e : Entry) (deeds : Deeds) (t now : Tabled) (roomy room : ClientNo → Bool)
     (router : IsRouter service log t roomy) (may : MayFollow log e) (ours : AreOurs (rules_of service.rules) deeds)
-    (waits : WaitsThen service log e router.core.decided) (asks : AsksThen service log e router.core.decided router.counts deeds)
+    (waits : WaitsThen service log e router.core.decided) (judges : JudgesThen service log e router.core.decided router.counts deeds)
     (goes : GoesSoBy service.setup service.default_schema log e router.core.decided router.counts deeds t now roomy room) where
   abbrev new : Decided
   new = decided_with deeds router.counts log e router.core.decided
@@ -100,12 +99,12 @@ module _ (service : Service) (log : Log) (e : Entry) (deeds : Deeds) (t now : Ta
       let fitted = fits_then (setup_in terms) codes (plan_in terms) of fits in
       lawful-more (WaitsSo terms) log e (router.waited terms codes then fitted) (waits terms codes then fitted)
 
-  asked_now : AsksBy (rules_of service.rules) service.default_schema new (with_entry log e)
-  asked_now setup codes plan of fits =
+  judged_now : JudgesBy (rules_of service.rules) service.default_schema new (with_entry log e)
+  judged_now setup codes plan of fits =
       let then : IsOf router.core.decided (length log) plan = of_then setup codes plan of fits in
       let fitted : Fits setup codes plan service.default_schema (tale_of setup plan log) = fits_then setup codes plan of fits in
-      asked_then service log e router.core.decided router.counts deeds router.recorded setup plan of (router.counted setup codes plan then fitted)
-      (counts_now setup codes plan of fits) (router.asked setup codes plan then fitted) (λ client seated. asks setup codes plan of fits client seated)
+      judged_then service log e router.core.decided router.counts deeds router.recorded setup plan of (router.counted setup codes plan then fitted)
+      (counts_now setup codes plan of fits) (router.judged setup codes plan then fitted) (judges setup codes plan of fits)
 
   pub router_goes_on : AreOpenJust (with_entry log e) now → IsRouter service (with_entry log e) now room
   router_goes_on open_just = record {
@@ -117,7 +116,7 @@ module _ (service : Service) (log : Log) (e : Entry) (deeds : Deeds) (t now : Ta
     open_just = open_just;
     spoken = spoken_then (rules_of service.rules) router.core.decided router.counts log e deeds router.spoken ours;
     waited = waited_now;
-    asked = asked_now;
+    judged = judged_now;
   }
 
 module _ (service : Service) (log : Log) (e : Entry) (t : Tabled) (roomy : ClientNo → Bool) (deeds : Deeds) (setup : Setup)
@@ -162,7 +161,7 @@ changed service log t now roomy room router rests open_just = record {
   open_just = open_just;
   spoken = router.spoken;
   waited = router.waited;
-  asked = router.asked;
+  judged = router.judged;
 }
 
 roomier : (service : Serving) (g : Ground) (t : Tabled) (roomy room : ClientNo → Bool) → ((c : ClientNo) → roomy c ≡ true → room c ≡ true)
@@ -227,5 +226,5 @@ router_of_none service roomy stands = record {
   open_just = λ l. refl;
   spoken = first_spoken (rules_of service.rules) service.setup;
   waited = λ terms codes of fits. tt;
-  asked = λ setup codes plan of fits. All-nil (AsksOwnOf (rules_of service.rules) plan);
+  judged = λ setup codes plan of fits. All-nil (AreJudged (rules_of service.rules) plan 0);
 }

@@ -23,7 +23,7 @@ use Rattle.core_laws.specs.entry.Cores.{GoesOn, with_entry}
 use Rattle.core_laws.specs.entry.Tells.{IsOf, ground}
 use Rattle.core_laws.specs.clients.Turns.{Rests as Resting}
 use Rattle.router_laws.specs.clients.Plans.{FitsThen, PlansAway, PlansComing, ends_of, nobody, over_by}
-use Rattle.router_laws.proofs.OfDecisions.Asking.{asks_of_none}
+use Rattle.router_laws.proofs.OfDecisions.Judging.{judges_of_none}
 use Rattle.router_laws.proofs.OfDecisions.Router.{router_goes_on}
 use Rattle.router_laws.proofs.OfDecisions.Staying.{counts_kept}
 use Rattle.query_rules.specs.Passing.{rules_of}
@@ -114,7 +114,7 @@ module _ (service : Service) (log : Log) (t now : Tabled) (roomy : ClientNo → 
   comes_routed goes =
       router_goes_on service log e deeds t now roomy roomy router may
       (deciding.ours service log e t now roomy roomy router may c [] Resting last (All-nil (IsOurs (rules_of service.rules) c)) said_ours) (λ terms codes of fits. tt)
-      (asks_of_none service log e router.core.decided router.counts c Resting last) goes_so where
+      (judges_of_none service log e router.core.decided router.counts c Resting last) goes_so where
         goes_so : (setup : Setup) (codes : Codes) (plan : Plan) → IsOf new (length (with_entry log e)) plan → FitsThen setup codes plan service.default_schema log e
             → GoesSo service.setup setup codes plan log e router.core.decided router.counts deeds t now roomy roomy
         goes_so setup codes plan of fits =

@@ -40,7 +40,7 @@ use Rattle.router_laws.specs.clients.Continues.{HasCome, WasThere}
 use Rattle.router_laws.specs.clients.Counted.{GoesTaking, TakesOne}
 use Rattle.router_laws.specs.clients.Finds.{GoesFinding}
 use Rattle.router_laws.specs.clients.Plans.{FitsThen, IsDecided, PlansEnd, PlansTurns, ends_of, nobody, over_by}
-use Rattle.router_laws.proofs.OfDecisions.Asking.{asked_by, asks_taking}
+use Rattle.router_laws.proofs.OfDecisions.Judging.{judged_by, judges_taking}
 use Rattle.router_laws.proofs.OfDecisions.Gathering.{all_still, over_then, silent_at}
 use Rattle.router_laws.proofs.OfDecisions.Keeping.{more_known, recorded_then}
 use Rattle.router_laws.proofs.OfDecisions.Listing.{all_rise, counted_below, is_tale_of}
@@ -51,7 +51,7 @@ use Rattle.router_laws.proofs.OfDecisions.Working.{none_given}
 use Rattle.query_rules.specs.Passing.{rules_of}
 use Rattle.router_laws.proofs.OfDecisions.Speaking.{ours_alone, ours_of_one}
 use Rattle.core_promises.specs.Ruled.{AreRuled}
-use Rattle.router_laws.specs.decisions.Asks.{AskedFrom, AsksThen}
+use Rattle.router_laws.specs.decisions.Judges.{JudgedFrom, JudgesThen}
 use Rattle.router_laws.specs.decisions.Speaks.{AreOurs, IsEndOurs, IsOurs}
 use Rattle.router_laws.specs.decisions.Counting.{BeginsSo, TakesSo}
 use Rattle.router_laws.specs.decisions.Deeds as ds
@@ -308,9 +308,9 @@ module _ (service : Service) (log : Log) (e : Entry) (t now : Tabled) (roomy roo
       (setup : Setup) (codes : Codes) (plan : Plan) (of : IsOf new (length (with_entry log e)) plan) (fits : FitsThen setup codes plan service.default_schema log e)
       → GoesTaking service.setup setup codes plan log e d new t now roomy room c (taken_by choices halt)
 
-  pub goes_router : WaitsThen service log e router.core.decided → AsksThen service log e router.core.decided router.counts deeds → GoesBy → ((tale : Tale) (x : tales.Client) → HasCome tale e x → ⊥) → ((setup : Setup) (tale : Tale) → BeginsSo setup tale e deeds)
+  pub goes_router : WaitsThen service log e router.core.decided → JudgesThen service log e router.core.decided router.counts deeds → GoesBy → ((tale : Tale) (x : tales.Client) → HasCome tale e x → ⊥) → ((setup : Setup) (tale : Tale) → BeginsSo setup tale e deeds)
       → AreOpenJust (with_entry log e) now → IsRouter service (with_entry log e) now room
-  goes_router waits asks goes uncome begins = router_goes_on service log e deeds t now roomy room router may ours waits asks goes_so where
+  goes_router waits judges goes uncome begins = router_goes_on service log e deeds t now roomy room router may ours waits judges goes_so where
     goes_so : (setup : Setup) (codes : Codes) (plan : Plan) → IsOf new (length (with_entry log e)) plan → FitsThen setup codes plan service.default_schema log e
         → GoesSo service.setup setup codes plan log e d router.counts deeds t now roomy room
     goes_so setup codes plan of fits =
@@ -322,7 +322,7 @@ module _ (service : Service) (log : Log) (e : Entry) (t now : Tabled) (roomy roo
               (takes_so setup codes plan of fits (uncome (tale_of setup plan log)) (taking_it.takes was.rests)) (begins setup (tale_of setup plan log));
         }
 
-  -- and what it asks for is ruled
+  -- and what it takes up is ruled
 
   module _ (ordinal : ℕ) (mid turned : Tabled) (turns : Turns choices halt service.setup service.default_schema c mid turned)
       (ruled : AreRuled (rules_of service.rules) choices halt service.setup service.default_schema c mid turned turns) where
@@ -337,16 +337,16 @@ module _ (service : Service) (log : Log) (e : Entry) (t now : Tabled) (roomy roo
 
     pub finds_router : WaitsThen service log e router.core.decided → FindsBy → ((tale : Tale) (x : tales.Client) → HasCome tale e x → ⊥)
         → ((setup : Setup) (tale : Tale) → BeginsSo setup tale e deeds) → AreOpenJust (with_entry log e) now → IsRouter service (with_entry log e) now room
-    finds_router waits finds = goes_router waits (asks_taking service log e d router.counts c choices halt last asked) goes where
+    finds_router waits finds = goes_router waits (judges_taking service log e d router.counts c choices halt last judged) goes where
       goes : GoesBy
       goes setup codes plan of fits =
           subst (λ (k : ℕ). GoesTaking service.setup setup codes plan log e d new t now roomy room c k) (count_alike choices halt)
           (finds setup codes plan of fits).so.goes
 
-      asked : (setup : Setup) (codes : Codes) (plan : Plan) → IsOf new (length (with_entry log e)) plan → FitsThen setup codes plan service.default_schema log e
+      judged : (setup : Setup) (codes : Codes) (plan : Plan) → IsOf new (length (with_entry log e)) plan → FitsThen setup codes plan service.default_schema log e
           → (client : tales.Client) → IsSeated (tale_of setup plan (with_entry log e)) client → client.number ≡ c
-          → AskedFrom (rules_of service.rules) plan client (router.counts.taken c) choices
-      asked setup codes plan of fits client seated number =
-          asked_by (rules_of service.rules) plan client (router.counts.taken c) choices halt service.setup service.default_schema c mid turned turns
+          → JudgedFrom (rules_of service.rules) plan client (router.counts.taken c) choices
+      judged setup codes plan of fits client seated number =
+          judged_by (rules_of service.rules) plan client (router.counts.taken c) choices halt service.setup service.default_schema c number mid turned turns
           ((finds setup codes plan of fits).so.finds (before setup codes plan of fits).rests (router.counts.taken c) (finds setup codes plan of fits).next
           client seated number) ruled

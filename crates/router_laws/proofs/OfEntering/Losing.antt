@@ -26,7 +26,7 @@ use Rattle.core_stands.specs.Stands.{IsKnown}
 use Rattle.router_laws.specs.decisions.Counting.{BeginsSo}
 use Rattle.router_laws.specs.decisions.Deeds.{Deeds}
 use Rattle.query_rules.specs.Passing.{rules_of}
-use Rattle.router_laws.proofs.OfDecisions.Asking.{asks_of_none}
+use Rattle.router_laws.proofs.OfDecisions.Judging.{judges_of_none}
 use Rattle.router_laws.proofs.OfDecisions.Speaking.{end_ours}
 use Rattle.router_laws.proofs.OfWaits.Then.{loss_waits}
 use Rattle.core_promises.specs.Ruled.{AreRuled}
@@ -91,7 +91,7 @@ pub again_routed : Again → (service : Service) (log : Log) (e : Entry) (t now 
     → IsRouter service (with_entry log e) now roomy
 again_routed law service log e t now roomy link c router may lost so =
     deciding.goes_router service log e t now roomy roomy router may c [] Resting None (All-nil (IsOurs (rules_of service.rules) c)) tt (loss_waits service log e link router.core.decided lost)
-    (asks_of_none service log e router.core.decided router.counts c Resting None)
+    (judges_of_none service log e router.core.decided router.counts c Resting None)
     (λ setup codes plan of fits.
     let was = deciding.before service log e t now roomy roomy router may c [] Resting None (All-nil (IsOurs (rules_of service.rules) c)) tt setup codes plan of fits in
     law service.setup service.default_schema setup codes plan log e router.core.decided
@@ -105,7 +105,7 @@ pub at_once_routed : AtOnce → (service : Service) (log : Log) (e : Entry) (t n
     → LeavesAtOnce link links c roomy t now → OthersLack c roomy room → IsRouter service (with_entry log e) now room
 at_once_routed law service log e t now roomy room link c links router may lost so others =
     deciding.goes_router service log e t now roomy room router may c [] Resting (Some None) (All-nil (IsOurs (rules_of service.rules) c)) tt (loss_waits service log e link router.core.decided lost)
-    (asks_of_none service log e router.core.decided router.counts c Resting (Some None))
+    (judges_of_none service log e router.core.decided router.counts c Resting (Some None))
     (λ setup codes plan of fits.
     let was = deciding.before service log e t now roomy room router may c [] Resting (Some None) (All-nil (IsOurs (rules_of service.rules) c)) tt setup codes plan of fits in
     let g : Ground = ground setup codes plan router.core.decided log in

@@ -61,6 +61,8 @@ use Rattle.router_laws.specs.decisions.Counting.{BeginsSo, TakesSo}
 use Rattle.router_laws.specs.decisions.Deeds as deeds
 use Rattle.router_laws.specs.decisions.Deeds.{AreAlone, Counts, Deeds, counts_with, decided_with, taken_by}
 use Rattle.router_laws.specs.decisions.Goings.{deeds_of}
+use Rattle.router_laws.proofs.OfDecisions.Working.{all_sent}
+use Rattle.router_laws.specs.decisions.Judges.{AreSent}
 use Rattle.router_laws.specs.decisions.Plans.{AreUngiven, AreUnreplied, HasDeeds, KeepsAnswers, PlansSo}
 use Rattle.router_laws.specs.decisions.Records.{AreCountsOf, IsRecorded}
 use Rattle.router_laws.specs.decisions.Routers.{AreOpenJust, GoesSo, GoesSoBy, IsBefore, IsRouter}
@@ -192,6 +194,10 @@ module _ (laws : Laws) (service : Service) (log : Log) (t now : Tabled) (roomy :
 
   unreplied : AreUnreplied g (λ (c : ClientNo). is_some (told_to given c))
   unreplied = laws.unreplied service.setup g t (told_to given) (λ (other : LinkId). is_link_id other l) before.rests.stands gives
+
+  -- and it went to a server
+  pub sent : AreSent plan g.tale (λ (c : ClientNo). is_some (told_to given c))
+  sent = all_sent service.setup g t (told_to given) (λ (other : LinkId). is_link_id other l) before.rests.stands gives
 
   pub is : IsLoss service.setup service.default_schema g log e given going
   is = record {

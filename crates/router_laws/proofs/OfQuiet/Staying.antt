@@ -36,7 +36,7 @@ use Rattle.router_laws.proofs.OfDecisions.Gathering.{over_then, silent_at, uneve
 use Rattle.router_laws.proofs.OfDecisions.Keeping.{recorded_then}
 use Rattle.router_laws.proofs.OfDecisions.Listing.{is_tale_of, open_with}
 use Rattle.router_laws.proofs.OfDecisions.Recording.{one_more}
-use Rattle.router_laws.proofs.OfDecisions.Asking.{asks_none}
+use Rattle.router_laws.proofs.OfDecisions.Judging.{judges_none}
 use Rattle.router_laws.proofs.OfDecisions.Router.{router_goes_on, stood_before}
 use Rattle.query_rules.specs.Passing.{rules_of}
 use Rattle.router_laws.proofs.OfDecisions.Speaking.{ours_of_none}
@@ -161,7 +161,7 @@ module _ (service : Service) (knows : Knows service.setup) (log : Log) (e : Entr
 
   pub quiet_router : IsRouter service (with_entry log e) t roomy
   quiet_router = router_goes_on service log e no_deeds t t roomy roomy router may (ours_of_none (rules_of service.rules)) waits
-      (asks_none service log e d router.counts no_deeds (λ c. refl)) goes_so open_same
+      (judges_none service log e d router.counts no_deeds (λ c. refl) (λ c. refl)) goes_so open_same
 
 -- As many marks as a log may have.
 

@@ -64,6 +64,8 @@ use Rattle.router_laws.specs.decisions.Counting.{BeginsSo, TakesSo}
 use Rattle.router_laws.specs.decisions.Deeds as deeds
 use Rattle.router_laws.specs.decisions.Deeds.{Counts, Deeds, Word, counts_with, decided_with, taken_by}
 use Rattle.router_laws.specs.decisions.Goings.{deeds_of, end_of}
+use Rattle.router_laws.proofs.OfDecisions.Working.{all_sent}
+use Rattle.router_laws.specs.decisions.Judges.{AreSent}
 use Rattle.router_laws.specs.decisions.Plans.{AreUngiven, AreUnreplied, HasDeeds, KeepsAnswers, PlansSo}
 use Rattle.router_laws.specs.decisions.Records.{AreCountsOf, IsRecorded}
 use Rattle.router_laws.specs.decisions.Routers.{GoesSo, IsBefore, IsRouter}
@@ -231,6 +233,12 @@ module _ (laws : Laws) (service : Service) (log : Log) (t now : Tabled) (roomy :
       (subst (All (λ (client : tales.Client). is_some (told_to given client.number) ≡ true
       → (view_on (on g said)).replies (name_of client client.taken) ≡ None)) said_clients
       (laws.unreplied service.setup (on g said) so.heard (told_to given) (λ (other : LinkId). false) stands gives))
+
+  -- and it went to a server
+  pub sent : AreSent plan g.tale (λ (c : ClientNo). is_some (told_to given c))
+  sent =
+      subst (All (λ (client : tales.Client). is_some (told_to given client.number) ≡ true → is_some (plan.routes (name_of client client.taken)) ≡ true))
+      said_clients (all_sent service.setup (on g said) so.heard (told_to given) (λ (other : LinkId). false) stands gives)
 
   plans : PlansSo g log e its_deeds
   plans = before.so ungiven

@@ -24,7 +24,7 @@ use Rattle.router_laws.proofs.OfDecisions.Gathering.{over_then, silent_at, uneve
 use Rattle.router_laws.proofs.OfDecisions.Keeping.{recorded_then}
 use Rattle.router_laws.proofs.OfDecisions.Listing.{is_tale_of}
 use Rattle.router_laws.proofs.OfDecisions.Recording.{one_more}
-use Rattle.router_laws.proofs.OfDecisions.Asking.{asks_none}
+use Rattle.router_laws.proofs.OfDecisions.Judging.{judges_none}
 use Rattle.router_laws.proofs.OfDecisions.Router.{router_goes_on, stood_before}
 use Rattle.router_laws.proofs.OfDecisions.Staying.{counts_kept}
 use Rattle.router_laws.proofs.OfDecisions.Working.{none_given}
@@ -93,4 +93,4 @@ module _ (service : Service) (log : Log) (e : Entry) (login : Option Login) (beg
 
   pub router_enters : AreOpenJust (with_entry log e) now → IsRouter service (with_entry log e) now room
   router_enters = router_goes_on service log e deeds t now roomy room router may (ours_of_link (rules_of service.rules) login begun) waits
-      (asks_none service log e d router.counts deeds (λ c. refl)) goes_so
+      (judges_none service log e d router.counts deeds (λ c. refl) (λ c. refl)) goes_so

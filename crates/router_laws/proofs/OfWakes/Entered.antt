@@ -53,7 +53,7 @@ use Rattle.router_laws.proofs.OfClients.LetIn.{let_in_then}
 use Rattle.router_laws.specs.clients.Behind.{IsDueBehind, IsOffServers}
 use Rattle.router_laws.specs.clients.Continues.{HasCome, IsContinued, WasThere, is_read_on}
 use Rattle.router_laws.specs.clients.Plans.{over_by}
-use Rattle.router_laws.proofs.OfDecisions.AskedOn.{TurnsAsk, asked_on}
+use Rattle.router_laws.proofs.OfDecisions.JudgedOn.{TurnsJudge, judged_on}
 use Rattle.router_laws.proofs.OfDecisions.Gathering.{all_kept, all_silent, over_then}
 use Rattle.router_laws.proofs.OfDecisions.Keeping.{recorded_then}
 use Rattle.router_laws.proofs.OfDecisions.Listing.{open_with}
@@ -65,8 +65,8 @@ use Rattle.router_laws.proofs.OfDecisions.Speaking.{ours_alone}
 use Rattle.router_laws.proofs.OfWakes.Saying.{ours_of_calls}
 use Rattle.router_laws.specs.decisions.Speaks.{AreOurs, IsGivenOurs}
 use Rattle.router_laws.proofs.OfDecisions.Tallying.{counts_then}
-use Rattle.router_laws.proofs.OfDecisions.Working.{none_replied, ungiven}
-use Rattle.router_laws.specs.decisions.Asks.{AskedFrom, AsksThen}
+use Rattle.router_laws.proofs.OfDecisions.Working.{all_sent, none_replied, ungiven}
+use Rattle.router_laws.specs.decisions.Judges.{IsJudgedThen, JudgedFrom, JudgesThen}
 use Rattle.router_laws.specs.decisions.Counting.{BeginsSo}
 use Rattle.router_laws.specs.decisions.Deeds as deeds
 use Rattle.router_laws.specs.decisions.Deeds.{AreAlone, Deeds, counts_with, decided_with, ends_in, known_with, taken_by, word_of}
@@ -74,8 +74,8 @@ use Rattle.router_laws.specs.decisions.Goings.{end_of}
 use Rattle.router_laws.specs.decisions.Plans.{HasDeeds, PlansSo}
 use Rattle.router_laws.specs.decisions.Routers.{AreOpenJust, GoesSo, IsBefore, IsRouter, WaitsThen}
 use Rattle.router_laws.specs.decisions.Rulings.{AreRuledAll}
-use Rattle.router_laws.proofs.OfReading.Asked.{one_seated}
-use Rattle.router_laws.proofs.OfWakes.Asked.{asked_of}
+use Rattle.router_laws.proofs.OfReading.Judged.{one_seated}
+use Rattle.router_laws.proofs.OfWakes.Judged.{judged_of}
 use Rattle.router_laws.proofs.OfWakes.Called.{Frees, IsCalling, IsCounted, counts, keeps_seats, rests_behind, runless}
 use Rattle.router_laws.specs.reading.Hearing.{TellsFor}
 use Rattle.router_laws.proofs.OfWakes.Aligned.{called_of}
@@ -159,7 +159,7 @@ module _ (service : Service) (knows : Knows service.setup) (log : Log) (e : Entr
     (roomy room : ClientNo → Bool) (given : List GivenUp) (callers : List Caller) (links : List LinkId) (router : IsRouter service log t roomy)
     (may : MayFollow log e) (gives : GivesUpAll given t mid) (theirs : (c : ClientNo) → is_given given c ≡ true → is_called callers c ≡ true)
     (so_calls : CallsSo service.setup service.default_schema callers links mid now) (given_ours : All IsGivenOurs given)
-    (ours : All (IsCallerOurs (rules_of service.rules)) callers) (waits : WaitsThen service log e router.core.decided) (asks : TurnsAsk)
+    (ours : All (IsCallerOurs (rules_of service.rules)) callers) (waits : WaitsThen service log e router.core.decided) (judges : TurnsJudge)
     (ruled : AreRuledAll (rules_of service.rules) callers service.setup service.default_schema mid so_calls.turned so_calls.going)
     (tells : All (λ (k : Caller). TellsFor k.parting service.setup k.client) callers)
     (called_so : (g : Ground) → Rests service.setup g t roomy → PlansSo g log e (calls_deeds given callers) → AreCalled g e (is_called callers) roomy room) where
@@ -430,40 +430,46 @@ module _ (service : Service) (knows : Knows service.setup) (log : Log) (e : Entr
           (is_entry.begins setup g.tale made);
     }
 
-    -- What is asked.
+    -- What becomes of messages.
 
     abbrev rules : List Rule
     rules = rules_of service.rules
 
-    abbrev IsAskedBy : tales.Client → Option Caller → Type 0
-    IsAskedBy y o = AskedFrom rules plan y (router.counts.taken y.number) (option_map_or (λ (j : Caller). j.choices) o [])
+    abbrev IsJudgedBy : tales.Client → Option Caller → Type 0
+    IsJudgedBy y o = JudgedFrom rules plan y (router.counts.taken y.number) (option_map_or (λ (j : Caller). j.choices) o [])
 
-    asked_by : (y : tales.Client) → WasThere plan g.tale e y → (b : Bool) → called y.number ≡ b → IsAskedBy y (found_in callers y.number)
-    asked_by y was true its =
+    judged_by : (y : tales.Client) → WasThere plan g.tale e y → (b : Bool) → called y.number ≡ b → IsJudgedBy y (found_in callers y.number)
+    judged_by y was true its =
         let at =
-        asked_of knows.laws knows.frees asks rules service.setup service.default_schema g t mid now roomy room over e callers links stood.rests calling
+        judged_of knows.laws knows.frees judges rules service.setup service.default_schema g t mid now roomy room over e callers links stood.rests calling
         stands_mid rested so_calls ruled y.number its in
         let same : at.x ≡ was.was =
         one_seated at.x was.was (seats g.tale was.was.number) (sym at.seated ∙ ap (seats g.tale) (at.number ∙ was.continued.number)) was.seated in
-        subst (IsAskedBy y) (sym at.found)
-        (asked_on rules plan g.tale e was.was y was.continued (is_entry.unread was.was.link) (router.counts.taken y.number)
+        subst (IsJudgedBy y) (sym at.found)
+        (judged_on rules plan g.tale e was.was y was.continued (is_entry.unread was.was.link) (router.counts.taken y.number)
         (taken_before was.was was.seated ∙ ap router.counts.taken (sym was.continued.number)) at.caller.choices
-        (subst (λ (z : tales.Client). AskedFrom rules plan z z.taken at.caller.choices) same at.asked))
-    asked_by y was false other = subst (IsAskedBy y) (sym (none_found callers y.number other)) tt
+        (subst (λ (z : tales.Client). JudgedFrom rules plan z z.taken at.caller.choices) same at.judged))
+    judged_by y was false other = subst (IsJudgedBy y) (sym (none_found callers y.number other)) tt
 
-    asked_there : (y : tales.Client) → WasThere plan g.tale e y ⊎ HasCome g.tale e y → IsAskedBy y (found_in callers y.number)
-    asked_there y (inl was) = asked_by y was (called y.number) refl
-    asked_there y (inr come) = absurd (is_entry.uncome g.tale y come)
+    judged_there : (y : tales.Client) → WasThere plan g.tale e y ⊎ HasCome g.tale e y → IsJudgedBy y (found_in callers y.number)
+    judged_there y (inl was) = judged_by y was (called y.number) refl
+    judged_there y (inr come) = absurd (is_entry.uncome g.tale y come)
 
-    asks_of : (y : tales.Client) → IsSeated (tale_of setup plan (with_entry log e)) y → IsAskedBy y (found_in callers y.number)
-    asks_of y seated =
-        asked_there y
+    judges_of : (y : tales.Client) → IsSeated (tale_of setup plan (with_entry log e)) y → IsJudgedBy y (found_in callers y.number)
+    judges_of y seated =
+        judged_there y
         (seated_of (λ (z : tales.Client). WasThere plan g.tale e z ⊎ HasCome g.tale e z) (tale_step setup plan g.tale e) y
         (subst (λ (tale : Tale). IsSeated tale y) (tale_more setup plan log e) seated)
         (all_were setup plan g.tale e stood.rests.stands.clients.counted))
 
-  asks_then : AsksThen service log e d router.counts made
-  asks_then setup codes plan of fits y seated = asks_of setup codes plan of fits y seated
+    judged_so : IsJudgedThen service log e router.counts made setup plan
+    judged_so = record {
+      takes = judges_of;
+      gives = all_sent service.setup g t given_of (λ (l : LinkId). false) stood.rests.stands given_up;
+    }
+
+  judges_then : JudgesThen service log e d router.counts made
+  judges_then setup codes plan of fits = judged_so setup codes plan of fits
 
   -- no link opens or closes
 
@@ -477,4 +483,4 @@ module _ (service : Service) (knows : Knows service.setup) (log : Log) (e : Entr
       ∙ sym (λ i. rows_kept.links l i || is_some (rows_kept.numbers l i))
 
   pub calls_router : IsRouter service (with_entry log e) now room
-  calls_router = router_goes_on service log e made t now roomy room router may all_ours waits asks_then goes_so open_same
+  calls_router = router_goes_on service log e made t now roomy room router may all_ours waits judges_then goes_so open_same

@@ -278,5 +278,5 @@ router_settled laws service log t now roomy router by = record {
   open_just = just_settled log t now by router.open_just;
   spoken = router.spoken;
   waited = router.waited;
-  asked = router.asked;
+  judged = router.judged;
 }

@@ -35,7 +35,7 @@ use Rattle.router_laws.specs.decisions.Routers.{IsRouter, WaitsThen}
 use Rattle.router_laws.specs.decisions.Rulings.{AreRuledAll}
 use Rattle.router_laws.specs.decisions.Speaks.{IsGivenOurs}
 use Rattle.router_laws.specs.reading.Hearing.{TellsFor}
-use Rattle.router_laws.proofs.OfDecisions.AskedOn.{TurnsAsk}
+use Rattle.router_laws.proofs.OfDecisions.JudgedOn.{TurnsJudge}
 use Rattle.router_laws.proofs.OfWakes.Entered.{AreCalled, IsOfNoLink, Knows, before_by, calls_router}
 use Rattle.router_laws.proofs.OfWakes.Given.{all_given, some_given}
 use Rattle.router_laws.specs.wakes.Calling.{Caller, is_called, is_given}
@@ -154,12 +154,12 @@ module _ (service : Service) (given : List GivenUp) (callers : List Caller) (lin
     }
 
   pub woke_router : Knows service.setup → (router : IsRouter service log t roomy) → MayFollow log e → All IsGivenOurs given
-      → All (IsCallerOurs (rules_of service.rules)) callers → WaitsThen service log e router.core.decided → TurnsAsk
+      → All (IsCallerOurs (rules_of service.rules)) callers → WaitsThen service log e router.core.decided → TurnsJudge
       → AreRuledAll (rules_of service.rules) callers service.setup service.default_schema wakes.late wakes.calls.turned wakes.calls.going
       → All (λ (k : Caller). TellsFor k.parting service.setup k.client) callers → IsRouter service (with_entry log e) now room
-  woke_router knows router may given_ours ours waits asks ruled tells =
+  woke_router knows router may given_ours ours waits judges ruled tells =
       calls_router service knows log e (woke_tells until_ms now_ms) t wakes.late now roomy room given callers links router may wakes.gives wakes.all_given
-      wakes.calls given_ours ours waits asks ruled tells woke_called
+      wakes.calls given_ours ours waits judges ruled tells woke_called
 
 -- An open that failed.
 
@@ -202,9 +202,9 @@ module _ (service : Service) (given : List GivenUp) (callers : List Caller) (lin
     }
 
   pub fails_router : Knows service.setup → IsRouter service log t roomy → MayFollow log failed → All IsGivenOurs given
-      → All (IsCallerOurs (rules_of service.rules)) callers → TurnsAsk
+      → All (IsCallerOurs (rules_of service.rules)) callers → TurnsJudge
       → AreRuledAll (rules_of service.rules) callers service.setup service.default_schema fails.late fails.calls.turned fails.calls.going
       → All (λ (k : Caller). TellsFor k.parting service.setup k.client) callers → IsRouter service (with_entry log failed) now roomy
-  fails_router knows router may given_ours ours asks ruled tells =
+  fails_router knows router may given_ours ours judges ruled tells =
       calls_router service knows log failed (fails_tells server address) t fails.late now roomy roomy given callers links router may fails.gives
-      fails.all_given fails.calls given_ours ours (λ terms codes of fits. tt) asks ruled tells fails_called
+      fails.all_given fails.calls given_ours ours (λ terms codes of fits. tt) judges ruled tells fails_called

@@ -1,4 +1,4 @@
--- That the turns are ruled of all who go on at an entry: their texts are what the rules make of what came up.
+-- That the turns are ruled of all who go on at an entry: what becomes of what came up is what the verdict says.
 use Rattle.std.specs.Prelude.{ℕ, List, [], ◌∷◌, Option, Some, None}
 use Rattle.client_session.specs.Setups.{Setup as Service}
 use Rattle.query_rules.specs.declared.rule.Rule.{Rule}

@@ -18,7 +18,7 @@ ghost use Rattle.core_laws.specs.entry.Cores.{with_entry};
 ghost use Rattle.core_laws.specs.entry.Grows.{IsHeardMore};
 ghost use Rattle.core_laws.specs.entry.Tells.{Fits, IsOf};
 ghost use Rattle.router_laws.specs.decisions.Deeds.{Counts, Deeds, decided_with};
-ghost use Rattle.router_laws.specs.decisions.Asks.{AsksThen};
+ghost use Rattle.router_laws.specs.decisions.Judges.{JudgesThen};
 ghost use Rattle.router_laws.specs.decisions.Speaks.{AreOurs};
 ghost use Rattle.query_rules.specs.Passing.{rules_of};
 ghost use Rattle.router_laws.specs.decisions.Records.{IsRecorded};
@@ -36,7 +36,7 @@ pub fn routers_go_on()
     ensures { (service : Service) (log : Log) (e : Entry) (deeds : Deeds) (t now : Tabled) (roomy room : ClientNo → Bool)
         → (router : IsRouter service log t roomy) → MayFollow log e
         → AreOurs (rules_of service.rules) deeds → WaitsThen service log e router.core.decided
-        → AsksThen service log e router.core.decided router.counts deeds
+        → JudgesThen service log e router.core.decided router.counts deeds
         → GoesSoBy service.setup service.default_schema log e router.core.decided router.counts deeds t now roomy room → AreOpenJust (with_entry log e) now
         → IsRouter service (with_entry log e) now room }
 {}

@@ -18,7 +18,7 @@ ghost use Rattle.core_laws.specs.entry.Cores.{with_entry};
 ghost use Rattle.core_laws.specs.clients.Going.{Going};
 ghost use Rattle.query_rules.specs.Passing.{rules_of};
 ghost use Rattle.router_laws.specs.decisions.Speaks.{AreGivenOurs, AreGoingOurs};
-ghost use Rattle.router_laws.specs.decisions.Asks.{AsksThen};
+ghost use Rattle.router_laws.specs.decisions.Judges.{JudgesThen};
 ghost use Rattle.router_laws.specs.decisions.Goings.{deeds_of};
 ghost use Rattle.router_laws.specs.decisions.Rulings.{IsRuledOn};
 ghost use Rattle.router_laws.specs.decisions.Routers.{IsRouter};
@@ -30,13 +30,14 @@ pub fn given_up_with_it()
         → AreGivenUp (told_to given) (λ (other : LinkId). is_link_id other l) t }
 {}
 
-/// Where the turns of the client that goes on are ruled as a link is lost, so is what is asked of its messages.
-pub fn loses_ask()
+/// Where the turns of the client that goes on are ruled as a link is lost, so is what becomes of its messages; and what is given up went to a
+/// server.
+pub fn loses_judge()
     ensures { (service : Service) (log : Log) (t now : Tabled) (roomy : ClientNo → Bool) (l : LinkId) (how : Break)
         (given : Option GivenUp) (going : Option Going) → (router : IsRouter service log t roomy) → MayFollow log (entry_by how l)
         → (so : LosesSo service.setup service.default_schema l given going t now)
         → IsRuledOn (rules_of service.rules) going service.setup service.default_schema so.lost now so.goes
-        → AsksThen service log (entry_by how l) router.core.decided router.counts (deeds_of given going) }
+        → JudgesThen service log (entry_by how l) router.core.decided router.counts (deeds_of given going) }
 {
     core_laws::parting::lost_stands();
     core_laws::parting::freed_stands();
@@ -60,7 +61,7 @@ pub fn loses_router()
         → IsRuledOn (rules_of service.rules) going service.setup service.default_schema so.lost now so.goes
         → IsRouter service (with_entry log (entry_by how l)) now roomy }
 {
-    loses_ask();
+    loses_judge();
     core_laws::parting::lost_stands();
     core_laws::parting::freed_stands();
     core_laws::parting::same_stands();

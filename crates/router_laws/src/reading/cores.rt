@@ -16,7 +16,7 @@ ghost use Rattle.core_tables.specs.declared.server.Server.{Server};
 ghost use Rattle.core_laws.specs.entry.Cores.{with_entry};
 ghost use Rattle.core_laws.specs.clients.Going.{GivenUp, GoesSo, Going, IsCalled, is_going, told_to};
 ghost use Rattle.core_laws.specs.clients.Keeps.{KeepsRows};
-ghost use Rattle.router_laws.specs.decisions.Asks.{AsksThen};
+ghost use Rattle.router_laws.specs.decisions.Judges.{JudgesThen};
 ghost use Rattle.router_laws.specs.decisions.Goings.{deeds_of};
 ghost use Rattle.router_laws.specs.decisions.Rulings.{IsRuledOn};
 ghost use Rattle.router_laws.specs.decisions.Routers.{GoesSoBy, IsRouter};
@@ -54,13 +54,13 @@ pub fn hears_goes()
     crate::decisions::links_rise();
 }
 
-/// Where the turns of the client that goes on are ruled, so is what is asked of its messages.
-pub fn hears_ask()
+/// Where the turns of the client that goes on are ruled, so is what becomes of its messages; and what is given up went to a server.
+pub fn hears_judge()
     ensures { (service : Service) (log : Log) (t now : Tabled) (roomy : ClientNo → Bool) (l : LinkId) (bytes : List ℕ)
         (clock : ℕ) (given : Option GivenUp) (going : Option Going) → (router : IsRouter service log t roomy) → MayFollow log (Got l bytes)
         → AreBytes bytes → (so : HearsSo service.setup service.default_schema l bytes clock given going t now)
         → IsRuledOn (rules_of service.rules) going service.setup service.default_schema so.freed now so.goes
-        → AsksThen service log (Got l bytes) router.core.decided router.counts (deeds_of given going) }
+        → JudgesThen service log (Got l bytes) router.core.decided router.counts (deeds_of given going) }
 {
     core_laws::hearing::bytes_are_heard();
     core_laws::parting::counted_stands();
@@ -87,7 +87,7 @@ pub fn hears_router()
         → IsRuledOn (rules_of service.rules) going service.setup service.default_schema so.freed now so.goes
         → IsRouter service (with_entry log (Got l bytes)) now roomy }
 {
-    hears_ask();
+    hears_judge();
     hears_goes();
     hears_keep();
     crate::decisions::opens_go_on();

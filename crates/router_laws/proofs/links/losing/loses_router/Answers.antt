@@ -11,7 +11,7 @@ pub returns : goal.returns
 returns c = λ service log t now roomy l how given going router follow given_ours ours so ruled.
     c.routers_go_on.ensures service log (entry_by how l) (deeds_of given going) t now roomy roomy router follow
     (ours_of_going (rules_of service.rules) given going given_ours ours) (break_waits service log how l router.core.decided)
-    (c.loses_ask.ensures service log t now roomy l how given going router follow so ruled)
+    (c.loses_judge.ensures service log t now roomy l how given going router follow so ruled)
     (λ setup codes plan of fits.
     goes_so (record {
       losses = record { loses = c.lost_stands.ensures; tests = c.freed_stands.ensures.test; same = c.same_stands.ensures };

@@ -1,4 +1,4 @@
-use Rattle.router_laws.proofs.OfDecisions.AskedOn.{turns_ask}
+use Rattle.router_laws.proofs.OfDecisions.JudgedOn.{turns_judge}
 use Rattle.router_laws.proofs.OfWakes.Known.{unsent_aside}
 use Rattle.router_laws.proofs.OfWakes.Told.{tells_all}
 use Rattle.router_laws.proofs.OfWakes.Woken as woken
@@ -14,4 +14,4 @@ returns c = λ service log t now roomy given callers links server address router
       counting = c.counted_stands.ensures service.setup;
       aside = unsent_aside c.given_up_aside.ensures service.setup;
       rises = c.links_rise.ensures.tale;
-    }) router may given_ours ours (turns_ask c.turns_find.ensures) ruled (tells_all c.told_stands.ensures service.setup callers)
+    }) router may given_ours ours (turns_judge c.turns_find.ensures) ruled (tells_all c.told_stands.ensures service.setup callers)

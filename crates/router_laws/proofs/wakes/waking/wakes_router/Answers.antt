@@ -1,6 +1,6 @@
 use Rattle.mx_wire.specs.declared.entry.Entry.TheVariants.{Woke}
 use Rattle.router_laws.proofs.OfWaits.Then.{waits_then}
-use Rattle.router_laws.proofs.OfDecisions.AskedOn.{turns_ask}
+use Rattle.router_laws.proofs.OfDecisions.JudgedOn.{turns_judge}
 use Rattle.router_laws.proofs.OfWakes.Known.{unsent_aside}
 use Rattle.router_laws.proofs.OfWakes.Told.{tells_all}
 use Rattle.router_laws.proofs.OfWakes.Woken.{woke_router}
@@ -16,4 +16,4 @@ returns c = λ service log t now roomy room given callers links until_ms now_ms 
       counting = c.counted_stands.ensures service.setup;
       aside = unsent_aside c.given_up_aside.ensures service.setup;
       rises = c.links_rise.ensures.tale;
-    }) router may given_ours ours (waits_then c.waits_done.ensures service log t roomy router (Woke until_ms now_ms) drained) (turns_ask c.turns_find.ensures) ruled (tells_all c.told_stands.ensures service.setup callers)
+    }) router may given_ours ours (waits_then c.waits_done.ensures service log t roomy router (Woke until_ms now_ms) drained) (turns_judge c.turns_find.ensures) ruled (tells_all c.told_stands.ensures service.setup callers)

@@ -1,10 +1,10 @@
-use Rattle.router_laws.proofs.OfDecisions.AskedOn.{follows_ask}
-use Rattle.router_laws.proofs.OfReading.Asked as asked
-use Rattle.router_laws.proofs.reading.cores.hears_ask.Goals as goal
+use Rattle.router_laws.proofs.OfDecisions.JudgedOn.{follows_judge}
+use Rattle.router_laws.proofs.OfReading.Judged as judged
+use Rattle.router_laws.proofs.reading.cores.hears_judge.Goals as goal
 
 pub returns : goal.returns
 returns c = λ service log t now roomy l bytes clock given going router follow bytes_are so ruled.
-    asked.hears_ask (record {
+    judged.hears_judge (record {
       reads = record {
         hears = c.bytes_are_heard.ensures;
         counts = c.counted_stands.ensures;
@@ -22,4 +22,4 @@ returns c = λ service log t now roomy l bytes clock given going router follow b
       stood = c.routers_stood.ensures;
       rise = c.links_rise.ensures.tale;
       tells = c.told_stands.ensures;
-    }) (follows_ask c.follows_find.ensures) service log t now roomy l bytes clock given router follow bytes_are going so ruled
+    }) (follows_judge c.follows_find.ensures) service log t now roomy l bytes clock given router follow bytes_are going so ruled

@@ -1,4 +1,4 @@
--- What is asked of clients that are called and go on, one after the other.
+-- What becomes of the messages of clients that are called and go on, one after the other.
 use Rattle.std.specs.Prelude.{◌≡◌, ◌||◌, ℕ, Bool, true, false, if◌then◌else◌, All, List, [], ◌∷◌, Some}
 use Rattle.std.proofs.Common.{refl, sym, ap, ◌∙◌, subst}
 use Rattle.std.proofs.lemmas.Bool.{false≢true}
@@ -21,9 +21,9 @@ use Rattle.core_stands.specs.Stands.{Rests, Stands}
 use Rattle.core_laws.specs.clients.Follows.{PartsSo}
 use Rattle.core_laws.specs.clients.Turns.{Turns}
 use Rattle.core_promises.specs.Ruled.{AreRuled}
-use Rattle.router_laws.specs.decisions.Asks.{AskedFrom}
+use Rattle.router_laws.specs.decisions.Judges.{JudgedFrom}
 use Rattle.router_laws.specs.decisions.Rulings.{AreRuledAll}
-use Rattle.router_laws.proofs.OfDecisions.AskedOn.{TurnsAsk}
+use Rattle.router_laws.proofs.OfDecisions.JudgedOn.{TurnsJudge}
 use Rattle.router_laws.proofs.OfWakes.Called as called
 use Rattle.router_laws.proofs.OfWakes.Called.{Frees, IsCalling}
 use Rattle.router_laws.proofs.OfWakes.Callers as callers
@@ -33,14 +33,14 @@ use Rattle.router_laws.proofs.OfWakes.Going.{Laws, MayGoOn}
 use Rattle.router_laws.specs.wakes.Calling.{AllGoOn, Caller, CallerGoesOn, CallsSo, is_called}
 use Rattle.router_laws.specs.wakes.Deciding.{found_in}
 
-module _ (laws : Laws) (asks : TurnsAsk) (rules : List Rule) (service : Service) (default : List ℕ) (g : Ground) (looked : (x : ClientNo) → g.fresh x ≡ false)
+module _ (laws : Laws) (judges : TurnsJudge) (rules : List Rule) (service : Service) (default : List ℕ) (g : Ground) (looked : (x : ClientNo) → g.fresh x ≡ false)
     (classes : AreClasses g.setup.reads) (single : (whose : ClientNo → Bool) → AreSingle g.plan whose) where
   abbrev At : List ClientNo → (early late : Tale) → (ClientNo → Bool) → Tabled → Type 0
   At cs early late over t = IsAt laws service default g looked classes single cs early late over t
 
   -- of this caller, which is this client
-  abbrev pub IsAsked : Caller → tales.Client → Type 0
-  IsAsked caller x = AskedFrom rules g.plan x x.taken caller.choices
+  abbrev pub IsCallerJudged : Caller → tales.Client → Type 0
+  IsCallerJudged caller x = JudgedFrom rules g.plan x x.taken caller.choices
 
   module _ (cs : List ClientNo) (early late : Tale) (over : ClientNo → Bool) (t now : Tabled) (at : At cs early late over t) (caller : Caller)
       (x : tales.Client) (is : IsCaller service default g caller x) (aside : AreAside cs x) (seated : IsSeated late x)
@@ -52,29 +52,29 @@ module _ (laws : Laws) (asks : TurnsAsk) (rules : List Rule) (service : Service)
     may : MayGoOn service default h early x caller
     may = callers.may laws service default g looked classes single cs early late over t now at caller x is aside seated goes
 
-    one_asked : IsAsked caller x
-    one_asked =
-        asks rules service default x x early (on h early) t goes.turned caller.choices caller.halt caller.client is.number
+    one_judged : IsCallerJudged caller x
+    one_judged =
+        judges rules service default x x early (on h early) t goes.turned caller.choices caller.halt caller.client is.number
         (going.turning laws service default h looked early t goes.turned now x caller may at.stands
         (subst (λ (c : ClientNo). Turns caller.choices caller.halt service default c t goes.turned) (sym is.number) goes.turns)
         (subst (λ (c : ClientNo). PartsSo caller.parting c goes.turned now) (sym is.number) goes.parts))
         may.chosen goes.turns ruled
 
-  abbrev pub AreAsked : List Caller → List tales.Client → Type 0
-  AreAsked [] xs = Unit {0}
-  AreAsked (caller ∷ others) [] = Unit {0}
-  AreAsked (caller ∷ others) (x ∷ xs) = IsAsked caller x × AreAsked others xs
+  abbrev pub AreJudgedAll : List Caller → List tales.Client → Type 0
+  AreJudgedAll [] xs = Unit {0}
+  AreJudgedAll (caller ∷ others) [] = Unit {0}
+  AreJudgedAll (caller ∷ others) (x ∷ xs) = IsCallerJudged caller x × AreJudgedAll others xs
 
-  pub all_asked : (ks : List Caller) (xs : List tales.Client) → AreCallers service default g ks xs → (cs : List ClientNo) (early late : Tale)
+  pub all_judged : (ks : List Caller) (xs : List tales.Client) → AreCallers service default g ks xs → (cs : List ClientNo) (early late : Tale)
       (over : ClientNo → Bool) (t now : Tabled) → AreApart cs xs → All (IsSeated late) xs → At cs early late over t
-      → (goes : AllGoOn ks service default t now) → AreRuledAll rules ks service default t now goes → AreAsked ks xs
-  all_asked [] xs are cs early late over t now apart seated at goes ruled = tt
-  all_asked (k ∷ ks) [] are cs early late over t now apart seated at goes ruled = tt
-  all_asked (k ∷ ks) (x ∷ xs) are cs early late over t now apart seated at goes ruled =
+      → (goes : AllGoOn ks service default t now) → AreRuledAll rules ks service default t now goes → AreJudgedAll ks xs
+  all_judged [] xs are cs early late over t now apart seated at goes ruled = tt
+  all_judged (k ∷ ks) [] are cs early late over t now apart seated at goes ruled = tt
+  all_judged (k ∷ ks) (x ∷ xs) are cs early late over t now apart seated at goes ruled =
       let here : IsSeated late x = All-head (IsSeated late) x xs seated in
       let first = callers.goes_on laws service default g looked classes single cs early late over t goes.0 at k x are.0 apart.0 here goes.1 in (
-        one_asked cs early late over t goes.0 at k x are.0 apart.0 here goes.1 ruled.0,
-        all_asked ks xs are.1 (ended_with (is_ended_by k) x.number cs) first.early (all_taken g.setup g.plan x late)
+        one_judged cs early late over t goes.0 at k x are.0 apart.0 here goes.1 ruled.0,
+        all_judged ks xs are.1 (ended_with (is_ended_by k) x.number cs) first.early (all_taken g.setup g.plan x late)
             first.over goes.0 now
             (callers.apart_with laws service default g looked classes single (is_ended_by k) cs x.number xs apart.2 apart.1)
             (callers.seated_still laws service default g looked classes single x xs late apart.1 (All-tail (IsSeated late) x xs seated)) first.at goes.2 ruled.1,
@@ -82,46 +82,46 @@ module _ (laws : Laws) (asks : TurnsAsk) (rules : List Rule) (service : Service)
 
   -- One of them.
 
-  pub record IsAskedIn (ks : List Caller) (tale : Tale) (c : ClientNo) : Type 0 where
+  pub record IsJudgedIn (ks : List Caller) (tale : Tale) (c : ClientNo) : Type 0 where
     pub caller : Caller
     pub found : found_in ks c ≡ Some caller
     pub x : tales.Client
     pub seated : IsSeated tale x
     pub number : x.number ≡ c
-    pub asked : IsAsked caller x
+    pub judged : IsCallerJudged caller x
 
-  asked_first : (tale : Tale) (c : ClientNo) (k : Caller) (ks : List Caller) (y : tales.Client) → IsSeated tale y → IsCaller service default g k y
-      → IsAsked k y → (is_called ks c ≡ true → IsAskedIn ks tale c) → (b : Bool) → is_client c k.client ≡ b → (b || is_called ks c) ≡ true
-      → IsAskedIn (k ∷ ks) tale c
-  asked_first tale c k ks y seated caller asked later true same there = record {
+  judged_first : (tale : Tale) (c : ClientNo) (k : Caller) (ks : List Caller) (y : tales.Client) → IsSeated tale y → IsCaller service default g k y
+      → IsCallerJudged k y → (is_called ks c ≡ true → IsJudgedIn ks tale c) → (b : Bool) → is_client c k.client ≡ b → (b || is_called ks c) ≡ true
+      → IsJudgedIn (k ∷ ks) tale c
+  judged_first tale c k ks y seated caller judged later true same there = record {
     caller = k;
     found = ap (λ (b : Bool). if b then Some k else found_in ks c) same;
     x = y;
     seated = seated;
     number = caller.number ∙ sym (client_of c k.client same);
-    asked = asked;
+    judged = judged;
   }
-  asked_first tale c k ks y seated caller asked later false other there =
-      let at : IsAskedIn ks tale c = later there in
+  judged_first tale c k ks y seated caller judged later false other there =
+      let at : IsJudgedIn ks tale c = later there in
       record {
         caller = at.caller;
         found = ap (λ (b : Bool). if b then Some k else found_in ks c) other ∙ at.found;
         x = at.x;
         seated = at.seated;
         number = at.number;
-        asked = at.asked;
+        judged = at.judged;
       }
 
-  pub asked_in : (tale : Tale) (c : ClientNo) (ks : List Caller) (ys : List tales.Client) → AreCallers service default g ks ys → All (IsSeated tale) ys
-      → AreAsked ks ys → is_called ks c ≡ true → IsAskedIn ks tale c
-  asked_in tale c [] ys theirs seated asked there = absurd (false≢true there)
-  asked_in tale c (k ∷ ks) [] theirs seated asked there = absurd theirs
-  asked_in tale c (k ∷ ks) (y ∷ ys) theirs seated asked there =
-      asked_first tale c k ks y (All-head (IsSeated tale) y ys seated) theirs.0 asked.0
-      (asked_in tale c ks ys theirs.1 (All-tail (IsSeated tale) y ys seated) asked.1) (is_client c k.client) refl there
+  pub judged_in : (tale : Tale) (c : ClientNo) (ks : List Caller) (ys : List tales.Client) → AreCallers service default g ks ys → All (IsSeated tale) ys
+      → AreJudgedAll ks ys → is_called ks c ≡ true → IsJudgedIn ks tale c
+  judged_in tale c [] ys theirs seated judged there = absurd (false≢true there)
+  judged_in tale c (k ∷ ks) [] theirs seated judged there = absurd theirs
+  judged_in tale c (k ∷ ks) (y ∷ ys) theirs seated judged there =
+      judged_first tale c k ks y (All-head (IsSeated tale) y ys seated) theirs.0 judged.0
+      (judged_in tale c ks ys theirs.1 (All-tail (IsSeated tale) y ys seated) judged.1) (is_client c k.client) refl there
 
 -- All that are called.
-module _ (laws : Laws) (frees : Frees) (asks : TurnsAsk) (rules : List Rule) (service : Service) (default : List ℕ) (g : Ground) (t mid now : Tabled)
+module _ (laws : Laws) (frees : Frees) (judges : TurnsJudge) (rules : List Rule) (service : Service) (default : List ℕ) (g : Ground) (t mid now : Tabled)
     (roomy room over : ClientNo → Bool) (e : Entry) (ks : List Caller) (links : List LinkId) (rests : Rests service g t roomy)
     (is : IsCalling service default g e ks over roomy room) (stands : Stands service (on g (counted g.tale)) mid)
     (rested : NoneDone g.setup g.plan (counted g.tale)) (so : CallsSo service default ks links mid now)
@@ -132,18 +132,18 @@ module _ (laws : Laws) (frees : Frees) (asks : TurnsAsk) (rules : List Rule) (se
   abbrev xs : List tales.Client
   xs = clients_of (is_called ks) heard
 
-  asked : AreAsked laws asks rules service default g rests.looked is.classes is.single ks xs
-  asked =
-      all_asked laws asks rules service default g rests.looked is.classes is.single ks xs
+  judged : AreJudgedAll laws judges rules service default g rests.looked is.classes is.single ks xs
+  judged =
+      all_judged laws judges rules service default g rests.looked is.classes is.single ks xs
       (called.are laws frees service default g t mid now roomy room over e ks links rests is stands rested so) [] heard heard g.over mid so.turned
       (called.kept_apart (is_called ks) 1 heard.clients
       (called.numbered laws frees service default g t mid now roomy room over e ks links rests is stands rested so))
       (called.seated_xs laws frees service default g t mid now roomy room over e ks links rests is stands rested so)
       (called.first laws frees service default g t mid now roomy room over e ks links rests is stands rested so) so.going ruled
 
-  pub asked_of : (c : ClientNo) → is_called ks c ≡ true
-      → IsAskedIn laws asks rules service default g rests.looked is.classes is.single ks heard c
-  asked_of c there =
-      asked_in laws asks rules service default g rests.looked is.classes is.single heard c ks xs
+  pub judged_of : (c : ClientNo) → is_called ks c ≡ true
+      → IsJudgedIn laws judges rules service default g rests.looked is.classes is.single ks heard c
+  judged_of c there =
+      judged_in laws judges rules service default g rests.looked is.classes is.single heard c ks xs
       (called.are laws frees service default g t mid now roomy room over e ks links rests is stands rested so)
-      (called.seated_xs laws frees service default g t mid now roomy room over e ks links rests is stands rested so) asked there
+      (called.seated_xs laws frees service default g t mid now roomy room over e ks links rests is stands rested so) judged there

@@ -1,4 +1,4 @@
--- What is asked of the one client that goes on with bytes on a link to a server.
+-- What becomes of the messages of the one client that goes on with bytes on a link to a server.
 use Rattle.std.specs.Prelude.{◌≡◌, ◌⊎◌, ℕ, Bool, true, false, All, length, List, [], ◌∷◌, Option, Some, None}
 use Rattle.std.proofs.Common.{refl, sym, ap, ◌∙◌, subst, inl, inr}
 use Rattle.mx_base.specs.Fields.{AreBytes}
@@ -29,12 +29,12 @@ use Rattle.core_laws.specs.entry.Tells.{Fits, IsOf, ground}
 use Rattle.core_laws.specs.clients.Going.{GivenUp, Going}
 use Rattle.core_laws.specs.clients.Turns.{Choice}
 use Rattle.router_laws.specs.clients.Continues.{HasCome, IsContinued, WasThere, is_read_on}
-use Rattle.router_laws.specs.decisions.Asks.{AskedFrom, AsksThen}
+use Rattle.router_laws.specs.decisions.Judges.{JudgedFrom, JudgesThen}
 use Rattle.router_laws.specs.decisions.Deeds.{decided_with}
 use Rattle.router_laws.specs.decisions.Goings.{deeds_of}
 use Rattle.router_laws.specs.decisions.Routers.{IsBefore, IsRouter}
 use Rattle.router_laws.specs.decisions.Rulings.{IsRuledOn}
-use Rattle.router_laws.proofs.OfDecisions.AskedOn.{FollowsAsk, asked_on}
+use Rattle.router_laws.proofs.OfDecisions.JudgedOn.{FollowsJudge, judged_on}
 use Rattle.router_laws.proofs.OfReading.Hearing as hearing
 use Rattle.router_laws.proofs.OfReading.Onward as onward
 use Rattle.router_laws.proofs.OfReading.Onward.{Laws}
@@ -50,27 +50,27 @@ one_seated x was xs first second = let both : x ∷ [] ≡ was ∷ [] = first �
 -- One client goes on, at an entry that reads nothing of any.
 module _ (rules : List Rule) (plan : Plan) (tale : Tale) (e : Entry) (taken : ClientNo → ℕ)
     (counted : All (λ (x : tales.Client). x.taken ≡ taken x.number) tale.clients) (given : Option GivenUp) (it : Going) (x : tales.Client)
-    (seated : IsSeated tale x) (number : x.number ≡ it.client) (asked : AskedFrom rules plan x x.taken it.choices) where
-  abbrev Asked : tales.Client → List Choice → Type 0
-  Asked y choices = AskedFrom rules plan y (taken y.number) choices
+    (seated : IsSeated tale x) (number : x.number ≡ it.client) (judged : JudgedFrom rules plan x x.taken it.choices) where
+  abbrev Judged : tales.Client → List Choice → Type 0
+  Judged y choices = JudgedFrom rules plan y (taken y.number) choices
 
   one_by : (y was : tales.Client) → IsSeated tale was → IsContinued plan tale e was y → is_read_on e was.link ≡ false → (b : Bool)
-      → is_client it.client y.number ≡ b → Asked y ((deeds_of given (Some it)).calls y.number)
+      → is_client it.client y.number ≡ b → Judged y ((deeds_of given (Some it)).calls y.number)
   one_by y was seated_was on unread true its =
       let no : x.number ≡ was.number = number ∙ client_of it.client y.number its ∙ on.number in
       let same : x ≡ was = one_seated x was (seats tale was.number) (sym seated ∙ ap (seats tale) no) seated_was in
-      subst (Asked y) (sym (for_same it.client y.number it.choices [] its))
-      (asked_on rules plan tale e was y on unread (taken y.number)
+      subst (Judged y) (sym (for_same it.client y.number it.choices [] its))
+      (judged_on rules plan tale e was y on unread (taken y.number)
       (seated_of (λ (z : tales.Client). z.taken ≡ taken z.number) tale was seated_was counted ∙ ap taken (sym on.number)) it.choices
-      (subst (λ (z : tales.Client). AskedFrom rules plan z z.taken it.choices) same asked))
+      (subst (λ (z : tales.Client). JudgedFrom rules plan z z.taken it.choices) same judged))
   one_by y was seated_was on unread false other =
-      subst (Asked y) (sym (for_other it.client y.number it.choices [] other)) tt
+      subst (Judged y) (sym (for_other it.client y.number it.choices [] other)) tt
 
-  pub one_asked : (y was : tales.Client) → IsSeated tale was → IsContinued plan tale e was y → is_read_on e was.link ≡ false
-      → Asked y ((deeds_of given (Some it)).calls y.number)
-  one_asked y was seated_was on unread = one_by y was seated_was on unread (is_client it.client y.number) refl
+  pub one_judged : (y was : tales.Client) → IsSeated tale was → IsContinued plan tale e was y → is_read_on e was.link ≡ false
+      → Judged y ((deeds_of given (Some it)).calls y.number)
+  one_judged y was seated_was on unread = one_by y was seated_was on unread (is_client it.client y.number) refl
 
-module _ (laws : Laws) (asks : FollowsAsk) (service : Service) (log : Log) (t now : Tabled) (roomy : ClientNo → Bool) (l : LinkId) (bytes : List ℕ)
+module _ (laws : Laws) (judges : FollowsJudge) (service : Service) (log : Log) (t now : Tabled) (roomy : ClientNo → Bool) (l : LinkId) (bytes : List ℕ)
     (clock : ℕ) (given : Option GivenUp) (router : IsRouter service log t roomy) (follow : MayFollow log (entry.Got l bytes))
     (bytes_are : AreBytes bytes) where
   abbrev e : Entry
@@ -101,9 +101,9 @@ module _ (laws : Laws) (asks : FollowsAsk) (service : Service) (log : Log) (t no
     number : x.number ≡ it.client
     number = somebody.number laws.reads service.setup service.default_schema g log t now roomy l bytes clock given it before.rests is so
 
-    asked : AskedFrom rules plan x x.taken it.choices
-    asked =
-        asks rules service.setup service.default_schema g so.freed so.goes.turned g.fresh e x
+    judged : JudgedFrom rules plan x x.taken it.choices
+    judged =
+        judges rules service.setup service.default_schema g so.freed so.goes.turned g.fresh e x
         (hearing.freed laws.reads service.setup service.default_schema g log t now roomy l bytes clock given (Some it) before.rests is so)
         it.choices it.halt it.parting it.client number
         (somebody.following laws.reads service.setup service.default_schema g log t now roomy l bytes clock given it before.rests is so)
@@ -111,25 +111,31 @@ module _ (laws : Laws) (asks : FollowsAsk) (service : Service) (log : Log) (t no
         so.goes.turns ruled
 
     by_was : (y : tales.Client) → WasThere plan g.tale e y ⊎ HasCome g.tale e y
-        → AskedFrom rules plan y (router.counts.taken y.number) ((deeds_of given (Some it)).calls y.number)
+        → JudgedFrom rules plan y (router.counts.taken y.number) ((deeds_of given (Some it)).calls y.number)
     by_was y (inr come) = absurd come
     by_was y (inl was) =
-        one_asked rules plan g.tale e router.counts.taken before.counts.taken given it x
-        (somebody.seated laws.reads service.setup service.default_schema g log t now roomy l bytes clock given it before.rests is so) number asked y was.was
+        one_judged rules plan g.tale e router.counts.taken before.counts.taken given it x
+        (somebody.seated laws.reads service.setup service.default_schema g log t now roomy l bytes clock given it before.rests is so) number judged y was.was
         was.seated was.continued
         (onward.unread_by laws service log t now roomy l bytes clock given (Some it) router follow bytes_are so setup codes plan of fits was.was was.seated
         (is_link_id was.was.link l) refl)
 
-    one_asks : (y : tales.Client) → IsSeated (tale_of setup plan (with_entry log e)) y
-        → AskedFrom rules plan y (router.counts.taken y.number) ((deeds_of given (Some it)).calls y.number)
-    one_asks y seated =
+    one_judges : (y : tales.Client) → IsSeated (tale_of setup plan (with_entry log e)) y
+        → JudgedFrom rules plan y (router.counts.taken y.number) ((deeds_of given (Some it)).calls y.number)
+    one_judges y seated =
         by_was y
         (seated_of (λ (z : tales.Client). WasThere plan g.tale e z ⊎ HasCome g.tale e z) last y
         (subst (λ (tale : Tale). IsSeated tale y) (tale_more setup plan log e) seated)
         (onward.were laws service log t now roomy l bytes clock given (Some it) router follow bytes_are so setup codes plan of fits))
 
-  pub hears_ask : (going : Option Going) (so : HearsSo service.setup service.default_schema l bytes clock given going t now)
+  pub hears_judge : (going : Option Going) (so : HearsSo service.setup service.default_schema l bytes clock given going t now)
       → IsRuledOn rules going service.setup service.default_schema so.freed now so.goes
-      → AsksThen service log e router.core.decided router.counts (deeds_of given going)
-  hears_ask None so ruled = λ setup codes plan of fits y seated. tt
-  hears_ask (Some it) so ruled = λ setup codes plan of fits y seated. one_asks it so ruled setup codes plan of fits y seated
+      → JudgesThen service log e router.core.decided router.counts (deeds_of given going)
+  hears_judge None so ruled = λ setup codes plan of fits. record {
+    takes = λ y seated. tt;
+    gives = onward.sent laws service log t now roomy l bytes clock given None router follow bytes_are so setup codes plan of fits;
+  }
+  hears_judge (Some it) so ruled = λ setup codes plan of fits. record {
+    takes = λ y seated. one_judges it so ruled setup codes plan of fits y seated;
+    gives = onward.sent laws service log t now roomy l bytes clock given (Some it) router follow bytes_are so setup codes plan of fits;
+  }

@@ -1,4 +1,4 @@
--- What is asked of the one client that goes on as a link to a server is lost.
+-- What becomes of the messages of the one client that goes on as a link to a server is lost.
 use Rattle.std.specs.Prelude.{◌≡◌, ◌⊎◌, Bool, length, List, Option, Some, None}
 use Rattle.std.proofs.Common.{subst, inl, inr}
 use Rattle.mx_wire.specs.Log.{Log}
@@ -24,13 +24,13 @@ use Rattle.core_laws.specs.entry.Cores.{with_entry}
 use Rattle.core_laws.specs.entry.Tells.{Fits, IsOf, ground}
 use Rattle.core_laws.specs.clients.Going.{GivenUp, Going}
 use Rattle.router_laws.specs.clients.Continues.{HasCome, WasThere}
-use Rattle.router_laws.specs.decisions.Asks.{AskedFrom, AsksThen}
+use Rattle.router_laws.specs.decisions.Judges.{JudgedFrom, JudgesThen}
 use Rattle.router_laws.specs.decisions.Deeds.{decided_with}
 use Rattle.router_laws.specs.decisions.Goings.{deeds_of}
 use Rattle.router_laws.specs.decisions.Routers.{IsBefore, IsRouter}
 use Rattle.router_laws.specs.decisions.Rulings.{IsRuledOn}
-use Rattle.router_laws.proofs.OfDecisions.AskedOn.{FollowsAsk}
-use Rattle.router_laws.proofs.OfReading.Asked.{one_asked}
+use Rattle.router_laws.proofs.OfDecisions.JudgedOn.{FollowsJudge}
+use Rattle.router_laws.proofs.OfReading.Judged.{one_judged}
 use Rattle.router_laws.specs.reading.Hearing.{TellsSo}
 use Rattle.router_laws.proofs.OfLinks.Breaking.{lost_plain}
 use Rattle.router_laws.proofs.OfLinks.Going.{IsPlain}
@@ -41,7 +41,7 @@ use Rattle.router_laws.proofs.OfLinks.Losses.{IsLoss}
 use Rattle.router_laws.proofs.OfLinks.OneLoses as somebody
 use Rattle.router_laws.specs.links.Loses.{Break, LosesSo, entry_by}
 
-module _ (laws : Laws) (asks : FollowsAsk) (service : Service) (log : Log) (t now : Tabled) (roomy : ClientNo → Bool) (l : LinkId) (how : Break)
+module _ (laws : Laws) (judges : FollowsJudge) (service : Service) (log : Log) (t now : Tabled) (roomy : ClientNo → Bool) (l : LinkId) (how : Break)
     (given : Option GivenUp) (router : IsRouter service log t roomy) (follow : MayFollow log (entry_by how l)) where
   abbrev e : Entry
   e = entry_by how l
@@ -71,9 +71,9 @@ module _ (laws : Laws) (asks : FollowsAsk) (service : Service) (log : Log) (t no
     number : x.number ≡ it.client
     number = somebody.number laws.losses service.setup service.default_schema g log t now roomy l how given it before.rests is so
 
-    asked : AskedFrom rules plan x x.taken it.choices
-    asked =
-        asks rules service.setup service.default_schema g so.lost so.goes.turned g.fresh e x
+    judged : JudgedFrom rules plan x x.taken it.choices
+    judged =
+        judges rules service.setup service.default_schema g so.lost so.goes.turned g.fresh e x
         (losses.later laws.losses service.setup service.default_schema g log t now roomy l how given (Some it) before.rests is so)
         it.choices it.halt it.parting it.client number
         (somebody.following laws.losses service.setup service.default_schema g log t now roomy l how given it before.rests is so)
@@ -84,23 +84,29 @@ module _ (laws : Laws) (asks : FollowsAsk) (service : Service) (log : Log) (t no
     plain = lost_plain g.tale how l
 
     by_was : (y : tales.Client) → WasThere plan g.tale e y ⊎ HasCome g.tale e y
-        → AskedFrom rules plan y (router.counts.taken y.number) ((deeds_of given (Some it)).calls y.number)
+        → JudgedFrom rules plan y (router.counts.taken y.number) ((deeds_of given (Some it)).calls y.number)
     by_was y (inr come) = absurd (plain.comes y come)
     by_was y (inl was) =
-        one_asked rules plan g.tale e router.counts.taken before.counts.taken given it x
-        (somebody.seated laws.losses service.setup service.default_schema g log t now roomy l how given it before.rests is so) number asked y was.was
+        one_judged rules plan g.tale e router.counts.taken before.counts.taken given it x
+        (somebody.seated laws.losses service.setup service.default_schema g log t now roomy l how given it before.rests is so) number judged y was.was
         was.seated was.continued (plain.reads was.was.link)
 
-    one_asks : (y : tales.Client) → IsSeated (tale_of setup plan (with_entry log e)) y
-        → AskedFrom rules plan y (router.counts.taken y.number) ((deeds_of given (Some it)).calls y.number)
-    one_asks y seated =
+    one_judges : (y : tales.Client) → IsSeated (tale_of setup plan (with_entry log e)) y
+        → JudgedFrom rules plan y (router.counts.taken y.number) ((deeds_of given (Some it)).calls y.number)
+    one_judges y seated =
         by_was y
         (seated_of (λ (z : tales.Client). WasThere plan g.tale e z ⊎ HasCome g.tale e z) last y
         (subst (λ (tale : Tale). IsSeated tale y) (tale_more setup plan log e) seated)
         (onward.were laws service log t now roomy l how given (Some it) router follow so tells setup codes plan of fits))
 
-  pub loses_ask : (going : Option Going) (so : LosesSo service.setup service.default_schema l given going t now) → TellsSo going service.setup
+  pub loses_judge : (going : Option Going) (so : LosesSo service.setup service.default_schema l given going t now) → TellsSo going service.setup
       → IsRuledOn rules going service.setup service.default_schema so.lost now so.goes
-      → AsksThen service log e router.core.decided router.counts (deeds_of given going)
-  loses_ask None so tells ruled = λ setup codes plan of fits y seated. tt
-  loses_ask (Some it) so tells ruled = λ setup codes plan of fits y seated. one_asks it so tells ruled setup codes plan of fits y seated
+      → JudgesThen service log e router.core.decided router.counts (deeds_of given going)
+  loses_judge None so tells ruled = λ setup codes plan of fits. record {
+    takes = λ y seated. tt;
+    gives = onward.sent laws service log t now roomy l how given None router follow so tells setup codes plan of fits;
+  }
+  loses_judge (Some it) so tells ruled = λ setup codes plan of fits. record {
+    takes = λ y seated. one_judges it so tells ruled setup codes plan of fits y seated;
+    gives = onward.sent laws service log t now roomy l how given (Some it) router follow so tells setup codes plan of fits;
+  }

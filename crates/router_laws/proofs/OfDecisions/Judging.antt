@@ -1,0 +1,332 @@
+-- What becomes of a client's messages is what the verdict says, behind an entry too.
+use Rattle.std.specs.Prelude.{◌≡◌, ◌⊎◌, ◌<◌, ◌≤◌, ◌+◌, ◌&&◌, ◌++◌, ℕ, zero, suc, Bool, true, false, All, fold, is_some, nat_eq, nat_le, nat_lt, if◌then◌else◌, length, slice_get, slice_index_or, List, [], ◌∷◌, Option, Some, None}
+use Rattle.std.specs.Option.{option_map}
+use Rattle.std.proofs.Common.{refl, sym, ap, ◌∙◌, subst, arith, inl, inr}
+use Rattle.std.proofs.lemmas.Bool.{eqb-true, ltb-false, ltb-true}
+use Rattle.std.proofs.lemmas.Option.{same_Some}
+use Rattle.mx_wire.specs.Log.{Log, accepted_links}
+use Rattle.mx_wire.specs.declared.entry.Entry.{Entry}
+use Rattle.mx_wire.specs.declared.entry.Entry.TheVariants as entry
+use Rattle.packet_frame.specs.Packets.{Framed}
+use Rattle.client_session.specs.Setups.{Setup as Serving}
+use Rattle.query_rules.specs.Passing.{rules_of}
+use Rattle.query_rules.specs.declared.rule.Rule.{Rule}
+use Rattle.private_model.specs.Names.{ClientNo, MessageName}
+use Rattle.private_model.proofs.Maps.{client_of}
+use Rattle.private_model.specs.View.{Setup}
+use Rattle.link_laws.specs.Stands.{Codes}
+use Rattle.log_story.specs.Headline.{tale_of}
+use Rattle.log_story.specs.Owed.{messages, name_of, talk_of}
+use Rattle.log_story.specs.Plan.{OwnAnswer, Plan, Route, own_at}
+use Rattle.log_story.specs.Tale.{Client, Tale, first_tale}
+use Rattle.log_story.specs.Telling.{tale_step}
+use Rattle.step_laws.proofs.Seating.{counted_seats}
+use Rattle.step_laws.specs.Seats.{IsSeated}
+use Rattle.tale_world.specs.Decided.{Decided}
+use Rattle.core_service.specs.declared.service.Service.{Service}
+use Rattle.core_tables.specs.Tables.{Tabled}
+use Rattle.core_laws.proofs.OfEntry.Going.{tale_more}
+use Rattle.core_laws.proofs.OfEntry.Growing.{messages_more}
+use Rattle.core_laws.proofs.OfEntry.Lists.{seated_of}
+use Rattle.core_laws.specs.clients.Found.{AreFoundAt, IsFoundAt}
+use Rattle.core_laws.specs.clients.Turns.{Answers, Choice, Goes, Halt, IsTurn, Turns}
+use Rattle.core_laws.specs.entry.Cores.{with_entry}
+use Rattle.core_laws.specs.entry.Tells.{Fits, IsOf}
+use Rattle.core_promises.specs.Judges.{AreJudged, IsJudged, IsVerdictFor, goes_by}
+use Rattle.core_promises.specs.Ruled.{AreRuled, IsRuled}
+use Rattle.router_promises.specs.Verdicts.{Tells, Verdict}
+use Rattle.shared_router.proofs.Furthering.{IsWithin, within_step}
+use Rattle.shared_router.proofs.Looked.{Each, each-all}
+use Rattle.shared_router.proofs.Numbered.{AreNumbered}
+use Rattle.shared_router.proofs.Seated.{numbered_step}
+use Rattle.router_laws.proofs.OfClients.Continuing.{all_were}
+use Rattle.router_laws.proofs.OfDecisions.Fates.{HasFate, fate_there, false_true, none_some}
+use Rattle.router_laws.proofs.OfDecisions.Listing.{is_tale_of}
+use Rattle.router_laws.proofs.OfDecisions.Planning.{fate_so, own_so}
+use Rattle.router_laws.proofs.OfDecisions.Recording.{one_more}
+use Rattle.router_laws.specs.clients.Continues.{HasCome, WasThere}
+use Rattle.router_laws.specs.decisions.Judges.{AreSent, IsJudgedThen, JudgedFrom, JudgesThen, verdict_of}
+use Rattle.router_laws.specs.decisions.Deeds.{Counts, Deeds, Fate, Word, among, counts_with, decided_by, decided_with, fate_at, fate_in, fate_of, is_quitting, known_with, no_deeds, no_fate, parting, taken_by, taking}
+use Rattle.router_laws.specs.decisions.Records.{AreCountsOf, IsRecorded}
+
+-- Of a client's messages that came up at its turns, where these are by the verdict.
+
+module _ (rules : List Rule) (plan : Plan) (client : Client) where
+  judged_as : (c : ClientNo) → client.number ≡ c → (up message : Framed) → Some up ≡ Some message → (verdict : Verdict)
+      → IsVerdictFor rules c up.payload verdict → IsVerdictFor rules client.number message.payload verdict
+  judged_as c number up message same verdict is =
+      subst (λ (m : Framed). IsVerdictFor rules client.number m.payload verdict) (same_Some up message same)
+      (subst (λ (x : ClientNo). IsVerdictFor rules x up.payload verdict) (sym number) is)
+
+  judged_one : (choice : Choice) (service : Serving) (default : List ℕ) (c : ClientNo) → client.number ≡ c → (old new : Tabled)
+      (turn : IsTurn choice service default c old new) (found : Option Framed) → IsFoundAt choice service default c old new turn found
+      → IsRuled rules choice service default c old new turn → (message : Framed) → found ≡ Some message
+      → IsVerdictFor rules client.number message.payload (verdict_of choice)
+  judged_one (Goes route) service default c number old new turn found at ruled message is =
+      judged_as c number turn.up.message message (sym at ∙ is) (goes_by route) ruled
+  judged_one (Answers payloads) service default c number old new turn found at ruled message is =
+      judged_as c number turn.up.message message (sym at ∙ is) (Tells payloads) ruled
+
+  pub judged_by : (k : ℕ) (choices : List Choice) (halt : Halt) (service : Serving) (default : List ℕ) (c : ClientNo) → client.number ≡ c
+      → (old new : Tabled) (turns : Turns choices halt service default c old new)
+      → AreFoundAt choices halt service default c old new turns (messages plan client) k
+      → AreRuled rules choices halt service default c old new turns → JudgedFrom rules plan client k choices
+  judged_by k [] halt service default c number old new turns found ruled = tt
+  judged_by k (choice ∷ others) halt service default c number old new turns found ruled = (
+    judged_one choice service default c number old turns.0 turns.1 (slice_get (messages plan client) k) found.0 ruled.0,
+    judged_by (suc k) others halt service default c number turns.0 new turns.2 found.1 ruled.1,
+  )
+
+  -- so what is decided of each is
+
+  pub record IsFated (k : ℕ) (fate : Fate) : Type 0 where
+    pub goes : (message : Framed) (route : Route) → slice_get (messages plan client) k ≡ Some message → fate.route ≡ Some route
+        → IsVerdictFor rules client.number message.payload (goes_by route)
+    pub tells : (message : Framed) (payloads : List (List ℕ)) → slice_get (messages plan client) k ≡ Some message
+        → option_map (λ (answer : OwnAnswer). answer.payloads) fate.own ≡ Some payloads
+        → IsVerdictFor rules client.number message.payload (Tells payloads)
+
+  judged_first : (k : ℕ) (choice : Choice) (others : List Choice) → JudgedFrom rules plan client k (choice ∷ others) → IsFated k (fate_of choice)
+  judged_first k (Goes mine) others judged = record {
+    goes = λ message route at is.
+        subst (λ (r : Route). IsVerdictFor rules client.number message.payload (goes_by r)) (same_Some mine route is) (judged.0 message at);
+    tells = λ message payloads at is. none_some None payloads refl is;
+  }
+  judged_first k (Answers mine) others judged = record {
+    goes = λ message route at is. none_some None route refl is;
+    tells = λ message payloads at is.
+        subst (λ (p : List (List ℕ)). IsVerdictFor rules client.number message.payload (Tells p)) (same_Some mine payloads is) (judged.0 message at);
+  }
+
+  unfated : (k : ℕ) → IsFated k no_fate
+  unfated k = record {
+    goes = λ message route at is. none_some None route refl is;
+    tells = λ message payloads at is. none_some None payloads refl is;
+  }
+
+  judged_if : (b : Bool) (k : ℕ) (fate : Fate) → (if b then Some no_fate else None) ≡ Some fate → IsFated k fate
+  judged_if true k fate is = subst (IsFated k) (same_Some no_fate fate is) (unfated k)
+  judged_if false k fate is = none_some None fate refl is
+
+  pub judged_at : (choices : List Choice) (halt : Halt) (first k : ℕ) (fate : Fate) → JudgedFrom rules plan client first choices
+      → fate_in choices halt (suc first) (suc k) ≡ Some fate → IsFated k fate
+  judged_at [] halt first k fate judged is = judged_if (is_quitting halt && nat_eq (suc k) (suc first)) k fate is
+  judged_at (choice ∷ others) halt first k fate judged is =
+      by (nat_eq (suc k) (suc first)) refl is (judged_at others halt (suc first) k fate judged.1) where
+        by : (b : Bool) → nat_eq (suc k) (suc first) ≡ b → (if b then Some (fate_of choice) else fate_in others halt (suc (suc first)) (suc k)) ≡ Some fate
+            → (fate_in others halt (suc (suc first)) (suc k) ≡ Some fate → IsFated k fate) → IsFated k fate
+        by true same has later =
+            let here : suc k ≡ suc first = eqb-true (suc k) (suc first) same in
+            let at : first ≡ k = omega (arith, here) in
+            subst (λ (i : ℕ). IsFated i fate) at (subst (IsFated first) (same_Some (fate_of choice) fate has) (judged_first first choice others judged))
+        by false other has later = later has
+
+  pub judged_none : (k : ℕ) (choices : List Choice) → choices ≡ [] → JudgedFrom rules plan client k choices
+  judged_none k choices none = subst (JudgedFrom rules plan client k) (sym none) tt
+
+  judged_among : (b : Bool) (k : ℕ) (choices : List Choice) → JudgedFrom rules plan client k choices → JudgedFrom rules plan client k (if b then choices else [])
+  judged_among true k choices judged = judged
+  judged_among false k choices judged = tt
+
+-- whose deeds give nobody up
+pub none_sent : (plan : Plan) (tale : Tale) (given : ClientNo → Option (List ℕ)) → ((c : ClientNo) → given c ≡ None)
+    → AreSent plan tale (λ c. is_some (given c))
+none_sent plan tale given none = λ k dflt within some.
+    false_true (is_some (given (slice_index_or tale.clients k dflt).number)) (ap is_some (none (slice_index_or tale.clients k dflt).number)) some
+
+-- and call nobody
+pub judges_none : (service : Service) (log : Log) (e : Entry) (d : Decided) (n : Counts) (deeds : Deeds) → ((c : ClientNo) → deeds.calls c ≡ [])
+    → ((c : ClientNo) → deeds.given c ≡ None) → JudgesThen service log e d n deeds
+judges_none service log e d n deeds none ungiven setup codes plan of fits = record {
+  takes = λ client seated. judged_none (rules_of service.rules) plan client (n.taken client.number) (deeds.calls client.number) (none client.number);
+  gives = none_sent plan (tale_of setup plan log) deeds.given ungiven;
+}
+
+none_either : (choices : List Choice) → choices ≡ [] → (b : Bool) → (if b then choices else choices) ≡ []
+none_either choices none true = none
+none_either choices none false = none
+
+pub judges_of_none : (service : Service) (log : Log) (e : Entry) (d : Decided) (n : Counts) (c : ClientNo) (halt : Halt) (last : Option (Option Word))
+    → JudgesThen service log e d n (parting c last (taking c [] halt no_deeds))
+judges_of_none service log e d n c halt last =
+    judges_none service log e d n (parting c last (taking c [] halt no_deeds)) (λ x. none_either [] refl (nat_eq c.0 x.0)) (λ x. refl)
+
+pub none_taken : (choices : List Choice) (halt : Halt) → taken_by choices halt ≡ 0 → choices ≡ []
+none_taken [] halt none = refl
+none_taken (choice ∷ others) halt none = absurd (omega (arith, none))
+
+-- who takes them up alone
+pub judges_taking : (service : Service) (log : Log) (e : Entry) (d : Decided) (n : Counts) (c : ClientNo) (choices : List Choice) (halt : Halt)
+    (last : Option (Option Word))
+    → ((setup : Setup) (codes : Codes) (plan : Plan) → IsOf (decided_with (parting c last (taking c choices halt no_deeds)) n log e d) (length (with_entry log e)) plan
+    → Fits setup codes plan service.default_schema (tale_of setup plan (with_entry log e)) → (client : Client)
+    → IsSeated (tale_of setup plan (with_entry log e)) client → client.number ≡ c
+    → JudgedFrom (rules_of service.rules) plan client (n.taken c) choices)
+    → JudgesThen service log e d n (parting c last (taking c choices halt no_deeds))
+judges_taking service log e d n c choices halt last judged setup codes plan of fits = record {
+  takes = λ client seated. by client seated (nat_eq c.0 client.number.0) refl;
+  gives = none_sent plan (tale_of setup plan log) (λ x. None) (λ x. refl);
+} where
+  by : (client : Client) → IsSeated (tale_of setup plan (with_entry log e)) client → (b : Bool) → nat_eq c.0 client.number.0 ≡ b
+      → JudgedFrom (rules_of service.rules) plan client (n.taken client.number) (if b then choices else [])
+  by client seated false other = tt
+  by client seated true its =
+      let same : c ≡ client.number = client_of c client.number its in
+      subst (λ (x : ClientNo). JudgedFrom (rules_of service.rules) plan client (n.taken x) choices) same (judged setup codes plan of fits client seated (sym same))
+
+-- No more was taken up of a client than its messages.
+
+all_within : (setup : Setup) (plan : Plan) (log : Log) (tale : Tale) → AreNumbered 1 tale.clients → Each (IsWithin setup plan) tale.clients
+    → Each (IsWithin setup plan) (fold (tale_step setup plan) tale log).clients
+all_within setup plan [] tale are all = all
+all_within setup plan (e ∷ log) tale are all =
+    all_within setup plan log (tale_step setup plan tale e) (numbered_step setup plan tale e are) (within_step setup plan tale e are all)
+
+pub within_of : (setup : Setup) (plan : Plan) (log : Log) → All (IsWithin setup plan) (tale_of setup plan log).clients
+within_of setup plan log = each-all (IsWithin setup plan) (tale_of setup plan log).clients (all_within setup plan log first_tale tt tt)
+
+-- Messages stay as more is read.
+
+get_front : (xs ys : List Framed) (k : ℕ) → k < length xs → slice_get (xs ++ ys) k ≡ slice_get xs k
+get_front [] ys k less = absurd (omega (arith, less))
+get_front (x ∷ xs) ys zero less = refl
+get_front (x ∷ xs) ys (suc k) less = get_front xs ys k (omega (arith, less))
+
+pub message_stays : (plan : Plan) (was now : Client) (more : List ℕ) (k : ℕ) → now.number ≡ was.number → now.salt ≡ was.salt
+    → now.read ≡ was.read ++ more → k < length (messages plan was) → slice_get (messages plan now) k ≡ slice_get (messages plan was) k
+message_stays plan was now more k number salt read less =
+    let longer : messages plan now ≡ messages plan (record was { read = was.read ++ more }) =
+    λ i. messages plan (record was { number = number i; salt = salt i; read = read i }) in
+    let grown = messages_more (talk_of plan was) more in
+    ap (λ (ms : List Framed). slice_get ms k) (longer ∙ grown.is) ∙ get_front (messages plan was) grown.later k less
+
+-- Behind an entry.
+
+given_among : (b : Bool) (given : Option (List ℕ)) → is_some (if b then given else None) ≡ true → is_some given ≡ true
+given_among true given some = some
+given_among false given some = false_true false refl some
+
+module _ (service : Service) (log : Log) (e : Entry) (d : Decided) (n : Counts) (deeds : Deeds) (recorded : IsRecorded d n log) (setup : Setup) (plan : Plan)
+    (of : IsOf (decided_with deeds n log e d) (length (with_entry log e)) plan)
+    (before : AreCountsOf n (tale_of setup plan log)) (counts : AreCountsOf (counts_with deeds n log e) (tale_of setup plan (with_entry log e)))
+    (was : All (AreJudged (rules_of service.rules) plan (length log)) (tale_of setup plan log).clients)
+    (judged : IsJudgedThen service log e n deeds setup plan) where
+  abbrev rules : List Rule
+  rules = rules_of service.rules
+
+  abbrev old : Tale
+  old = tale_of setup plan log
+
+  abbrev new : Tale
+  new = tale_of setup plan (with_entry log e)
+
+  abbrev made : Deeds
+  made = among (known_with log e) deeds
+
+  abbrev now : ℕ
+  now = suc (length log)
+
+  of_now : IsOf (decided_by made n log e now d) now plan
+  of_now = subst (λ (k : ℕ). IsOf (decided_by made n log e k d) k plan) (one_more log e) of
+
+  module _ (client : Client) (seated : IsSeated new client) (k : ℕ) (message : Framed) (at : slice_get (messages plan client) k ≡ Some message) where
+    abbrev c : ClientNo
+    c = client.number
+
+    abbrev name : MessageName
+    name = name_of client (suc k)
+
+    abbrev IsJudgedAt : (moment : ℕ) → Type 0
+    IsJudgedAt moment = IsJudged rules plan moment name message.payload
+
+    -- It was taken up before: what is given up goes to a server, so else it is answered as it was.
+
+    module _ (x : Client) (there : IsSeated old x) (number : c ≡ x.number) (less : k < n.taken c) where
+      count : x.taken ≡ n.taken x.number
+      count = seated_of (λ (y : Client). y.taken ≡ n.taken y.number) old x there before.taken
+
+      named : n.taken c ≡ n.taken x.number
+      named = ap n.taken number
+
+      sent : is_some (made.given c) ≡ true → suc k ≡ n.taken c → is_some (plan.routes name) ≡ true
+      sent given last =
+          let ordinal : suc k ≡ x.taken = last ∙ named ∙ sym count in
+          let some : is_some (deeds.given x.number) ≡ true =
+          subst (λ (m : ClientNo). is_some (deeds.given m) ≡ true) number (given_among (nat_le c.0 (known_with log e)) (deeds.given c) given) in
+          (λ i. is_some (plan.routes (record { client = number i; ordinal = ordinal i })))
+          ∙ seated_of (λ (y : Client). is_some (deeds.given y.number) ≡ true → is_some (plan.routes (name_of y y.taken)) ≡ true) old x there judged.gives some
+
+      stays : (is_some (made.given c) && nat_eq (suc k) (n.taken c)) ≡ false → own_at plan now name ≡ own_at plan (length log) name
+      stays kept = (own_so d n log e made (length log) plan recorded refl of_now name (omega (arith, less)) kept).0
+
+      own_stays : plan.routes name ≡ None → own_at plan now name ≡ own_at plan (length log) name
+      own_stays unrouted = by (is_some (made.given c)) (nat_eq (suc k) (n.taken c)) refl refl where
+        by : (a b : Bool) → is_some (made.given c) ≡ a → nat_eq (suc k) (n.taken c) ≡ b → own_at plan now name ≡ own_at plan (length log) name
+        by false b given last = stays (λ i. given i && last i)
+        by true false given last = stays (λ i. given i && last i)
+        by true true given last =
+            false_true (is_some (plan.routes name)) (ap is_some unrouted) (sent given (eqb-true (suc k) (n.taken c) last))
+
+      old_judged : client.salt ≡ x.salt → (more : List ℕ) → client.read ≡ x.read ++ more → IsJudgedAt now
+      old_judged salt more read =
+          let within : x.taken ≤ length (messages plan x) = seated_of (IsWithin setup plan) old x there (within_of setup plan log) in
+          let early : k < x.taken = omega (arith, less, count, named) in
+          let there_at : slice_get (messages plan x) k ≡ Some message =
+          sym (message_stays plan x client more k number salt read (omega (arith, early, within))) ∙ at in
+          let so_far : IsJudgedAt (length log) =
+          subst (λ (m : ClientNo). IsJudged rules plan (length log) (record { client = m; ordinal = suc k }) message.payload) (sym number)
+          (seated_of (AreJudged rules plan (length log)) old x there was k message early there_at) in
+          record {
+            goes = so_far.goes;
+            tells = λ payloads unrouted own. so_far.tells payloads unrouted (sym (own_stays unrouted) ∙ own);
+          }
+
+    came_by : (by : Entry) → HasCome old by client → n.taken c ≡ 0
+    came_by (entry.Accepted port link salt) come =
+        let last : c.0 ≡ length old.clients + 1 = ap (λ (m : ClientNo). m.0) come.number in
+        let size : length old.clients ≡ length (accepted_links log) = (is_tale_of setup plan log).clients in
+        (recorded.strangers c (omega (arith, last, size))).untaken
+    came_by by come = absurd come
+
+    taken_before : k < n.taken c → WasThere plan old e client ⊎ HasCome old e client → IsJudgedAt now
+    taken_before less (inl x) =
+        old_judged x.was x.seated x.continued.number less x.continued.salt x.continued.more x.continued.read
+    taken_before less (inr come) = let none : n.taken c ≡ 0 = came_by e come in absurd (omega (arith, less, none))
+
+    -- it is taken up now
+
+    abbrev known : Bool
+    known = nat_le c.0 (known_with log e)
+
+    taken_then : k < client.taken → n.taken c ≤ k → (found : Option Fate) → fate_at made n name ≡ found → is_some found ≡ true → IsJudgedAt now
+    taken_then less least None is some = false_true false refl some
+    taken_then less least (Some mine) is some =
+        let has : HasFate plan now name mine = fate_so d n log e made (length log) plan recorded refl of_now name mine is (omega (arith, least)) in
+        let fated : IsFated rules plan client k mine =
+        judged_at rules plan client (made.calls c) (made.halts c) (n.taken c) k mine
+        (judged_among rules plan client known (n.taken c) (deeds.calls c) (judged.takes client seated)) is in
+        record {
+          goes = λ route goes. fated.goes message route at (sym has.routed ∙ goes);
+          tells = λ payloads unrouted own. fated.tells message payloads at (sym has.own ∙ own);
+        }
+
+    each : k < client.taken → IsJudgedAt now
+    each less = by (nat_lt k (n.taken c)) refl where
+      count_now : client.taken ≡ n.taken c + taken_by (made.calls c) (made.halts c)
+      count_now = seated_of (λ (y : Client). y.taken ≡ (counts_with deeds n log e).taken y.number) new client seated counts.taken
+
+      by : (b : Bool) → nat_lt k (n.taken c) ≡ b → IsJudgedAt now
+      by true early =
+          taken_before (ltb-true k (n.taken c) early)
+          (seated_of (λ (z : Client). WasThere plan old e z ⊎ HasCome old e z) (tale_step setup plan old e) client
+          (subst (λ (tale : Tale). IsSeated tale client) (tale_more setup plan log e) seated)
+          (all_were setup plan old e (is_tale_of setup plan log).counted))
+      by false late =
+          let least : n.taken c ≤ k = ltb-false k (n.taken c) late in
+          taken_then less least (fate_at made n name) refl
+          (fate_there (made.calls c) (made.halts c) (suc (n.taken c)) (suc k) (omega (arith, least)) (omega (arith, less, count_now)))
+
+  pub judged_then : All (AreJudged rules plan (length (with_entry log e))) new.clients
+  judged_then = λ i dflt within k message less at.
+      subst (λ (moment : ℕ). IsJudged rules plan moment (name_of (slice_index_or new.clients i dflt) (suc k)) message.payload) (sym (one_more log e))
+      (each (slice_index_or new.clients i dflt) (counted_seats new (is_tale_of setup plan (with_entry log e)).counted i dflt within) k message at less)
