@@ -28,7 +28,7 @@ pub struct Work {
     pub since_ms: u64,
     pub anew: bool,
     pub multiplex: Option<bool>,
-    pub key: u32,
+    pub key: u64,
     pub command: Command,
     pub marks: bool,
     pub form: Option<Form>,

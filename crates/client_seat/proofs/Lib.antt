@@ -8,3 +8,4 @@ pub mod Passing
 pub mod Answering
 pub mod Entering
 pub mod Preparing
+pub mod Numbering

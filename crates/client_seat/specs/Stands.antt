@@ -1,5 +1,5 @@
 -- How a seat stands for its client in a tale: by the plan, what the router knows, and the moment.
-use Rattle.std.specs.Prelude.{◌≡◌, ◌<◌, ℕ, suc, ◌+◌, true, is_some, slice_get, List, [], ◌∷◌, ◌++◌, length, take, Option, Some, None, ◌≤◌, Bool, drop, not}
+use Rattle.std.specs.Prelude.{◌≡◌, ◌<◌, ℕ, suc, ◌+◌, true, is_some, nat_eq, slice_get, slice_index_or, List, [], ◌∷◌, ◌++◌, length, take, Option, Some, None, ◌≤◌, Bool, drop, not}
 use Rattle.packet_frame.specs.Packets.{Framed, next_id, spellings, split, with_front}
 use Rattle.reply_track.specs.Grammar.{renamed}
 use Rattle.server_side.specs.Account.{Account}
@@ -7,11 +7,11 @@ use Rattle.client_side.specs.Reading.{IsLoggingIn}
 use Rattle.client_side.specs.declared.stage.Stage.TheVariants as stage
 use Rattle.client_session.specs.Answers as talks
 use Rattle.client_session.specs.Answers.{commands, front}
-use Rattle.private_model.specs.Commands.{Reply}
+use Rattle.private_model.specs.Commands.{Reply, end_of, is_made}
 use Rattle.private_model.specs.View.{View}
 use Rattle.log_story.specs.Executes.{bound_by, prepared_by}
 use Rattle.log_story.specs.Owed.{due_bytes, due_for, kind_of, messages, name_of, number_of, talk_of}
-use Rattle.log_story.specs.Plan.{Plan, own_at}
+use Rattle.log_story.specs.Plan.{Plan, Route, com_prepare, own_at}
 use Rattle.log_story.specs.Tale.{Client}
 use Rattle.client_seat.specs.Numbers.{Numbered}
 use Rattle.client_seat.specs.Seats.{Seat}
@@ -123,3 +123,34 @@ pub record IsNumbered (x : Known) (client : Client) (named : ℕ → ℕ) (numbe
   pub bound : bound_by one.prepared.params number (is_refused x client) (suc ordinal) (drop ordinal (take client.taken (messages x.plan client)))
       (record { types = None; long = [] })
       ≡ one.bound
+
+-- More is known, or was read of it: what was answered before its last message stays as it is, and the reply to that message stays.
+pub record IsOnward (x y : Known) (client other : Client) : Type 0 where
+  pub plan : y.plan ≡ x.plan
+  pub number : other.number ≡ client.number
+  pub taken : other.taken ≡ client.taken
+  pub more : List Framed
+  pub all : messages y.plan other ≡ messages x.plan client ++ more
+  pub earlier : (ordinal : ℕ) → ordinal < client.taken → y.view.replies (name_of client ordinal) ≡ x.view.replies (name_of client ordinal)
+  pub stays : (ordinal : ℕ) (reply : Reply) → ordinal ≤ client.taken → x.view.replies (name_of client ordinal) ≡ Some reply
+      → y.view.replies (name_of client ordinal) ≡ Some reply
+
+-- Its last message prepared a text under a number by which none was prepared before; nothing was bound since.
+pub record Makes (x : Known) (client : Client) (named : ℕ → ℕ) (number : ℕ) (one : Numbered) : Type 0 where
+  pub before : List Framed
+  pub message : Framed
+  pub behind : List Framed
+  pub all : messages x.plan client ≡ before ++ (message ∷ behind)
+  pub place : 1 + length before ≡ client.taken
+  pub within : client.taken ≤ length (messages x.plan client)
+  pub first : prepared_by x.view x.plan client number 1 before ≡ None
+  pub route : Route
+  pub routed : x.plan.routes (name_of client client.taken) ≡ Some route
+  pub reply : Reply
+  pub replied : x.view.replies (name_of client client.taken) ≡ Some reply
+  pub prepares : nat_eq (slice_index_or message.payload 0 0) com_prepare ≡ true
+  pub under : nat_eq route.number number ≡ true
+  pub made : is_made reply ≡ true
+  pub key : route.key ≡ named one.prepared.key
+  pub params : (end_of reply).params ≡ one.prepared.params
+  pub unbound : one.bound ≡ record { types = None; long = [] }

@@ -19,7 +19,7 @@ ghost use Rattle.client_seat.specs.Numbers.{Numbered, noted, number_in};
 ghost use Rattle.client_seat.specs.Requests.{asked_in, request_of};
 ghost use Rattle.log_story.specs.Tale.{Client};
 ghost use Rattle.client_seat.specs.Seats.{Seat, got, wrote};
-ghost use Rattle.client_seat.specs.Stands.{Answers, IsEntering, IsHeard, IsNext, IsNumbered, IsServed, IsWho, IsWrittenOf, Known, answer_to, due_so_far, is_refused};
+ghost use Rattle.client_seat.specs.Stands.{Answers, IsEntering, IsHeard, IsNext, IsNumbered, IsOnward, IsServed, IsWho, IsWrittenOf, Known, Makes, answer_to, due_so_far, is_refused};
 ghost use Rattle.client_seat.specs.Takings.{passed};
 ghost use Rattle.client_seat.specs.Turns.{admitted, stepped};
 
@@ -106,4 +106,13 @@ pub fn seats_prepare()
         IsNumbered x client named number one →
         requested setup x.view x.plan client (suc client.taken) route payload
         ≡ option_map (request_of setup (x.view.places client.number).schema route.key named) (asked_in statements payload route.text) }
+{}
+
+/// So it is as more is read of the client, and as its last message is answered; and what that message prepared stands under its number.
+pub fn numbers_go_on()
+    ensures onward { (x y : Known) (client other : Client) (named : ℕ → ℕ) (number : ℕ) (one : Numbered) → IsOnward x y client other →
+        client.taken ≤ length (messages x.plan client) → IsNumbered x client named number one →
+        IsNumbered y other named number one }
+    ensures makes { (x : Known) (client : Client) (named : ℕ → ℕ) (number : ℕ) (one : Numbered) → Makes x client named number one →
+        IsNumbered x client named number one }
 {}

@@ -17,7 +17,7 @@ mod taking;
 mod word;
 
 pub use arguments::Args;
-pub use laws::{seats_hear, seats_log_in, seats_owe, seats_prepare};
+pub use laws::{numbers_go_on, seats_hear, seats_log_in, seats_owe, seats_prepare};
 pub use next::Next;
 pub use outbox::Outbox;
 pub use phase::Phase;

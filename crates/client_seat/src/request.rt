@@ -18,7 +18,7 @@ pub enum Request {
     /// reads them, the first with the sequence id 0, and what kind of reply is due (client/server protocol, "MySQL Packets").
     Text { kind: ReplyKind, packets: Vec<u8> },
     /// The run of the prepared statement that has this key.
-    Run { key: u32, args: Args },
+    Run { key: u64, args: Args },
 }
 
 // What kind of reply a command has that is sent as a text; None where it isn't.

@@ -85,7 +85,7 @@ fn add(answer: &mut Answer, statements: &mut ClientStatements, step: &str) {
 }
 
 fn fill(answer: &mut Answer, statements: &mut ClientStatements, step: &str) {
-    let count: u32 = answer.parsed(step);
+    let count: u64 = answer.parsed(step);
     for key in 0..count {
         let prepared = Prepared {
             key,

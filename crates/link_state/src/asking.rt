@@ -14,13 +14,13 @@ pub enum Purpose {
     Statement {
         name: SessionName,
         ordinal: u64,
-        key: u32,
+        key: u64,
     },
     /// The text of a client's execute is prepared on the way to it.
     Prep {
         name: SessionName,
         ordinal: u64,
-        key: u32,
+        key: u64,
     },
     /// A step in a client's session.
     Sync {

@@ -104,7 +104,7 @@ pub(crate) fn hear_live(
     }
 }
 
-fn put_if_made(live: &mut Standing, key: u32, end: &ReplyEnd) -> Result<(), OutOfMemory>
+fn put_if_made(live: &mut Standing, key: u64, end: &ReplyEnd) -> Result<(), OutOfMemory>
     ensures { OnOk result (live.new ≡ live_of_key key end.now live.old) }
 {
     if end.is_err() {

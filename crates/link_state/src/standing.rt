@@ -11,7 +11,7 @@ use std::marker::Model;
 /// contract sees the list of these.
 #[derive(Drop)]
 pub struct Standing {
-    numbers: IndexMap<u32, u32>,
+    numbers: IndexMap<u64, u32>,
 }
 
 impl Model for Standing {
@@ -40,14 +40,14 @@ impl Standing {
     }
 
     /// The number of a key's text.
-    pub fn find(&self, key: u32) -> Option<u32>
+    pub fn find(&self, key: u64) -> Option<u32>
         ensures { result ≡ number_of self.now key }
     {
         self.numbers.get(&key).copied()
     }
 
     /// The oldest, with its number.
-    pub fn oldest(&self) -> Option<(u32, u32)>
+    pub fn oldest(&self) -> Option<(u64, u32)>
         ensures { result ≡ slice_get self.now 0 }
     {
         let (key, number) = self.numbers.first()?;
@@ -55,7 +55,7 @@ impl Standing {
     }
 
     /// A key's text was prepared and got this number.
-    pub fn put(&mut self, key: u32, number: u32) -> Result<(), OutOfMemory>
+    pub fn put(&mut self, key: u64, number: u32) -> Result<(), OutOfMemory>
         ensures { OnOk result (self.new ≡ stood self.old key number) }
     {
         match self.numbers.insert(key, number) {
@@ -69,7 +69,7 @@ impl Standing {
         ensures { self.new ≡ closed self.old number }
     {
         self.numbers.retain(
-            |_key: &u32, at: &mut u32| -> bool
+            |_key: &u64, at: &mut u32| -> bool
                 ensures { (result ≡ not (nat_eq at.old number)) × (at.new ≡ at.old) }
             { *at != number },
         );

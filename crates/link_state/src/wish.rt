@@ -51,7 +51,7 @@ pub enum Command {
 #[derive(Clone, Copy)]
 pub struct Wanted {
     pub command: Command,
-    pub key: u32,
+    pub key: u64,
     pub marks: bool,
     pub id: Option<u64>,
 }
@@ -133,7 +133,7 @@ fn is_unprepared(live: &Standing, wanted: Wanted) -> bool
 }
 
 // Before a preparation: the statement of this text is closed, where one stands there, else the oldest of a thousand.
-fn cleared(live: &Standing, key: u32, otherwise: Wish) -> Wish
+fn cleared(live: &Standing, key: u64, otherwise: Wish) -> Wish
     ensures { result ≡ cleared live.now key otherwise }
 {
     match live.find(key) {
@@ -207,7 +207,7 @@ impl LinkState {
         }
     }
 
-    fn prep_wish(&self, alloc: Global, key: u32, of_key: &Place) -> Result<Wish, OutOfMemory>
+    fn prep_wish(&self, alloc: Global, key: u64, of_key: &Place) -> Result<Wish, OutOfMemory>
         requires { IsTrue (is_text (value_at of_key.now.settings Slot.Names)) }
         ensures { IfOk result (λ wish. wish ≡ prep_wish self.now key of_key.now) }
     {

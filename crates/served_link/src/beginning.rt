@@ -122,7 +122,7 @@ impl Row {
         alloc: Global,
         name: SessionName,
         ordinal: u64,
-        key: u32,
+        key: u64,
         text: &[u8],
     ) -> Result<(), OutOfMemory>
         ensures ok { OnOk result (self.new ≡ prepares name ordinal key text.now self.old) }

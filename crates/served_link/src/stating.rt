@@ -17,7 +17,7 @@ use std::alloc::Global;
 pub struct Stated {
     pub name: SessionName,
     pub ordinal: u64,
-    pub key: u32,
+    pub key: u64,
     pub multiplex: Option<bool>,
     pub first: u8,
     pub number: u32,

@@ -6,7 +6,7 @@ use mx_base::{Bytes, Hostgroup, OutOfMemory};
 /// said there of sharing the link, and how many parameters it has.
 #[derive(Clone, Copy)]
 pub struct Prepared {
-    pub key: u32,
+    pub key: u64,
     pub hostgroup: Hostgroup,
     pub multiplex: Option<bool>,
     pub params: u16,
