@@ -9,7 +9,7 @@ use Rattle.core_tables.specs.declared.tables.Tables.{Tables}
 use Rattle.std.proofs.Common.{refl, sym, ap, ◌∙◌}
 use Rattle.packet_frame.specs.Packets.{Framed}
 use Rattle.packet_frame.specs.Packets.{spelling}
-use Rattle.private_model.specs.Commands.{Command}
+use Rattle.private_model.specs.Commands.{Args, Command}
 use Rattle.log_story.specs.Plan.{text_payload}
 use Rattle.client_seat.specs.Requests.{Asked, IsAsked, Runs, Says, asked_in}
 use Rattle.client_seat.specs.declared.request.Request.{Request}
@@ -18,7 +18,7 @@ use Rattle.client_seat.specs.Takings.{taken_to}
 use Rattle.client_seat.specs.declared.seat.Seat.{Seat}
 use Rattle.client_desk.specs.Desks.{taken_on}
 use Rattle.client_desk.specs.declared.work.Work.{Work}
-use Rattle.core_tables.specs.Taking.{IsDue, IsSentAs, IsTaken, found_of, goes, goes_found}
+use Rattle.core_tables.specs.Taking.{IsDue, IsRunAs, IsRunDue, IsSentAs, IsTaken, found_of, goes, goes_found}
 use Rattle.core_tables.specs.declared.client.Client.{Client}
 
 -- What it asks for that goes to a server.
@@ -97,4 +97,58 @@ due_so old new c flag text work row after there is clients numbers links = recor
   command = is.command;
   asked = is.asked;
   taken = taken_so old new c (goes flag (work (spelling 0 (text_payload is.command)))) row after after.desk.seat.statements there is.is clients numbers links;
+}
+
+-- An execute asks for the run of what is prepared.
+pub asked_run : (asked : Option Asked) (request : Request) (key : ℕ) (args : Args) → IsAsked asked (Some request) → request ≡ Run key args
+    → asked ≡ Some (Runs key args)
+asked_run None request key args is of = absurd is
+asked_run (Some (Says command)) (Text kind packets) key args is of = absurd (cc)
+asked_run (Some (Says command)) (Run other given) key args is of = absurd is
+asked_run (Some (Runs other given)) (Text kind packets) key args is of = absurd is
+asked_run (Some (Runs other given)) (Run found with_args) key args is of =
+    let same : found ≡ key = cc in
+    let so : with_args ≡ args = cc in
+    λ i. Some (Runs ((sym is.same ∙ same) i) ((sym is.given ∙ so) i))
+
+pub ran_so : (old : Client) (flag : ℕ) (work : Args → Work) (seat : Seat) (request : Request) (key : ℕ) (args : Args)
+    → IsSome (found_of old) → request ≡ Run key args
+    → IfSome (found_of old) (λ (message : Framed). IsAsked (asked_in old.desk.seat.statements message.payload None) (Some request))
+    → IfSome (found_of old) (λ (message : Framed). seat ≡ taken_to (work args).hostgroup flag message seat.statements old.desk.seat)
+    → (new : Client) → new ≡ record old { desk = taken_on (work args) (record old.desk { seat = seat }); went = Some (work args).hostgroup }
+    → IsRunAs flag work old new
+ran_so old flag work seat request key args some of asked taken new is = by (found_of old) refl some asked taken where
+  by : (found : Option Framed) → found_of old ≡ found → IsSome found
+      → IfSome found (λ (message : Framed). IsAsked (asked_in old.desk.seat.statements message.payload None) (Some request))
+      → IfSome found (λ (message : Framed). seat ≡ taken_to (work args).hostgroup flag message seat.statements old.desk.seat)
+      → IsRunAs flag work old new
+  by None at none asks takes = absurd (cc)
+  by (Some message) at here asks takes =
+      let statements : new.desk.seat.statements ≡ seat.statements = ap (λ (x : Client). x.desk.seat.statements) is in
+      record {
+        key = key;
+        args = args;
+        asked =
+            ap (λ (f : Option Framed). option_and_then (λ (m : Framed). asked_in old.desk.seat.statements m.payload None) f) at
+            ∙ asked_run (asked_in old.desk.seat.statements message.payload None) request key args asks of;
+        is =
+            is
+            ∙ ap (λ (s : Seat). record old { desk = taken_on (work args) (record old.desk { seat = s }); went = Some (work args).hostgroup }) takes
+            ∙ sym (ap (λ (f : Option Framed). goes_found flag (work args) seat.statements f old) at)
+            ∙ ap (λ (st : ClientStatements). goes flag (work args) st old) (sym statements);
+      }
+
+pub run_so : (old new : Tables) (c : ClientNo) (flag : ℕ) (work : Args → Work) (row after : Client)
+    → get nat_eq old.clients c.0 ≡ Some row → IsRunAs flag work row after
+    → ((k : ℕ) → get nat_eq new.clients k ≡ (if nat_eq c.0 k then Some after else get nat_eq old.clients k))
+    → ((k : ℕ) → get nat_eq new.numbers k ≡ get nat_eq old.numbers k) → ((k : ℕ) → get nat_eq new.links k ≡ get nat_eq old.links k)
+    → IsRunDue flag work c (tables_of old) (tables_of new)
+unfolding tables_of
+run_so old new c flag work row after there is clients numbers links = record {
+  row = row;
+  there = there;
+  key = is.key;
+  args = is.args;
+  asked = is.asked;
+  taken = taken_so old new c (goes flag (work is.args)) row after after.desk.seat.statements there is.is clients numbers links;
 }

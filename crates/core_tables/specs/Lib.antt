@@ -9,3 +9,4 @@ pub mod Parting
 pub mod Noting
 pub mod Leaving
 pub mod Wording
+pub mod Preparing

@@ -121,6 +121,21 @@ may_state row form name ordinal desk work =
     && (begins_there row form name desk work (session_of desk work.hostgroup)
     || goes_on_there row form name desk work (session_of desk work.hostgroup)))
 
+-- The text of an execute is prepared on the way to it: for a session without a Pin, or on the own link of one that has one.
+
+abbrev pub prepares_first : Row → SessionName → Session → Bool
+prepares_first row name s =
+    ((is_nobody row.link.state.carries && not (is_some s.home)) || is_lent_to name row.link.state.carries) && not (is_pinned s.pin)
+
+abbrev pub prepares_there : Row → SessionName → Session → Bool
+prepares_there row name s = is_joined name row.link.state.carries && is_pinned s.pin
+
+abbrev pub may_prepare : Row → SessionName → (ordinal : ℕ) → Desk → Work → Bool
+may_prepare row name ordinal desk work =
+    not work.sent
+    && (is_of name ordinal desk work
+    && (prepares_first row name (session_of desk work.hostgroup) || prepares_there row name (session_of desk work.hostgroup)))
+
 -- Steps, by their form and their first byte.
 
 abbrev pub is_command : (code : ℕ) → Option Writing → Bool
@@ -181,6 +196,10 @@ abbrev pub with_session : SessionName → Tabled → (Session → Bool) → Bool
 with_session name t test =
     option_map_or (λ (client : Client). is_name name (name_of client.desk name.hostgroup) && test (session_of client.desk name.hostgroup))
     (t.clients name.client) false
+
+-- a preparation for a client's statement, where the link was told its place
+abbrev pub prep_passes : SessionName → (ordinal : ℕ) → Row → Tabled → Bool
+prep_passes name ordinal row t = with_work name t (may_prepare row name ordinal)
 
 abbrev pub passes_for : Purpose → Row → Form → Tabled → Bool
 passes_for (purposes.Statement name ordinal key) row form t = with_work name t (may_state row form name ordinal)

@@ -4,20 +4,21 @@ use Rattle.std.specs.Option.{option_and_then}
 use Rattle.mx_base.specs.declared.names.ClientNo.{ClientNo}
 use Rattle.mx_base.specs.declared.names.Hostgroup.{Hostgroup}
 use Rattle.packet_frame.specs.Packets.{Framed, spelling}
-use Rattle.private_model.specs.Commands.{Command}
+use Rattle.private_model.specs.Commands.{Args, Command}
 use Rattle.log_story.specs.Plan.{text_payload}
 use Rattle.stmt_map.specs.declared.client.ClientStatements.{ClientStatements}
 use Rattle.link_state.specs.Asks.{marks}
 use Rattle.link_state.specs.declared.asking.Form.{Form}
-use Rattle.link_state.specs.declared.wish.Command.TheVariants.{Plain}
+use Rattle.link_state.specs.declared.wish.Command as links
+use Rattle.link_state.specs.declared.wish.Command.TheVariants.{Plain, Prepare, Execute}
 use Rattle.client_side.specs.declared.stage.Stage.TheVariants.{Commands}
 use Rattle.client_seat.specs.Answers.{grown, replied}
-use Rattle.client_seat.specs.Requests.{Asked, Says, asked_in}
+use Rattle.client_seat.specs.Requests.{Asked, Runs, Says, asked_in}
 use Rattle.client_seat.specs.Seats.{ended}
 use Rattle.client_seat.specs.Takings.{taken, taken_to}
 use Rattle.client_seat.specs.declared.seat.Seat.{Seat}
 use Rattle.client_desk.specs.Desks.{taken_on}
-use Rattle.client_desk.specs.declared.work.Body.TheVariants.{Packets}
+use Rattle.client_desk.specs.declared.work.Body.TheVariants.{Packets, Run, Away}
 use Rattle.client_desk.specs.declared.work.Work.{Work}
 use Rattle.core_tables.specs.Arrivals.{seated}
 use Rattle.core_tables.specs.Parting.{left_in}
@@ -76,6 +77,38 @@ text_work ordinal hostgroup since_ms multiplex form packets = record {
   sent = false;
 }
 
+-- a statement whose body is to come: a text that it prepares or executes has this key
+abbrev pub bare_work : (ordinal : ℕ) → Hostgroup → (since_ms : ℕ) → (multiplex : Option Bool) → (key : ℕ) → links.Command → Form → Work
+bare_work ordinal hostgroup since_ms multiplex key command form = record {
+  ordinal = ordinal;
+  hostgroup = hostgroup;
+  since_ms = since_ms;
+  anew = true;
+  multiplex = multiplex;
+  key = key;
+  command = command;
+  marks = marks form;
+  form = Some form;
+  body = Away;
+  sent = false;
+}
+
+-- that is packets, or the arguments of an execute
+
+abbrev pub with_packets : Work → (packets : List ℕ) → Work
+with_packets work packets = record work { body = Packets packets }
+
+abbrev pub with_args : Work → Args → Work
+with_args work args = record work { body = Run args }
+
+-- a STMT_PREPARE, and an execute
+
+abbrev pub prepare_work : (ordinal : ℕ) → Hostgroup → (since_ms : ℕ) → (multiplex : Option Bool) → (key : ℕ) → Form → (packets : List ℕ) → Work
+prepare_work ordinal hostgroup since_ms multiplex key form = with_packets (bare_work ordinal hostgroup since_ms multiplex key Prepare form)
+
+abbrev pub run_work : (ordinal : ℕ) → Hostgroup → (since_ms : ℕ) → (multiplex : Option Bool) → (key : ℕ) → Form → Args → Work
+run_work ordinal hostgroup since_ms multiplex key form = with_args (bare_work ordinal hostgroup since_ms multiplex key Execute form)
+
 -- What code asks of a client's row, and says of it.
 
 -- a message came up, past the login
@@ -109,3 +142,18 @@ pub record IsDue (flag : ℕ) (text : Option (List ℕ)) (work : (packets : List
   pub command : Command
   pub asked : asked_of row text ≡ Some (Says command)
   pub taken : IsTaken (goes flag (work (spelling 0 (text_payload command)))) c old new
+
+-- an execute goes to a server: a statement of it is due, which is this one by its arguments
+pub record IsRunAs (flag : ℕ) (work : Args → Work) (old new : Client) : Type 0 where
+  pub key : ℕ
+  pub args : Args
+  pub asked : asked_of old None ≡ Some (Runs key args)
+  pub is : new ≡ goes flag (work args) new.desk.seat.statements old
+
+pub record IsRunDue (flag : ℕ) (work : Args → Work) (c : ClientNo) (old new : Tabled) : Type 0 where
+  pub row : Client
+  pub there : old.clients c ≡ Some row
+  pub key : ℕ
+  pub args : Args
+  pub asked : asked_of row None ≡ Some (Runs key args)
+  pub taken : IsTaken (goes flag (work args)) c old new

@@ -14,7 +14,8 @@ use Rattle.served_link.specs.Writes.{began, next_kind, wrote}
 use Rattle.served_link.specs.declared.row.Opening.{Opening}
 use Rattle.served_link.specs.declared.row.Row.{Row}
 use Rattle.server_side.specs.Account.{Account}
-use Rattle.client_desk.specs.Desks.{sent}
+use Rattle.session_state.specs.declared.names.SessionName.{SessionName}
+use Rattle.client_desk.specs.Desks.{lent, sent}
 use Rattle.client_desk.specs.Works.{outlasts}
 use Rattle.core_tables.specs.Tables.{Tabled, client_changed, link_changed, link_put}
 use Rattle.core_tables.specs.declared.client.Client.{Client}
@@ -28,6 +29,14 @@ lasts _ = false
 -- a statement went out: it is its client's work
 abbrev pub client_sent : Hostgroup → LinkId → (lasting : Bool) → Client → Client
 client_sent h l lasting client = record client { desk = sent h l lasting client.desk }
+
+-- the preparation of its text went out: the link is lent to its session
+
+abbrev pub client_lent : Hostgroup → LinkId → Client → Client
+client_lent h l client = record client { desk = lent h l client.desk }
+
+abbrev pub lent_to : LinkId → SessionName → Tabled → Tabled
+lent_to l name t = client_changed name.client (client_lent name.hostgroup l) t
 
 abbrev pub begun_for : Option Purpose → LinkId → (lasting : Bool) → Tabled → Tabled
 begun_for (Some (purposes.Statement name ordinal key)) l lasting t = client_changed name.client (client_sent name.hostgroup l lasting) t

@@ -7,7 +7,7 @@ ghost use Rattle.session_state.specs.Classes as classes;
 ghost use Rattle.private_model.specs.Story.{is_name};
 ghost use Rattle.link_state.specs.Wants.{is_id};
 ghost use Rattle.client_desk.specs.Desks.{session_of};
-ghost use Rattle.core_tables.specs.Passing.{as_reply, begins_there, goes_on_there, is_blind, is_command, is_joined, is_lent, is_lent_to, is_nobody, is_of, is_own_step, is_ready, is_set_by, is_step_of, is_text_step, may_capture, may_end, may_own, may_state, may_sync, names_schema, passes, passes_for, passes_next, reads_its_own, sends, sends_client, with_session, with_work};
+ghost use Rattle.core_tables.specs.Passing.{as_reply, begins_there, goes_on_there, is_blind, is_command, is_joined, is_lent, is_lent_to, is_nobody, is_of, is_own_step, is_ready, is_set_by, is_step_of, is_text_step, may_capture, may_end, may_own, may_prepare, may_state, may_sync, names_schema, passes, passes_for, passes_next, prep_passes, prepares_first, prepares_there, reads_its_own, sends, sends_client, with_session, with_work};
 ghost use Rattle.core_tables.specs.Tables.{tables_of};
 
 use crate::placing::{is_account, is_placed};
@@ -154,6 +154,28 @@ fn may_state(
         && is_of(name, ordinal, desk, work)
         && (begins_there(row, form, name, desk, work, s)
             || goes_on_there(row, form, name, desk, work, s))
+}
+
+fn prepares_first(row: &Row, name: SessionName, s: Session) -> bool
+    ensures { result ≡ prepares_first row.now name s }
+{
+    let carries = row.link.state.carries;
+    ((is_nobody(carries) && !s.home.is_some()) || is_lent_to(name, carries)) && !is_pinned(s.pin)
+}
+
+fn prepares_there(row: &Row, name: SessionName, s: Session) -> bool
+    ensures { result ≡ prepares_there row.now name s }
+{
+    is_joined(name, row.link.state.carries) && is_pinned(s.pin)
+}
+
+fn may_prepare(row: &Row, name: SessionName, ordinal: u64, desk: &Desk, work: &Work) -> bool
+    ensures { result ≡ may_prepare row.now name ordinal desk.now work.now }
+{
+    let s = desk.session(work.hostgroup);
+    !work.sent
+        && is_of(name, ordinal, desk, work)
+        && (prepares_first(row, name, s) || prepares_there(row, name, s))
 }
 
 fn is_command(code: u8, writing: &Option<Writing>) -> bool
@@ -337,6 +359,21 @@ impl Tables {
         match self.clients.get(&name.client.0) {
             Some(client) => match &client.desk.work {
                 Some(work) => may_state(row, form, name, ordinal, &client.desk, work),
+                None => false,
+            },
+            None => false,
+        }
+    }
+
+    /// Whether the text of a client's statement may be prepared on the link of this row now, where that was told the text's place. Takes no
+    /// memory.
+    #[tactic(auto, unfolding(crate::specs::Tables::tables_of))]
+    pub fn prep_passes(&self, name: SessionName, ordinal: u64, row: &Row) -> bool
+        ensures { result ≡ prep_passes name ordinal row.now (tables_of self.now) }
+    {
+        match self.clients.get(&name.client.0) {
+            Some(client) => match &client.desk.work {
+                Some(work) => may_prepare(row, name, ordinal, &client.desk, work),
                 None => false,
             },
             None => false,

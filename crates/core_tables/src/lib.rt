@@ -11,6 +11,7 @@ mod lending;
 mod noting;
 mod parting;
 mod placing;
+mod preparing;
 mod said;
 mod server;
 mod tables;

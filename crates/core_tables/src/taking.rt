@@ -1,8 +1,8 @@
 // A client's message that came up is taken up.
-ghost use Rattle.std.specs.Prelude.{◌≡◌, true, IfOk, OnOk, Some};
+ghost use Rattle.std.specs.Prelude.{◌≡◌, ℕ, true, IfOk, None, OnOk, Some};
 ghost use Rattle.core_tables.specs.Tables.{tables_of};
-ghost use Rattle.core_tables.specs.Taking.{IsDue, IsSentAs, IsTaken, IsUpAt, IsUpOr, answers, asked_of, passes, text_work};
-ghost use Rattle.client_seat.specs.Requests.{Says};
+ghost use Rattle.core_tables.specs.Taking.{IsDue, IsRunAs, IsRunDue, IsSentAs, IsTaken, IsUpAt, IsUpOr, answers, asked_of, passes, text_work, with_args, with_packets};
+ghost use Rattle.client_seat.specs.Requests.{Runs, Says};
 ghost use Rattle.private_model.specs.Commands as commands;
 ghost use Rattle.std.specs.Option.{option_copied};
 ghost use Rattle.core_tables.specs.declared.client.Client.{Client};
@@ -39,41 +39,50 @@ impl Client {
 }
 
 impl Client {
-    // It goes to a server in this hostgroup, with this text in place of its own, and a statement becomes due. False where it asks for nothing
-    // that is sent as a text.
+    // It goes to a server, with this text in place of its own, and this statement becomes due, with the packets of what is asked for. False
+    // where it asks for nothing that is sent as a text.
     fn send(
         &mut self,
         alloc: Global,
-        ordinal: u64,
         flag: u16,
-        hostgroup: Hostgroup,
         text: Option<&[u8]>,
-        multiplex: Option<bool>,
-        form: Form,
-        since_ms: u64,
+        work: Work,
     ) -> Result<bool, OutOfMemory>
         requires { IsUpAt self.old }
         ensures sent { IfOk result (λ is_due. is_due ≡ true
-            → IsSentAs flag (option_copied text.entry) (text_work ordinal hostgroup since_ms multiplex form) self.old self.new) }
+            → IsSentAs flag (option_copied text.entry) (with_packets work) self.old self.new) }
         ensures due { IfOk result (λ is_due. (command : commands.Command) → asked_of self.old (option_copied text.entry) ≡ Some (Says command)
             → is_due ≡ true) }
     {
-        let marks = form.marks();
+        let hostgroup = work.hostgroup;
         match self.desk.seat.take_to(alloc, hostgroup, flag, text)? {
             Some(Request::Text { packets, .. }) => {
                 self.went = Some(hostgroup);
                 self.desk.due(Work {
-                    ordinal,
-                    hostgroup,
-                    since_ms,
-                    anew: true,
-                    multiplex,
-                    key: 0,
-                    command: Command::Plain,
-                    marks,
-                    form: Some(form),
                     body: Body::Packets(Bytes::from_vec(packets)),
-                    sent: false,
+                    ..work
+                })?;
+                Ok(true)
+            }
+            _ => Ok(false),
+        }
+    }
+
+    // An execute goes to a server, and this statement becomes due, with its arguments. False where it executes nothing.
+    fn run(&mut self, alloc: Global, flag: u16, work: Work) -> Result<bool, OutOfMemory>
+        requires { IsUpAt self.old }
+        ensures runs { IfOk result (λ is_due. is_due ≡ true
+            → IsRunAs flag (with_args work) self.old self.new) }
+        ensures due { IfOk result (λ is_due. (key : ℕ) (args : commands.Args) → asked_of self.old None ≡ Some (Runs key args)
+            → is_due ≡ true) }
+    {
+        let hostgroup = work.hostgroup;
+        match self.desk.seat.take_to(alloc, hostgroup, flag, None)? {
+            Some(Request::Run { args, .. }) => {
+                self.went = Some(hostgroup);
+                self.desk.due(Work {
+                    body: Body::Run(args),
+                    ..work
                 })?;
                 Ok(true)
             }
@@ -126,9 +135,56 @@ impl Tables {
             → IsDue flag (option_copied text.entry) (text_work ordinal hostgroup since_ms multiplex form) client (tables_of self.old) (tables_of self.new)) }
     {
         match self.clients.get_mut(&client.0) {
-            Some(row) => row.send(
-                self.alloc, ordinal, flag, hostgroup, text, multiplex, form, since_ms,
-            ),
+            Some(row) => {
+                let marks = form.marks();
+                let work = Work {
+                    ordinal,
+                    hostgroup,
+                    since_ms,
+                    anew: true,
+                    multiplex,
+                    key: 0,
+                    command: Command::Plain,
+                    marks,
+                    form: Some(form),
+                    body: Body::Away,
+                    sent: false,
+                };
+                row.send(self.alloc, flag, text, work)
+            }
+            None => Ok(false),
+        }
+    }
+
+    /// It goes to a server, with this text in place of its own, and this statement becomes due, with the packets of what is asked for. False
+    /// where it asks for nothing that is sent as a text.
+    #[tactic(auto, unfolding(crate::specs::Tables::tables_of))]
+    pub fn due_as(
+        &mut self,
+        client: ClientNo,
+        flag: u16,
+        text: Option<&[u8]>,
+        work: Work,
+    ) -> Result<bool, OutOfMemory>
+        requires { IsUpOr ((tables_of self.old).clients client) }
+        ensures { IfOk result (λ is_due. is_due ≡ true
+            → IsDue flag (option_copied text.entry) (with_packets work) client (tables_of self.old) (tables_of self.new)) }
+    {
+        match self.clients.get_mut(&client.0) {
+            Some(row) => row.send(self.alloc, flag, text, work),
+            None => Ok(false),
+        }
+    }
+
+    /// An execute goes to a server, and this statement becomes due, with its arguments. False where it executes nothing.
+    #[tactic(auto, unfolding(crate::specs::Tables::tables_of))]
+    pub fn run(&mut self, client: ClientNo, flag: u16, work: Work) -> Result<bool, OutOfMemory>
+        requires { IsUpOr ((tables_of self.old).clients client) }
+        ensures { IfOk result (λ is_due. is_due ≡ true
+            → IsRunDue flag (with_args work) client (tables_of self.old) (tables_of self.new)) }
+    {
+        match self.clients.get_mut(&client.0) {
+            Some(row) => row.run(self.alloc, flag, work),
             None => Ok(false),
         }
     }

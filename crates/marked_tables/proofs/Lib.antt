@@ -6,3 +6,4 @@ pub mod Quiet
 pub mod Questions
 pub mod Calls
 pub mod Rising
+pub mod Prepared

@@ -38,7 +38,7 @@ map_some : {A B : Type 0} → (by : A → B) (x : Option A) → is_some (option_
 map_some by None = refl
 map_some by (Some x) = refl
 
-still_rows : (t : Tabled) → KeepsRows t t
+pub still_rows : (t : Tabled) → KeepsRows t t
 still_rows t = record { rows = λ link. refl }
 
 pub rows_on : (a b c : Tabled) → KeepsRows a b → KeepsRows b c → KeepsRows a c

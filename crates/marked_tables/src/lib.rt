@@ -6,6 +6,7 @@ mod coming;
 mod homes;
 mod links;
 mod marked;
+mod preparing;
 mod reading;
 mod readying;
 mod rows;

@@ -5,14 +5,14 @@ use Rattle.std.proofs.lemmas.Grind.{common_steps}
 use Rattle.packet_frame.specs.Packets.{Framed}
 use Rattle.client_seat.specs.Requests.{IsAsked, asked_in}
 use Rattle.client_seat.specs.declared.request.Request.{Request}
-use Rattle.core_tables.specs.Taking.{found_of, text_work}
+use Rattle.core_tables.specs.Taking.{found_of, with_packets}
 use Rattle.core_tables.proofs.Passing.{packets_of, sent_so}
 use Rattle.core_tables.proofs.client.Client.send.Goals as goal
 
 pub returns-in_ok-due-in-Some-Text-clause-sent : goal.returns-in_ok-due-in-Some-Text-clause-sent
 returns-in_ok-due-in-Some-Text-clause-sent c = λ is.
     sent_so c.args.self.now c.args.flag (option_copied c.args.text)
-    (text_work c.args.ordinal c.args.hostgroup c.args.since_ms c.args.multiplex c.args.form) c.take_to.new.self c.in-Some-Text.field-0
+    (with_packets c.args.work) c.take_to.new.self c.in-Some-Text.field-0
     c.in-Some-Text.packets.items c.requires.found (ap packets_of c.in-Some-Text.field-0-is)
     (subst (λ (r : Option Request). IfSome (found_of c.args.self.now)
     (λ (message : Framed). IsAsked (asked_in c.args.self.now.desk.seat.statements message.payload (option_copied c.args.text)) r))

@@ -1,0 +1,91 @@
+-- What stands next on a link for what is prepared, and what a client has prepared.
+use Rattle.std.specs.Prelude.{◌≡◌, ◌+◌, ℕ, nat_lt, Bool, true, false, List, [], ◌∷◌, Option, Some, None}
+use Rattle.mx_base.specs.declared.names.ClientNo.{ClientNo}
+use Rattle.mx_base.specs.declared.names.LinkId.{LinkId}
+use Rattle.session_state.specs.declared.names.SessionName.{SessionName}
+use Rattle.session_vars.specs.declared.long_part.LongPart.{LongPart}
+use Rattle.stmt_map.specs.Client.{Changes, fresh}
+use Rattle.stmt_map.specs.declared.client.ClientStatements.{ClientStatements}
+use Rattle.stmt_map.specs.declared.statement.Prepared.{Prepared}
+use Rattle.link_state.specs.Spells.{executes}
+use Rattle.link_state.specs.Stood.{number_of}
+use Rattle.link_state.specs.declared.asking.Form.{Form}
+use Rattle.served_link.specs.Begins.{prepares}
+use Rattle.served_link.specs.States.{runs}
+use Rattle.served_link.specs.declared.row.Row.{Row}
+use Rattle.served_link.specs.declared.stating.Stated.{Stated}
+use Rattle.client_desk.specs.Works.{formless}
+use Rattle.client_desk.specs.declared.work.Body.{Body}
+use Rattle.client_desk.specs.declared.work.Body.TheVariants.{Run}
+use Rattle.client_desk.specs.declared.work.Work.{Work}
+use Rattle.client_seat.specs.declared.seat.Seat.{Seat}
+use Rattle.core_tables.specs.Arrivals.{seated}
+use Rattle.core_tables.specs.Beginning.{stated_of, with_row, with_work}
+use Rattle.core_tables.specs.Tables.{IsSame, Tabled, client_put, link_changed}
+use Rattle.core_tables.specs.declared.client.Client.{Client}
+use Rattle.core_tables.specs.declared.server.Server.{Server}
+
+-- The text of a client's execute is prepared on the way to it.
+
+abbrev pub prep_by : LinkId → SessionName → (text : List ℕ) → Option Work → Tabled → Tabled
+prep_by l name text None t = t
+prep_by l name text (Some work) t = link_changed l (with_row (prepares name work.ordinal work.key text)) t
+
+abbrev pub prep_for : LinkId → SessionName → (text : List ℕ) → Option Client → Tabled → Tabled
+prep_for l name text None t = t
+prep_for l name text (Some client) t = prep_by l name text client.desk.work t
+
+abbrev pub prep_begun : LinkId → SessionName → (text : List ℕ) → Tabled → Tabled
+prep_begun l name text t = prep_for l name text (t.clients name.client) t
+
+-- The execute: its form goes to the link, where its text is prepared, and its arguments are spelt there; they stay at the desk too.
+
+abbrev pub has_parts : List LongPart → Bool
+has_parts [] = false
+has_parts (part ∷ parts) = true
+
+abbrev pub run_stands : Stated → (there : ℕ) → Option Form → Body → Row → Row
+run_stands s there (Some form) (Run args) row =
+    runs s form there (executes there args.nulls args.types args.values args.long) (has_parts args.long) row
+run_stands s there _ _ row = row
+
+abbrev pub run_at : LinkId → SessionName → Client → Work → (there : Option ℕ) → Tabled → Tabled
+run_at l name client work None t = t
+run_at l name client work (Some there) t =
+    link_changed l (with_row (run_stands (stated_of client.desk name work) there work.form work.body))
+    (client_put name.client (Some (with_work (Some (formless work)) client)) t)
+
+abbrev pub run_by : LinkId → SessionName → Server → Client → Option Work → Tabled → Tabled
+run_by l name server client None t = t
+run_by l name server client (Some work) t = run_at l name client work (number_of server.row.link.state.live work.key) t
+
+abbrev pub run_for : LinkId → SessionName → Option Server → Option Client → Tabled → Tabled
+run_for l name (Some server) (Some client) t = run_by l name server client client.desk.work t
+run_for l name _ _ t = t
+
+abbrev pub run_begun : LinkId → SessionName → Tabled → Tabled
+run_begun l name t = run_for l name (t.links l) (t.clients name.client) t
+
+-- A client's text was prepared: it is kept under the number behind the last one, where there is such a number.
+
+abbrev pub IsKeptBy : (is_next : Bool) → Prepared → (old new : ClientStatements) → Type 0
+IsKeptBy true prepared old new = (new.last ≡ old.last + 1) × Changes old new (old.last + 1) (Some (fresh prepared))
+IsKeptBy false prepared old new = new ≡ old
+
+abbrev pub IsKeptIn : Prepared → (old new : ClientStatements) → Type 0
+IsKeptIn prepared old new = IsKeptBy (nat_lt old.last 4294967295) prepared old new
+
+abbrev pub with_statements : ClientStatements → Seat → Seat
+with_statements statements seat = record seat { statements = statements }
+
+pub record IsKeptAt (prepared : Prepared) (c : ClientNo) (row : Client) (old new : Tabled) : Type 0 where
+  pub statements : ClientStatements
+  pub kept : IsKeptIn prepared row.desk.seat.statements statements
+  pub same : IsSame new (client_put c (Some (seated (with_statements statements) row)) old)
+
+abbrev pub IsKeptOf : Prepared → ClientNo → Option Client → (old new : Tabled) → Type 0
+IsKeptOf prepared c None old new = IsSame new old
+IsKeptOf prepared c (Some row) old new = IsKeptAt prepared c row old new
+
+abbrev pub IsKept : Prepared → ClientNo → (old new : Tabled) → Type 0
+IsKept prepared c old new = IsKeptOf prepared c (old.clients c) old new

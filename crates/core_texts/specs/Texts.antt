@@ -1,0 +1,30 @@
+-- Texts by their numbers, which count from 1 and are never given again.
+use Rattle.std.specs.Prelude.{◌≡◌, ◌⊎◌, ◌<◌, ◌≤◌, ℕ, nat_eq, Option, Some}
+use Rattle.std.specs.HashMap.{get}
+use Rattle.std.specs.Option.{option_map}
+use Rattle.private_model.specs.Story.{Key}
+use Rattle.core_texts.specs.Holding.{Holding}
+use Rattle.core_texts.specs.declared.texts.Texts.{Texts}
+
+abbrev pub holding_at : Texts → (number : ℕ) → Option Holding
+holding_at t number = get nat_eq t.kept number
+
+-- what stands under a number
+abbrev pub key_at : Texts → (number : ℕ) → Option Key
+key_at t number = option_map (λ (h : Holding). h.key) (holding_at t number)
+
+-- no number is greater than the last
+abbrev pub AreCounted : Texts → Type 0
+AreCounted t = (number : ℕ) (key : Key) → key_at t number ≡ Some key → number ≤ t.last
+
+-- What stood under a number stands there; and what came has a number that none had.
+pub record AreMore (old new : Texts) : Type 0 where
+  pub last : old.last ≤ new.last
+  pub kept : (number : ℕ) (key : Key) → key_at old number ≡ Some key → key_at new number ≡ Some key
+  pub fresh : (number : ℕ) (key : Key) → key_at new number ≡ Some key
+      → (key_at old number ≡ Some key) ⊎ ((old.last < number) × (number ≤ new.last))
+
+-- What stands under a number stood there.
+pub record AreLess (old new : Texts) : Type 0 where
+  pub last : new.last ≡ old.last
+  pub there : (number : ℕ) (key : Key) → key_at new number ≡ Some key → key_at old number ≡ Some key

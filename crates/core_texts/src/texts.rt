@@ -1,0 +1,208 @@
+// The texts that clients prepared.
+ghost use Rattle.std.specs.Prelude.{◌≡◌, ◌+◌, ◌<◌, ◌^◌, ℕ, false, true, nat_eq, IfOk, IfSome, None, OnOk, Some};
+ghost use Rattle.std.specs.Option.{option_copied};
+ghost use Rattle.pin_classifier.specs.Classes.{class_of};
+ghost use Rattle.core_texts.specs.Texts.{AreCounted, AreLess, AreMore, holding_at, key_at};
+
+use crate::kept::Kept;
+use mx_base::{Bytes, OutOfMemory};
+use pin_classifier::Class;
+use place_keys::{place_key, places_apart};
+use session_state::Place;
+use session_vars::Slot;
+use std::alloc::Global;
+use std::collections::HashMap;
+
+/// Texts by their numbers, and their numbers by what they are.
+#[derive(Drop)]
+pub struct Texts {
+    alloc: Global,
+    pub last: u64,
+    pub kept: HashMap<u64, Kept>,
+    numbers: HashMap<Bytes, u64>,
+}
+
+fn copy_of(alloc: Global, place: &Place) -> Result<Place, OutOfMemory>
+    ensures { IfOk result (λ copy. copy ≡ place.now) }
+{
+    Ok(Place {
+        schema: Bytes::from_slice(alloc, place.schema.as_slice())?,
+        settings: place.settings.copy()?,
+    })
+}
+
+// The bytes that a text goes by: those of its place, and itself.
+fn statement_key(alloc: Global, place: &Place, text: &[u8]) -> Result<Bytes, OutOfMemory> {
+    let place = place_key(alloc, place.schema.as_slice(), &place.settings)?;
+    let mut key = Vec::from_slice(alloc, place.as_slice())?;
+    key.extend_from_slice(text)?;
+    Ok(Bytes::from_vec(key))
+}
+
+// The same place.
+fn is_place(alloc: Global, a: &Place, b: &Place) -> Result<bool, OutOfMemory>
+    ensures { IfOk result (λ same. same ≡ true → a.now ≡ b.now) }
+{
+    places_apart();
+    let _first = a.settings.value(Slot::Names);
+    let _other = b.settings.value(Slot::Names);
+    let one = place_key(alloc, a.schema.as_slice(), &a.settings)?;
+    let other = place_key(alloc, b.schema.as_slice(), &b.settings)?;
+    Ok(one.as_slice() == other.as_slice())
+}
+
+impl Kept {
+    // It is this text, of this place.
+    fn is(&self, alloc: Global, place: &Place, text: &[u8]) -> Result<bool, OutOfMemory>
+        ensures { IfOk result (λ is. is ≡ true → self.now.key ≡ record { text = text.now; place = place.now }) }
+    {
+        if self.text() == text {
+            is_place(alloc, self.place(), place)
+        } else {
+            Ok(false)
+        }
+    }
+}
+
+impl Texts {
+    /// None yet. Takes no memory.
+    pub fn new(alloc: Global) -> Self
+        ensures last { result.last ≡ 0 }
+        ensures none { (number : ℕ) → key_at result number ≡ None }
+    {
+        Texts {
+            alloc,
+            last: 0,
+            kept: HashMap::new(alloc),
+            numbers: HashMap::new(alloc),
+        }
+    }
+
+    /// What stands under a number.
+    pub fn find(&self, number: u64) -> Option<&Kept>
+        ensures { option_copied result ≡ holding_at self.now number }
+    {
+        self.kept.get(&number)
+    }
+
+    // Under a number stands this text, of this place.
+    fn is_there(&self, number: u64, place: &Place, text: &[u8]) -> Result<bool, OutOfMemory>
+        ensures { IfOk result (λ is. is ≡ true → key_at self.now number ≡ Some (record { text = text.now; place = place.now })) }
+    {
+        match self.kept.get(&number) {
+            Some(kept) => kept.is(self.alloc, place, text),
+            None => Ok(false),
+        }
+    }
+
+    // The number of a text that is there already.
+    fn number_of(
+        &self,
+        bytes: &Bytes,
+        place: &Place,
+        text: &[u8],
+    ) -> Result<Option<u64>, OutOfMemory>
+        ensures { IfOk result (λ found. IfSome found (λ number. key_at self.now number ≡ Some (record { text = text.now; place = place.now }))) }
+    {
+        let Some(number) = self.numbers.get(bytes).copied() else {
+            return Ok(None);
+        };
+        if self.is_there(number, place, text)? {
+            Ok(Some(number))
+        } else {
+            Ok(None)
+        }
+    }
+
+    // The next number is given to a text.
+    fn add(
+        &mut self,
+        bytes: Bytes,
+        place: &Place,
+        text: &[u8],
+        class: Class,
+    ) -> Result<u64, OutOfMemory>
+        requires class { class ≡ class_of text.now }
+        requires room { self.old.last + 1 < 2 ^ 64 }
+        ensures there { IfOk result (λ number. key_at self.new number ≡ Some (record { text = text.now; place = place.now })) }
+        ensures number { IfOk result (λ number. number ≡ self.old.last + 1) }
+        ensures last { IfOk result (λ number. self.new.last ≡ number) }
+        ensures others { IfOk result (λ number. (other : ℕ) → nat_eq number other ≡ false → holding_at self.new other ≡ holding_at self.old other) }
+    {
+        let number = self.last + 1;
+        let text = Bytes::from_slice(self.alloc, text)?;
+        let kept = Kept::new(text, copy_of(self.alloc, place)?, class);
+        self.kept.insert(number, kept)?;
+        self.numbers.insert(bytes, number)?;
+        self.last = number;
+        Ok(number)
+    }
+
+    /// The number of a text that is needed once more, which was prepared at this place and has this class. One that nobody needed yet gets
+    /// the next number. Numbers of 64 bits don't run out in a life.
+    #[tactic(auto, using(crate::proofs::Keeping::same_more, crate::proofs::Keeping::same_counted, crate::proofs::Keeping::added_more, crate::proofs::Keeping::added_counted))]
+    pub fn take(&mut self, place: &Place, text: &[u8], class: Class) -> Result<u64, OutOfMemory>
+        requires class { class ≡ class_of text.now }
+        requires counted { AreCounted self.old }
+        ensures there { IfOk result (λ number. key_at self.new number ≡ Some (record { text = text.now; place = place.now })) }
+        ensures more { OnOk result (AreMore self.old self.new) }
+        ensures counted { OnOk result (AreCounted self.new) }
+    {
+        let bytes = statement_key(self.alloc, place, text)?;
+        if let Some(number) = self.number_of(&bytes, place, text)? {
+            self.hold(number);
+            return Ok(number);
+        }
+        if self.last == u64::MAX {
+            return Err(OutOfMemory);
+        }
+        self.add(bytes, place, text, class)
+    }
+
+    /// What stands under a number is needed once more. Takes no memory.
+    pub fn hold(&mut self, number: u64)
+        ensures same { (n : ℕ) → key_at self.new n ≡ key_at self.old n }
+        ensures last { self.new.last ≡ self.old.last }
+    {
+        if let Some(kept) = self.kept.get_mut(&number) {
+            kept.hold();
+        }
+    }
+
+    // What stands under a number is needed once less; whether nobody needs it.
+    fn leave_one(&mut self, number: u64) -> bool
+        ensures same { (n : ℕ) → key_at self.new n ≡ key_at self.old n }
+        ensures last { self.new.last ≡ self.old.last }
+    {
+        match self.kept.get_mut(&number) {
+            Some(kept) => kept.leave(),
+            None => false,
+        }
+    }
+
+    // It is forgotten.
+    #[tactic(auto, using(crate::proofs::Keeping::gone_less, crate::proofs::Keeping::itself_less))]
+    fn forget(&mut self, number: u64) -> Result<(), OutOfMemory>
+        ensures { OnOk result (AreLess self.old self.new) }
+    {
+        let Some(kept) = self.kept.get(&number) else {
+            return Ok(());
+        };
+        let bytes = statement_key(self.alloc, kept.place(), kept.text())?;
+        let _ = self.numbers.remove(&bytes);
+        let _ = self.kept.remove(&number);
+        Ok(())
+    }
+
+    /// What stands under a number is needed once less. Behind the last who needs it, it is forgotten.
+    #[tactic(auto, using(crate::proofs::Keeping::same_less, crate::proofs::Keeping::less_on))]
+    pub fn leave(&mut self, number: u64) -> Result<(), OutOfMemory>
+        ensures { OnOk result (AreLess self.old self.new) }
+    {
+        if self.leave_one(number) {
+            self.forget(number)
+        } else {
+            Ok(())
+        }
+    }
+}
