@@ -30,7 +30,7 @@ use Rattle.router_promises.specs.Router.{Router, service_of}
 use Rattle.router_promises.specs.Terms.{AreWhoTheySay, IsWhoItSays, Terms, plan_in, setup_in}
 use Rattle.own_words.specs.Own.{SpeaksOwn}
 use Rattle.core_promises.specs.Sessions.{KeepsApart, Separates}
-use Rattle.core_promises.specs.Judges.{JudgesBy, JudgesSo}
+use Rattle.core_promises.specs.Judges.{JudgesBy, JudgesSo, rulebook_of}
 use Rattle.core_promises.specs.Waits.{AreDoneBy}
 use Rattle.core_promises.proofs.Verdicts.{asks-by}
 use Rattle.core_promises.proofs.Past.{lawful_at}
@@ -73,7 +73,7 @@ single_by routes single m route is = by (routes m) refl is where
 module _ (router : Router) (log : Log) (t : Tabled) (roomy : ClientNo → Bool)
     (core : IsCore (service_of router) router.proxy.default_schema log t roomy) (classes : AreClasses router.reads)
     (single : (m : MessageName) (route : Route) → core.decided.routes m ≡ Some (Some route) → route.mirror ≡ None)
-    (judges : JudgesBy router.rules router.proxy.default_schema core.decided log) (speaks : SpeaksOwn router.rules (plan_of core.decided))
+    (judges : JudgesBy (rulebook_of router) router.proxy.default_schema core.decided log) (speaks : SpeaksOwn router.rules (plan_of core.decided))
     (waited : AreDoneBy router.proxy.default_schema core.decided log)
     (fits : AllLawful FitsLog log) where
   abbrev plan : Plan

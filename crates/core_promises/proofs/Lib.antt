@@ -6,3 +6,5 @@ pub mod Apart
 pub mod Done
 pub mod Texts
 pub mod Verdicts
+pub mod Homing
+pub mod Refusing

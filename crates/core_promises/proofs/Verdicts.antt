@@ -18,64 +18,68 @@ use Rattle.server_rule.specs.Classes.{router_reads}
 use Rattle.session_state.specs.Pins.{reads_own}
 use Rattle.session_state.specs.declared.pin.Pin.{Pin}
 use Rattle.private_model.specs.Names.{ClientNo}
+use Rattle.private_model.specs.View.{Setup}
 use Rattle.log_story.specs.Plan.{Plan, Route, com_execute, com_field_list, com_init_db, com_long_data, com_prepare, com_query, com_reset, com_statement_reset}
 use Rattle.log_story.specs.Tale.{Client}
 use Rattle.router_promises.proofs.Refusals.{never}
 use Rattle.router_promises.specs.Errors as error
 use Rattle.router_promises.specs.Statements.{com_close}
-use Rattle.router_promises.specs.Terms.{Terms, plan_in, tale_at}
+use Rattle.router_promises.specs.Terms.{Terms, plan_in, setup_in, tale_at}
 use Rattle.router_promises.specs.Verdicts.{Goes, Parts, Tells, Verdict, Wanted, com_fetch, com_ping, com_quit, is_connection_id, plain_route}
 use Rattle.message_judge.specs.Judging as judging
 use Rattle.message_judge.proofs.Commands.{split}
 use Rattle.core_promises.specs.Asks.{AsksOwnOf, AsksSo, IsRewritten, IsTextOf}
-use Rattle.core_promises.specs.Judges.{AreJudged, IsVerdictFor, JudgesSo, Knowledge, goes_by, verdict_on}
+use Rattle.core_promises.specs.Judges.{AreJudged, IsVerdictFor, JudgesSo, Knowledge, Rulebook, goes_by, rulebook_of, verdict_on}
 use Rattle.core_promises.specs.Wrong.{is_for_servers}
 
 -- What goes to a server is a query, as a text that isn't refused, and that no rule answers; or the choice of a schema, or the question for a table's columns.
 
-pub record IsPassed (rules : List Rule) (payload text : List ℕ) : Type 0 where
+pub record IsPassed (rules : List Rule) (user payload text : List ℕ) : Type 0 where
   pub asks : nat_eq (slice_index_or payload 0 0) com_query ≡ true
   pub made : IsRewritten rules payload text
+  pub login : made.ask.user ≡ user
   pub free : (class_of text).refusal ≡ None
   pub flag : is_first_flag rules made.ask.flag ≡ true
   pub unstopped : (route_of rules made.ask).stop ≡ None
 
-abbrev pub GoesSo : List Rule → (payload : List ℕ) → Option (List ℕ) → Type 0
-GoesSo rules payload None = (nat_eq (slice_index_or payload 0 0) com_init_db || nat_eq (slice_index_or payload 0 0) com_field_list) ≡ true
-GoesSo rules payload (Some text) = IsPassed rules payload text
+abbrev pub GoesSo : List Rule → (user payload : List ℕ) → Option (List ℕ) → Type 0
+GoesSo rules user payload None = (nat_eq (slice_index_or payload 0 0) com_init_db || nat_eq (slice_index_or payload 0 0) com_field_list) ≡ true
+GoesSo rules user payload (Some text) = IsPassed rules user payload text
 
-abbrev pub IsSo : List Rule → (payload : List ℕ) → Verdict → Type 0
-IsSo rules payload (Goes wanted) = GoesSo rules payload wanted.route.text
-IsSo rules payload _ = Unit {0}
+abbrev pub IsSo : List Rule → (user payload : List ℕ) → Verdict → Type 0
+IsSo rules user payload (Goes wanted) = GoesSo rules user payload wanted.route.text
+IsSo rules user payload _ = Unit {0}
 
-abbrev IsDraft : List Rule → (payload : List ℕ) → judging.Draft → Type 0
-IsDraft rules payload (judging.Sends class wanted) = GoesSo rules payload wanted.route.text
-IsDraft rules payload _ = Unit {0}
+abbrev IsDraft : List Rule → (user payload : List ℕ) → judging.Draft → Type 0
+IsDraft rules user payload (judging.Sends class wanted) = GoesSo rules user payload wanted.route.text
+IsDraft rules user payload _ = Unit {0}
 
 -- A query that goes to no server is answered by an error, by a rule's OK, or by more than one payload.
 
-pub record IsByRule (rules : List Rule) (text payload : List ℕ) : Type 0 where
+pub record IsByRule (rules : List Rule) (user text payload : List ℕ) : Type 0 where
   pub ask : Ask
   pub own : ask.text ≡ text
+  pub login : ask.user ≡ user
+  pub flag : is_first_flag rules ask.flag ≡ true
   pub said : List ℕ
   pub stops : (route_of rules ask).stop ≡ Some (stop.Ok said)
   pub status : ℕ
   pub is : payload ≡ ok_payload status said
 
-abbrev pub AnswersSo : List Rule → (text : List ℕ) → (payloads : List (List ℕ)) → Type 0
-AnswersSo rules text [] = ⊥
-AnswersSo rules text (payload ∷ []) = (slice_index_or payload 0 0 ≡ 255) ⊎ IsByRule rules text payload
-AnswersSo rules text (payload ∷ other ∷ payloads) = Unit {0}
+abbrev pub AnswersSo : List Rule → (user text : List ℕ) → (payloads : List (List ℕ)) → Type 0
+AnswersSo rules user text [] = ⊥
+AnswersSo rules user text (payload ∷ []) = (slice_index_or payload 0 0 ≡ 255) ⊎ IsByRule rules user text payload
+AnswersSo rules user text (payload ∷ other ∷ payloads) = Unit {0}
 
-abbrev pub IsToldSo : List Rule → (text : List ℕ) → Verdict → Type 0
-IsToldSo rules text Parts = ⊥
-IsToldSo rules text (Tells payloads) = AnswersSo rules text payloads
-IsToldSo rules text (Goes wanted) = Unit {0}
+abbrev pub IsToldSo : List Rule → (user text : List ℕ) → Verdict → Type 0
+IsToldSo rules user text Parts = ⊥
+IsToldSo rules user text (Tells payloads) = AnswersSo rules user text payloads
+IsToldSo rules user text (Goes wanted) = Unit {0}
 
-abbrev IsToldDraft : List Rule → (text : List ℕ) → judging.Draft → Type 0
-IsToldDraft rules text judging.Ends = ⊥
-IsToldDraft rules text (judging.Answers payloads) = AnswersSo rules text payloads
-IsToldDraft rules text (judging.Sends class wanted) = Unit {0}
+abbrev IsToldDraft : List Rule → (user text : List ℕ) → judging.Draft → Type 0
+IsToldDraft rules user text judging.Ends = ⊥
+IsToldDraft rules user text (judging.Answers payloads) = AnswersSo rules user text payloads
+IsToldDraft rules user text (judging.Sends class wanted) = Unit {0}
 
 pub record IsPlainOk (payloads : List (List ℕ)) : Type 0 where
   pub status : ℕ
@@ -97,39 +101,42 @@ sent-refusing true wanted = tt
 sent-refusing false wanted = refl
 
 module _ (rules : List Rule) (known : Knowledge) (flagged : is_first_flag rules known.caller.flag ≡ true) where
+  abbrev user : List ℕ
+  user = known.caller.user
+
   -- of a draft, as it is admitted
 
-  sent : (payload : List ℕ) (there : Bool) (wanted : Wanted) → GoesSo rules payload wanted.route.text → IsSo rules payload (judging.sent_unless there wanted)
+  sent : (payload : List ℕ) (there : Bool) (wanted : Wanted) → GoesSo rules user payload wanted.route.text → IsSo rules user payload (judging.sent_unless there wanted)
   sent payload true wanted so = so
   sent payload false wanted so = tt
 
-  admitted : (payload : List ℕ) (class : Option Class) (pin : Pin) (there : Bool) (wanted : Wanted) → GoesSo rules payload wanted.route.text
-      → IsSo rules payload (judging.admitted class pin there wanted)
+  admitted : (payload : List ℕ) (class : Option Class) (pin : Pin) (there : Bool) (wanted : Wanted) → GoesSo rules user payload wanted.route.text
+      → IsSo rules user payload (judging.admitted class pin there wanted)
   admitted payload None pin there wanted so = sent payload there wanted so
   admitted payload (Some class) pin there wanted so = by (reads_own class pin) where
-    by : (own : Bool) → IsSo rules payload (if own then judging.sent_unless there wanted else Tells (error.diagnostics_gone ∷ []))
+    by : (own : Bool) → IsSo rules user payload (if own then judging.sent_unless there wanted else Tells (error.diagnostics_gone ∷ []))
     by true = sent payload there wanted so
     by false = tt
 
-  drafted : (payload : List ℕ) (draft : judging.Draft) → IsDraft rules payload draft → IsSo rules payload (judging.verdict_by known.pins known.is_there draft)
+  drafted : (payload : List ℕ) (draft : judging.Draft) → IsDraft rules user payload draft → IsSo rules user payload (judging.verdict_by known.pins known.is_there draft)
   drafted payload judging.Ends so = tt
   drafted payload (judging.Answers payloads) so = tt
   drafted payload (judging.Sends class wanted) so = admitted payload class _ _ wanted so
 
-  sent-told : (text : List ℕ) (there : Bool) (wanted : Wanted) → IsToldSo rules text (judging.sent_unless there wanted)
+  sent-told : (text : List ℕ) (there : Bool) (wanted : Wanted) → IsToldSo rules user text (judging.sent_unless there wanted)
   unfolding error.no_server_in
   sent-told text true wanted = tt
   sent-told text false wanted = inl refl
 
-  admitted-told : (text : List ℕ) (class : Option Class) (pin : Pin) (there : Bool) (wanted : Wanted) → IsToldSo rules text (judging.admitted class pin there wanted)
+  admitted-told : (text : List ℕ) (class : Option Class) (pin : Pin) (there : Bool) (wanted : Wanted) → IsToldSo rules user text (judging.admitted class pin there wanted)
   unfolding error.diagnostics_gone
   admitted-told text None pin there wanted = sent-told text there wanted
   admitted-told text (Some class) pin there wanted = by (reads_own class pin) where
-    by : (own : Bool) → IsToldSo rules text (if own then judging.sent_unless there wanted else Tells (error.diagnostics_gone ∷ []))
+    by : (own : Bool) → IsToldSo rules user text (if own then judging.sent_unless there wanted else Tells (error.diagnostics_gone ∷ []))
     by true = sent-told text there wanted
     by false = inl refl
 
-  drafted-told : (text : List ℕ) (draft : judging.Draft) → IsToldDraft rules text draft → IsToldSo rules text (judging.verdict_by known.pins known.is_there draft)
+  drafted-told : (text : List ℕ) (draft : judging.Draft) → IsToldDraft rules user text draft → IsToldSo rules user text (judging.verdict_by known.pins known.is_there draft)
   drafted-told text judging.Ends so = so
   drafted-told text (judging.Answers payloads) so = so
   drafted-told text (judging.Sends class wanted) so = admitted-told text class _ _ wanted
@@ -137,38 +144,38 @@ module _ (rules : List Rule) (known : Knowledge) (flagged : is_first_flag rules 
   -- a query, by the class of its text and by the rules
 
   classed : (rest text : List ℕ) (why : Option Refusal) (wanted : Wanted) → (class_of text).refusal ≡ why → wanted.route.text ≡ Some text
-      → (made : IsRewritten rules (com_query ∷ rest) text) → is_first_flag rules made.ask.flag ≡ true → (route_of rules made.ask).stop ≡ None
-      → IsDraft rules (com_query ∷ rest) (judging.by_class (class_of text) why wanted)
-  classed rest text (Some refusal.SetsServer) wanted free is made flag unstopped = tt
-  classed rest text (Some refusal.NamesConnection) wanted free is made flag unstopped = tt
-  classed rest text (Some refusal.ReadsLast) wanted free is made flag unstopped = tt
-  classed rest text None wanted free is made flag unstopped = by (is_connection_id (class_of text).shape) where
-    by : (asks : Bool) → IsDraft rules (com_query ∷ rest) (if asks then judging.answers_one error.names_connection else judging.Sends (Some (class_of text)) wanted)
+      → (made : IsRewritten rules (com_query ∷ rest) text) → made.ask.user ≡ user → is_first_flag rules made.ask.flag ≡ true → (route_of rules made.ask).stop ≡ None
+      → IsDraft rules user (com_query ∷ rest) (judging.by_class (class_of text) why wanted)
+  classed rest text (Some refusal.SetsServer) wanted free is made login flag unstopped = tt
+  classed rest text (Some refusal.NamesConnection) wanted free is made login flag unstopped = tt
+  classed rest text (Some refusal.ReadsLast) wanted free is made login flag unstopped = tt
+  classed rest text None wanted free is made login flag unstopped = by (is_connection_id (class_of text).shape) where
+    by : (asks : Bool) → IsDraft rules user (com_query ∷ rest) (if asks then judging.answers_one error.names_connection else judging.Sends (Some (class_of text)) wanted)
     by true = tt
-    by false = subst (GoesSo rules (com_query ∷ rest)) (sym is) (record { asks = refl; made = made; free = free; flag = flag; unstopped = unstopped })
+    by false = subst (GoesSo rules user (com_query ∷ rest)) (sym is) (record { asks = refl; made = made; login = login; free = free; flag = flag; unstopped = unstopped })
 
-  ruled : (ask : Ask) (why : Option Stop) → is_first_flag rules ask.flag ≡ true → (route_of rules ask).stop ≡ why
-      → IsDraft rules (com_query ∷ ask.text) (judging.ruled router_reads known.caller known.standing (route_of rules ask) None why)
+  ruled : (ask : Ask) (why : Option Stop) → ask.user ≡ user → is_first_flag rules ask.flag ≡ true → (route_of rules ask).stop ≡ why
+      → IsDraft rules user (com_query ∷ ask.text) (judging.ruled router_reads known.caller known.standing (route_of rules ask) None why)
   unfolding router_reads
-  ruled ask None flag is =
-      classed ask.text (route_of rules ask).text (class_of (route_of rules ask).text).refusal _ refl refl (record { ask = ask; own = refl; is = refl }) flag is
-  ruled ask (Some (stop.Error text)) flag is = tt
-  ruled ask (Some (stop.Ok text)) flag is = tt
+  ruled ask None login flag is =
+      classed ask.text (route_of rules ask).text (class_of (route_of rules ask).text).refusal _ refl refl (record { ask = ask; own = refl; is = refl }) login flag is
+  ruled ask (Some (stop.Error text)) login flag is = tt
+  ruled ask (Some (stop.Ok text)) login flag is = tt
 
-  classed-told : (text : List ℕ) (class : Class) (why : Option Refusal) (wanted : Wanted) → IsToldDraft rules text (judging.by_class class why wanted)
+  classed-told : (text : List ℕ) (class : Class) (why : Option Refusal) (wanted : Wanted) → IsToldDraft rules user text (judging.by_class class why wanted)
   unfolding error.sets_server error.names_connection error.diagnostics_gone
   classed-told text class (Some refusal.SetsServer) wanted = inl refl
   classed-told text class (Some refusal.NamesConnection) wanted = inl refl
   classed-told text class (Some refusal.ReadsLast) wanted = inl refl
   classed-told text class None wanted = by (is_connection_id class.shape) where
-    by : (asks : Bool) → IsToldDraft rules text (if asks then judging.answers_one error.names_connection else judging.Sends (Some class) wanted)
+    by : (asks : Bool) → IsToldDraft rules user text (if asks then judging.answers_one error.names_connection else judging.Sends (Some class) wanted)
     by true = inl refl
     by false = tt
 
-  ruled-told : (ask : Ask) (why : Option Stop) → (route_of rules ask).stop ≡ why
-      → IsToldDraft rules ask.text (judging.ruled router_reads known.caller known.standing (route_of rules ask) None why)
+  ruled-told : (ask : Ask) (why : Option Stop) → ask.user ≡ user → is_first_flag rules ask.flag ≡ true → (route_of rules ask).stop ≡ why
+      → IsToldDraft rules user ask.text (judging.ruled router_reads known.caller known.standing (route_of rules ask) None why)
   unfolding error.refused_by_rule
-  ruled-told ask None is =
+  ruled-told ask None login flag is =
       let class : Class = router_reads.class (route_of rules ask).text in
       let wanted : Wanted = record {
         route = record (plain_route (judging.hostgroup_for known.caller known.standing class (route_of rules ask).hostgroup)) {
@@ -178,8 +185,18 @@ module _ (rules : List Rule) (known : Knowledge) (flagged : is_first_flag rules 
         key = None;
       } in
       classed-told ask.text class class.refusal wanted
-  ruled-told ask (Some (stop.Error text)) is = inl refl
-  ruled-told ask (Some (stop.Ok text)) is = inr (record { ask = ask; own = refl; said = text; stops = is; status = judging.own_status known.caller known.standing; is = refl })
+  ruled-told ask (Some (stop.Error text)) login flag is = inl refl
+  ruled-told ask (Some (stop.Ok text)) login flag is =
+      inr (record {
+        ask = ask;
+        own = refl;
+        login = login;
+        flag = flag;
+        said = text;
+        stops = is;
+        status = judging.own_status known.caller known.standing;
+        is = refl;
+      })
 
   module _ (text : List ℕ) where
     abbrev ask : Ask
@@ -190,21 +207,21 @@ module _ (rules : List Rule) (known : Knowledge) (flagged : is_first_flag rules 
         if asks then judging.still known.caller (judging.connection_id known.caller known.standing)
         else judging.by_pass router_reads known.caller known.standing (judging.pass_of rules known.caller text) None
 
-    asked : IsDraft rules (com_query ∷ text) (judging.asks router_reads rules known.caller known.standing text).draft
+    asked : IsDraft rules user (com_query ∷ text) (judging.asks router_reads rules known.caller known.standing text).draft
     asked = by (is_connection_id (router_reads.class text).shape) where
-      by : (asks : Bool) → IsDraft rules (com_query ∷ text) (asked_by asks).draft
+      by : (asks : Bool) → IsDraft rules user (com_query ∷ text) (asked_by asks).draft
       by true = tt
-      by false = ruled ask (route_of rules ask).stop flagged refl
+      by false = ruled ask (route_of rules ask).stop refl flagged refl
 
-    asked-told : IsToldDraft rules text (judging.asks router_reads rules known.caller known.standing text).draft
+    asked-told : IsToldDraft rules user text (judging.asks router_reads rules known.caller known.standing text).draft
     asked-told = by (is_connection_id (router_reads.class text).shape) where
-      by : (asks : Bool) → IsToldDraft rules text (asked_by asks).draft
+      by : (asks : Bool) → IsToldDraft rules user text (asked_by asks).draft
       by true = tt
-      by false = ruled-told ask (route_of rules ask).stop refl
+      by false = ruled-told ask (route_of rules ask).stop refl flagged refl
 
   -- of any message
 
-  judged-so : (payload : List ℕ) → IsSo rules payload (verdict_on rules known payload)
+  judged-so : (payload : List ℕ) → IsSo rules user payload (verdict_on rules known payload)
   judged-so [] = tt
   judged-so (byte ∷ rest) =
       split byte com_query (λ is. moved is (drafted (com_query ∷ rest) _ (asked rest)))
@@ -221,10 +238,10 @@ module _ (rules : List Rule) (known : Knowledge) (flagged : is_first_flag rules 
       (λ fetch. split byte com_reset (λ is. moved is tt)
       (λ reset. rw (query, init, fields, quit, ping, prepare, execute, long, close, resets, fetch, reset) tt))))))))))))
     where
-      moved : {k : ℕ} → byte ≡ k → IsSo rules (k ∷ rest) (verdict_on rules known (k ∷ rest)) → IsSo rules (byte ∷ rest) (verdict_on rules known (byte ∷ rest))
-      moved is so = subst (λ b. IsSo rules (b ∷ rest) (verdict_on rules known (b ∷ rest))) (sym is) so
+      moved : {k : ℕ} → byte ≡ k → IsSo rules user (k ∷ rest) (verdict_on rules known (k ∷ rest)) → IsSo rules user (byte ∷ rest) (verdict_on rules known (byte ∷ rest))
+      moved is so = subst (λ b. IsSo rules user (b ∷ rest) (verdict_on rules known (b ∷ rest))) (sym is) so
 
-  query-told : (text : List ℕ) → IsToldSo rules text (verdict_on rules known (com_query ∷ text))
+  query-told : (text : List ℕ) → IsToldSo rules user text (verdict_on rules known (com_query ∷ text))
   query-told text = drafted-told text (judging.asks router_reads rules known.caller known.standing text).draft (asked-told text)
 
 or-left : (a b : Bool) → a ≡ true → (a || b) ≡ true
@@ -236,41 +253,51 @@ or-right true b is = refl
 or-right false b is = is
 
 -- by no other command
-pub goes-not : {A : Type 0} (rules : List Rule) (payload : List ℕ) (text : Option (List ℕ)) → GoesSo rules payload text → is_for_servers (slice_index_or payload 0 0) ≡ false → A
-goes-not rules payload None so other = never (sym (or-right (nat_eq (slice_index_or payload 0 0) com_query) _ so) ∙ other)
-goes-not rules payload (Some text) so other = never (sym (or-left (nat_eq (slice_index_or payload 0 0) com_query) _ so.asks) ∙ other)
+pub goes-not : {A : Type 0} (rules : List Rule) (whose payload : List ℕ) (text : Option (List ℕ)) → GoesSo rules whose payload text → is_for_servers (slice_index_or payload 0 0) ≡ false → A
+goes-not rules whose payload None so other = never (sym (or-right (nat_eq (slice_index_or payload 0 0) com_query) _ so) ∙ other)
+goes-not rules whose payload (Some text) so other = never (sym (or-left (nat_eq (slice_index_or payload 0 0) com_query) _ so.asks) ∙ other)
 
 -- for something that is known
 
-module _ (rules : List Rule) (c : ClientNo) where
-  pub goes-so : (payload : List ℕ) (route : Route) → IsVerdictFor rules c payload (goes_by route) → GoesSo rules payload route.text
-  goes-so payload route for = subst (IsSo rules payload) (sym for.is) (judged-so rules for.known for.flag payload)
+module _ (book : Rulebook) (user : List ℕ) (c : ClientNo) where
+  pub goes-so : (payload : List ℕ) (route : Route) → IsVerdictFor book user c payload (goes_by route) → GoesSo book.rules user payload route.text
+  goes-so payload route for =
+      subst (λ (u : List ℕ). GoesSo book.rules u payload route.text) for.login
+      (subst (IsSo book.rules for.known.caller.user payload) (sym for.is) (judged-so book.rules for.known for.flag payload))
 
-  pub answers-so : (text : List ℕ) (payloads : List (List ℕ)) → IsVerdictFor rules c (com_query ∷ text) (Tells payloads) → AnswersSo rules text payloads
-  answers-so text payloads for = subst (IsToldSo rules text) (sym for.is) (query-told rules for.known for.flag text)
+  pub answers-so : (text : List ℕ) (payloads : List (List ℕ)) → IsVerdictFor book user c (com_query ∷ text) (Tells payloads)
+      → AnswersSo book.rules user text payloads
+  answers-so text payloads for =
+      subst (λ (u : List ℕ). AnswersSo book.rules u text payloads) for.login
+      (subst (IsToldSo book.rules for.known.caller.user text) (sym for.is) (query-told book.rules for.known for.flag text))
 
   -- the choice of a schema is answered by a server, or refused
-  pub choice-told : (schema : List ℕ) (payloads : List (List ℕ)) → IsVerdictFor rules c (com_init_db ∷ schema) (Tells payloads) → IsRefusing (Tells payloads)
-  choice-told schema payloads for = subst IsRefusing (sym for.is) (sent-refusing (for.known.is_there (unwrap_or for.known.standing.transaction for.known.caller.home)) _)
+  pub choice-told : (schema : List ℕ) (payloads : List (List ℕ)) → IsVerdictFor book user c (com_init_db ∷ schema) (Tells payloads)
+      → IsRefusing (Tells payloads)
+  choice-told schema payloads for =
+      subst IsRefusing (sym for.is) (sent-refusing (for.known.is_there (unwrap_or for.known.standing.transaction for.known.caller.home)) _)
 
   -- a PING is answered OK, without a text
-  pub ping-told : (rest : List ℕ) (payloads : List (List ℕ)) → IsVerdictFor rules c (com_ping ∷ rest) (Tells payloads) → IsPlainOk payloads
-  ping-told rest payloads for = subst IsPinged (sym for.is) (record { status = judging.own_status for.known.caller for.known.standing; is = refl })
+  pub ping-told : (rest : List ℕ) (payloads : List (List ℕ)) → IsVerdictFor book user c (com_ping ∷ rest) (Tells payloads) → IsPlainOk payloads
+  ping-told rest payloads for =
+      subst IsPinged (sym for.is) (record { status = judging.own_status for.known.caller for.known.standing; is = refl })
 
   -- the text that it has
-  text-so : (payload : List ℕ) (text : Option (List ℕ)) → GoesSo rules payload text → IsTextOf rules payload text
+  text-so : (payload : List ℕ) (text : Option (List ℕ)) → GoesSo book.rules user payload text → IsTextOf book.rules payload text
   text-so payload None so = tt
   text-so payload (Some text) so = so.made
 
-  pub asks-text : (payload : List ℕ) (route : Route) → IsVerdictFor rules c payload (goes_by route) → IsTextOf rules payload route.text
+  pub asks-text : (payload : List ℕ) (route : Route) → IsVerdictFor book user c payload (goes_by route) → IsTextOf book.rules payload route.text
   asks-text payload route for = text-so payload route.text (goes-so payload route for)
 
 -- of each client
 
-asks-own : (rules : List Rule) (plan : Plan) (moment : ℕ) (client : Client) → AreJudged rules plan moment client → AsksOwnOf rules plan client
-asks-own rules plan moment client judged k message route within there goes =
-    asks-text rules client.number message.payload route ((judged k message within there).goes route goes)
+asks-own : (book : Rulebook) (setup : Setup) (plan : Plan) (moment : ℕ) (client : Client) → AreJudged book setup plan moment client
+    → AsksOwnOf book.rules plan client
+asks-own book setup plan moment client judged k message route within there goes =
+    asks-text book (setup.accounts client.number).user client.number message.payload route ((judged k message within there).goes route goes)
 
 pub asks-by : (terms : Terms) (log : Log) → JudgesSo terms log → AsksSo terms log
 asks-by terms log judges k d within =
-    asks-own terms.router.rules (plan_in terms) (length log) (slice_index_or (tale_at terms log).clients k d) (judges k d within)
+    asks-own (rulebook_of terms.router) (setup_in terms) (plan_in terms) (length log) (slice_index_or (tale_at terms log).clients k d)
+    (judges k d within)

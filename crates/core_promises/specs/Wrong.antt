@@ -3,7 +3,11 @@ use Rattle.std.specs.Prelude.{◌≡◌, ℕ, suc, ◌<◌, Bool, true, false, �
 use Rattle.mx_wire.specs.Log.{Log, is_open}
 use Rattle.mx_wire.specs.declared.entry.Entry.{Entry}
 use Rattle.packet_frame.specs.Packets.{Framed}
-use Rattle.private_model.specs.Names.{MessageName, SessionName}
+use Rattle.pin_classifier.specs.Classes.{class_of}
+use Rattle.query_rules.specs.Effects.{is_first_flag}
+use Rattle.query_rules.specs.declared.ask.Routed.{Routed}
+use Rattle.query_rules.specs.declared.rule.Rule.{Rule}
+use Rattle.private_model.specs.Names.{Hostgroup, MessageName, SessionName}
 use Rattle.private_model.specs.Story.{Happening, Story}
 use Rattle.log_story.specs.Owed.{messages, name_of}
 use Rattle.log_story.specs.Plan.{Route, com_field_list, com_init_db, com_query, own_at}
@@ -71,6 +75,10 @@ pub record TakesUp (terms : Terms) (payload : List ℕ) : Type 0 where
 abbrev pub taken_up : {terms : Terms} {payload : List ℕ} → TakesUp terms payload → MessageName
 taken_up up = name_of up.client (suc up.count)
 
+-- the user with whom its client logged in
+abbrev pub user_of : {terms : Terms} {payload : List ℕ} → TakesUp terms payload → List ℕ
+user_of {terms} up = ((setup_in terms).accounts up.client.number).user
+
 -- and it goes to a server by this route
 pub record SendsBy (terms : Terms) (payload : List ℕ) (route : Route) : Type 0 where
   pub up : TakesUp terms payload
@@ -91,3 +99,23 @@ pub record AnswersBy (terms : Terms) (payload : List ℕ) (payloads : List (List
 -- a query, the choice of a schema, or the question for a table's columns
 abbrev pub is_for_servers : (byte : ℕ) → Bool
 is_for_servers byte = nat_eq byte com_query || (nat_eq byte com_init_db || nat_eq byte com_field_list)
+
+-- rules leave a text in this hostgroup, and it reads neither an insert id nor diagnostics
+pub record StaysIn (home : Hostgroup) (routed : Routed) : Type 0 where
+  pub hostgroup : routed.hostgroup ≡ home
+  pub reads : ((class_of routed.text).reads_id || (class_of routed.text).reads_diag) ≡ false
+
+-- the rule answers all that this user asks at flag 0 by an error, whatever its schema
+pub record RefusesUser (user why : List ℕ) (rule : Rule) : Type 0 where
+  pub active : rule.row.active ≡ true
+  pub flag : rule.row.flagIN ≡ 0
+  pub username : rule.row.username ≡ Some user
+  pub schemaname : rule.row.schemaname ≡ None
+  pub digest : rule.row.digest ≡ None
+  pub match_digest : rule.match_digest ≡ None
+  pub match_pattern : rule.match_pattern ≡ None
+  pub error_msg : rule.row.error_msg ≡ Some why
+
+-- no other flag is set for what comes next
+abbrev pub SetsNoFlag : List Rule → Type 0
+SetsNoFlag rules = (flag : ℕ) → is_first_flag rules flag ≡ true → flag ≡ 0

@@ -1,8 +1,8 @@
 // What the verdict says of a message that goes to a server; and routers that do otherwise with one: none that keeps its clients apart does so.
 ghost use Rattle.std.specs.Prelude.{◌≡◌, ◌≢◌, ℕ, false, true, List, [], ◌∷◌, slice_index_or, Some, None};
 ghost use Rattle.core_promises.specs.Asks.{IsTextOf};
-ghost use Rattle.core_promises.specs.Judges.{IsVerdictFor, goes_by};
-ghost use Rattle.core_promises.specs.Wrong.{AnswersBy, AsksFor, SendsBy, is_for_servers};
+ghost use Rattle.core_promises.specs.Judges.{IsVerdictFor, Rulebook, goes_by};
+ghost use Rattle.core_promises.specs.Wrong.{AnswersBy, AsksFor, RefusesUser, SendsBy, SetsNoFlag, StaysIn, is_for_servers, user_of};
 ghost use Rattle.log_story.specs.Plan.{Route, com_init_db, com_query};
 ghost use Rattle.pin_classifier.specs.Classes.{class_of};
 ghost use Rattle.pin_classifier.specs.declared.class.Refusal.{Refusal};
@@ -18,8 +18,17 @@ ghost use Rattle.router_promises.specs.Verdicts.{com_ping};
 
 /// Where the verdict says that a message goes to a server, it says so of the client's own text, or of what the rules make of that.
 pub fn verdicts_ask()
-    ensures { (rules : List Rule) (c : ClientNo) (payload : List ℕ) (route : Route)
-        → IsVerdictFor rules c payload (goes_by route) → IsTextOf rules payload route.text }
+    ensures { (book : Rulebook) (user : List ℕ) (c : ClientNo) (payload : List ℕ) (route : Route)
+        → IsVerdictFor book user c payload (goes_by route) → IsTextOf book.rules payload route.text }
+{}
+
+/// A query goes to its user's default hostgroup where, by what the verdict takes to be known, no transaction is open, and where at each flag by which
+/// rules may be tried first, whatever the schema, they leave it there, as a text that reads neither an insert id nor diagnostics.
+pub fn verdicts_go_home()
+    ensures { (book : Rulebook) (user : List ℕ) (c : ClientNo) (text : List ℕ) (route : Route)
+        (for : IsVerdictFor book user c (com_query ∷ text) (goes_by route)) → for.known.standing.transaction ≡ None
+        → ((ask : Ask) → ask.text ≡ text → ask.user ≡ user → ask.default_hostgroup ≡ book.home user → is_first_flag book.rules ask.flag ≡ true
+        → StaysIn (book.home user) (route_of book.rules ask)) → route.hostgroup ≡ book.home user }
 {}
 
 /// A text goes to a server that is refused, whatever its client: a KILL, or a SET GLOBAL.
@@ -35,11 +44,18 @@ pub fn sends_another_command()
         → is_for_servers (slice_index_or payload 0 0) ≡ false → ⊥ }
 {}
 
-/// A query goes to a server that the rules answer, whoever its client is and whatever its schema, at each flag by which they may be tried first.
+/// A query goes to a server that the rules answer for its client's user, whatever its schema, at each flag by which they may be tried first.
 pub fn goes_past_a_rule()
-    ensures { (terms : Terms) (text : List ℕ) (route : Route) → SendsBy terms (com_query ∷ text) route
-        → ((ask : Ask) → ask.text ≡ text → is_first_flag terms.router.rules ask.flag ≡ true
+    ensures { (terms : Terms) (text : List ℕ) (route : Route) (sends : SendsBy terms (com_query ∷ text) route)
+        → ((ask : Ask) → ask.text ≡ text → ask.user ≡ user_of sends.up → is_first_flag terms.router.rules ask.flag ≡ true
         → (route_of terms.router.rules ask).stop ≢ None) → ⊥ }
+{}
+
+/// A query goes to a server of a client whose user the first rule refuses.
+pub fn goes_past_a_rule_of_its_user()
+    ensures { (terms : Terms) (text why : List ℕ) (route : Route) (rule : Rule) (others : List Rule)
+        (sends : SendsBy terms (com_query ∷ text) route) → terms.router.rules ≡ rule ∷ others → RefusesUser (user_of sends.up) why rule
+        → SetsNoFlag terms.router.rules → ⊥ }
 {}
 
 /// A query is answered by nothing.
@@ -47,11 +63,12 @@ pub fn answers_nothing()
     ensures { (terms : Terms) (text : List ℕ) → AnswersBy terms (com_query ∷ text) [] → ⊥ }
 {}
 
-/// A query that no rule answers is answered OK in place of a server.
+/// A query that no rule answers OK for its client's user, whatever its schema, at a flag by which they may be tried first, is answered OK in place of a
+/// server.
 pub fn answers_for_a_server()
     ensures { (terms : Terms) (text info : List ℕ) (status : ℕ)
-        → AnswersBy terms (com_query ∷ text) (ok_payload status info ∷ [])
-        → ((ask : Ask) (said : List ℕ) → ask.text ≡ text
+        (answers : AnswersBy terms (com_query ∷ text) (ok_payload status info ∷ []))
+        → ((ask : Ask) (said : List ℕ) → ask.text ≡ text → ask.user ≡ user_of answers.up → is_first_flag terms.router.rules ask.flag ≡ true
         → (route_of terms.router.rules ask).stop ≢ Some (OkBy said)) → ⊥ }
 {}
 

@@ -2,7 +2,7 @@
 ghost use Rattle.std.specs.Prelude.{◌≡◌, Bool, None, Some};
 ghost use Rattle.core_tables.specs.Tables.{Tabled};
 ghost use Rattle.core_promises.specs.Sessions.{KeepsApart, Separates};
-ghost use Rattle.core_promises.specs.Judges.{JudgesBy};
+ghost use Rattle.core_promises.specs.Judges.{JudgesBy, rulebook_of};
 ghost use Rattle.core_promises.specs.Waits.{AreDoneBy};
 ghost use Rattle.own_words.specs.Own.{SpeaksOwn};
 ghost use Rattle.tale_world.specs.Decided.{plan_of};
@@ -30,7 +30,7 @@ pub fn cores_keep_apart()
     ensures { (router : Router) (log : Log) (t : Tabled) (roomy : ClientNo → Bool)
         → (core : IsCore (service_of router) router.proxy.default_schema log t roomy) → AreClasses router.reads
         → ((m : MessageName) (route : Route) → core.decided.routes m ≡ Some (Some route) → route.mirror ≡ None)
-        → JudgesBy router.rules router.proxy.default_schema core.decided log → SpeaksOwn router.rules (plan_of core.decided)
+        → JudgesBy (rulebook_of router) router.proxy.default_schema core.decided log → SpeaksOwn router.rules (plan_of core.decided)
         → AreDoneBy router.proxy.default_schema core.decided log
         → AllLawful Fits log → Separates router log }
 {}

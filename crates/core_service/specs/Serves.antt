@@ -1,8 +1,12 @@
 -- What a configuration has the core serve by.
-use Rattle.std.specs.Prelude.{◌≡◌, All, List, None, map}
+use Rattle.std.specs.HashMap.{HashMap, get}
+use Rattle.std.specs.Option.{option_map_or}
+use Rattle.std.specs.Prelude.{◌≡◌, ℕ, All, List, None, bytes_eq, find, map}
 use Rattle.client_session.specs.Setups.{Setup, User}
 use Rattle.core_service.specs.declared.service.Service.{Service}
+use Rattle.core_service.specs.declared.service.UserAt.{UserAt}
 use Rattle.handshake.specs.Spelling.{IsText}
+use Rattle.mx_base.specs.declared.names.Hostgroup.{Hostgroup}
 use Rattle.mx_config.specs.declared.config.Config.{Config}
 use Rattle.mx_config.specs.declared.config.UserRow.{UserRow}
 use Rattle.query_rules.specs.Building.{IsCompiled, IsInOrder}
@@ -29,10 +33,20 @@ setup_of config = record {
   target = None;
 }
 
+-- The hostgroup to which a user's statements go where nothing else says so: by a table of users, and by rows, of which the first of a name holds.
+
+abbrev pub home_in : {S : Type 0} → HashMap (List ℕ) UserAt S → (user : List ℕ) → Hostgroup
+home_in users user = option_map_or (λ (at : UserAt). at.home) (get bytes_eq users user) (record { 0 = 0 })
+
+abbrev pub home_by : List UserRow → (user : List ℕ) → Hostgroup
+home_by rows user =
+    option_map_or (λ (row : UserRow). row.default_hostgroup) (find (λ (row : UserRow). bytes_eq row.name user) rows) (record { 0 = 0 })
+
 pub record ServesBy (config : Config) (service : Service) : Type 0 where
   pub listen : service.listen ≡ config.proxy.listen
   pub admin_listen : service.admin_listen ≡ config.proxy.admin_listen
   pub setup : service.setup ≡ setup_of config
   pub default_schema : service.default_schema ≡ config.proxy.default_schema
+  pub homes : (user : List ℕ) → home_in service.users user ≡ home_by config.users user
   pub rules : IsInOrder config.rules (rows_of service.rules)
   pub patterns : All IsCompiled (rules_of service.rules)

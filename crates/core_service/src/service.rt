@@ -1,7 +1,7 @@
 // What the core serves by.
-ghost use Rattle.std.specs.Prelude.{◌≡◌, ◌≤◌, All, IfOk, length};
+ghost use Rattle.std.specs.Prelude.{◌≡◌, ◌≤◌, ℕ, All, IfOk, List, length};
 ghost use Rattle.client_session.specs.Setups.{most_message};
-ghost use Rattle.core_service.specs.Serves.{AreTexts, ServesBy, setup_of, user_of, users_of};
+ghost use Rattle.core_service.specs.Serves.{AreTexts, ServesBy, home_by, home_in, setup_of, user_of, users_of};
 ghost use Rattle.handshake.specs.Spelling.{IsText};
 ghost use Rattle.mx_config.specs.Lawful.{IsLawful};
 ghost use Rattle.query_rules.specs.Building.{IsCompiled, IsInOrder};
@@ -79,10 +79,13 @@ fn setup_of(alloc: Global, config: &Config) -> Result<Setup, OutOfMemory>
     ))
 }
 
-// Each user's own hostgroup and password.
-fn homes_of(alloc: Global, rows: &[UserRow]) -> Result<HashMap<Bytes, UserAt>, OutOfMemory> {
+// Each user's own hostgroup and password. Of a name the first row holds, so it is put in last.
+fn homes_of(alloc: Global, rows: &[UserRow]) -> Result<HashMap<Bytes, UserAt>, OutOfMemory>
+    ensures { IfOk result (λ users. (user : List ℕ) → home_in users user ≡ home_by rows.now user) }
+{
     let mut users = HashMap::new(alloc);
-    for row in rows {
+    for k in (0..rows.len()).rev() {
+        let row = &rows[k];
         let name = Bytes::from_slice(alloc, row.name.as_slice())?;
         let user = UserAt {
             home: row.default_hostgroup,
@@ -149,7 +152,9 @@ impl Service {
     }
 
     /// The hostgroup to which a user's statements go where nothing else says so.
-    pub fn home(&self, user: &Bytes) -> Hostgroup {
+    pub fn home(&self, user: &Bytes) -> Hostgroup
+        ensures { result ≡ home_in self.now.users user.now }
+    {
         match self.users.get(user) {
             Some(user) => user.home,
             None => Hostgroup(0),

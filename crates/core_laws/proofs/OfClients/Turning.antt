@@ -4,7 +4,7 @@ use Rattle.std.proofs.Common.{refl, sym, ap, ◌∙◌, subst, arith}
 use Rattle.std.proofs.lemmas.Option.{none-some}
 use Rattle.packet_frame.specs.Packets.{Framed, spellings}
 use Rattle.client_session.specs.Setups.{Setup as Service}
-use Rattle.private_model.specs.Commands.{Command}
+use Rattle.private_model.specs.Commands.{Account, Command}
 use Rattle.private_model.specs.Names.{ClientNo}
 use Rattle.private_model.specs.Story.{Left, is_client}
 use Rattle.log_story.specs.Clients.{taken_by, taken_up, waits_for_capture}
@@ -47,7 +47,7 @@ use Rattle.core_laws.specs.entry.Safe.{has_runs, is_run}
 use Rattle.core_laws.proofs.OfClients.Facts.{few_so, has_lives, its_row, unended, waits_so}
 use Rattle.core_laws.proofs.OfClients.Waiting.{looked_waiting}
 use Rattle.core_laws.specs.clients.Chosen.{IsChosen, IsGone, IsHaltIn, IsLookedFor, IsStanding, IsTurning, PlanHas, StandsBehind}
-use Rattle.core_laws.specs.clients.Found.{AreFoundAt, IsFoundAt}
+use Rattle.core_laws.specs.clients.Found.{AreFoundAt, IsFoundAt, IsFoundIn, user_in}
 use Rattle.core_laws.specs.clients.Turns.{AnswersBy, Answers, Choice, ComesUp, EndsThere, Ends, Goes, GoesBy, Halt, HaltsSo, IsLookedAt, IsTurn, MakesAnswer, count_by, is_quitting}
 use Rattle.core_laws.specs.clients.Turns.{MayLeave, Quits, QuitsThere, Rests, RestsThere, Turns, Waits, WaitsThere}
 
@@ -251,8 +251,11 @@ module _ (laws : Laws) (service : Service) (default : List ℕ) (first client : 
     is_found : up.message ≡ came.up.message
     is_found = let both : Some up.message ≡ Some came.up.message = sym up.found ∙ came.up.found in cc
 
-    up_found : slice_get (messages g.plan client) client.taken ≡ Some up.message
-    up_found = came.up.next.next ∙ ap (λ (m : Framed). Some m) (sym is_found)
+    up_found : IsFoundIn service default up.row up.message (g.setup.accounts c).user (slice_get (messages g.plan client) client.taken)
+    up_found = record {
+      message_is = came.up.next.next ∙ ap (λ (m : Framed). Some m) (sym is_found);
+      login = ap user_in came.up.serves ∙ ap (λ (account : Account). account.user) (sym (is.let_in.account came.up.account came.up.served.known));
+    }
 
     looking : IsTaking service first from seen between client
     looking = taking_looks service first client from g t is.taking between came.stands
@@ -407,7 +410,7 @@ module _ (laws : Laws) (service : Service) (default : List ℕ) (first client : 
   one_turn (Answers payloads) now turn chosen = answers_turn payloads now turn chosen
 
   pub turn_found : (choice : Choice) (now : Tabled) → (turn : IsTurn choice service default c t now)
-      → IsFoundAt choice service default c t now turn (slice_get (messages g.plan client) client.taken)
+      → IsFoundAt choice service default c t now turn (g.setup.accounts c).user (slice_get (messages g.plan client) client.taken)
   turn_found (Goes route) now turn = up_found turn.between turn.up
   turn_found (Answers payloads) now turn = up_found turn.between turn.up
 
@@ -491,7 +494,7 @@ turns_found_in : (laws : Laws) (service : Service) (default : List ℕ) (first c
     (choices : List Choice) (halt : Halt) → IsTurning service default first from g t client
     → PlanHas choices halt g.plan g.tale.moment (name_of client (suc client.taken))
     → (turns : Turns choices halt service default client.number t now)
-    → AreFoundAt choices halt service default client.number t now turns (messages g.plan client) client.taken
+    → AreFoundAt choices halt service default client.number t now turns (g.setup.accounts client.number).user (messages g.plan client) client.taken
 turns_found_in laws service default first client from g t now [] halt is has turns = tt
 turns_found_in laws service default first client from g t now (choice ∷ others) halt is has turns =
     let made = one_turn laws service default first client from g t is choice turns.0 turns.1 has.0 in (
@@ -504,8 +507,8 @@ turns_found_in laws service default first client from g t now (choice ∷ others
 pub turns_found : (laws : Laws) (service : Service) (default : List ℕ) (first client : tales.Client) (from : Tale) (g : Ground) (t now : Tabled)
     (choices : List Choice) (halt : Halt) (c : ClientNo) → client.number ≡ c → IsTurning service default first from g t client
     → PlanHas choices halt g.plan g.tale.moment (name_of client (suc client.taken)) → (turns : Turns choices halt service default c t now)
-    → AreFoundAt choices halt service default c t now turns (messages g.plan client) client.taken
+    → AreFoundAt choices halt service default c t now turns (g.setup.accounts c).user (messages g.plan client) client.taken
 turns_found laws service default first client from g t now choices halt c same is has turns =
     subst (λ (n : ClientNo). (by : Turns choices halt service default n t now)
-    → AreFoundAt choices halt service default n t now by (messages g.plan client) client.taken) same
+    → AreFoundAt choices halt service default n t now by (g.setup.accounts n).user (messages g.plan client) client.taken) same
     (λ by. turns_found_in laws service default first client from g t now choices halt is has by) turns

@@ -41,13 +41,14 @@ pub fn follows_rest()
     crate::entry::entries_of_one();
 }
 
-/// Of what follows for one client at an entry: the messages that it took up are those that came up at its turns.
+/// Of what follows for one client at an entry: the messages that it took up are those that came up at its turns, and it is served as the user that the setup
+/// has for it.
 pub fn follows_find()
     ensures { (service : Service) (default : List ℕ) (g : Ground) (mid now : Tabled) (fresh : ClientNo → Bool) (e : Entry) (client : tales.Client)
         (freed : Tale) (choices : List Choice) (halt : Halt) (parting : Parting) (c : ClientNo) → client.number ≡ c
         → IsFollowing service default g e client freed choices halt parting → Stands service (to_look g fresh freed) mid
         → (turns : Turns choices halt service default c mid now)
-        → AreFoundAt choices halt service default c mid now turns (messages g.plan client) client.taken }
+        → AreFoundAt choices halt service default c mid now turns (g.setup.accounts c).user (messages g.plan client) client.taken }
 {
     turns_find();
 }

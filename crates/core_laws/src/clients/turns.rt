@@ -33,12 +33,13 @@ pub fn turns_stand()
     crate::entry::texts_are_no_runs();
 }
 
-/// By a plan that has what was decided of a client's messages, those that it took up are those that came up at its turns.
+/// By a plan that has what was decided of a client's messages, those that it took up are those that came up at its turns, and it is served as the user
+/// that the setup has for it.
 pub fn turns_find()
     ensures { (service : Service) (default : List ℕ) (first client : tales.Client) (from : Tale) (g : Ground) (t now : Tabled)
         (choices : List Choice) (halt : Halt) (c : ClientNo) → client.number ≡ c → IsTurning service default first from g t client
         → PlanHas choices halt g.plan g.tale.moment (name_of client (suc client.taken)) → (turns : Turns choices halt service default c t now)
-        → AreFoundAt choices halt service default c t now turns (messages g.plan client) client.taken }
+        → AreFoundAt choices halt service default c t now turns (g.setup.accounts c).user (messages g.plan client) client.taken }
 {
     crate::arrival::clients_look();
     crate::arrival::waits_are_idle();
