@@ -1,5 +1,5 @@
 -- What a draft can be, by its message's bytes.
-use Rattle.std.specs.Prelude.{◌≡◌, ℕ, Bool, true, false, List, [], ◌∷◌, Option, Some, None, Result, Ok, Err, IfOk, if◌then◌else◌}
+use Rattle.std.specs.Prelude.{◌≡◌, ℕ, Bool, true, false, List, [], ◌∷◌, Option, Some, None, Result, Ok, Err, if◌then◌else◌}
 use Rattle.std.proofs.Common.{refl, sym, ap, subst, inl, inr}
 use Rattle.command_parse.specs.Meaning as meaning
 use Rattle.command_parse.specs.Meaning.{Meaning, has_no_reply}

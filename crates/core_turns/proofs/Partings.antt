@@ -6,7 +6,7 @@ use Rattle.std.proofs.lemmas.List.Elements.{All-append, All-nil, All-push}
 use Rattle.mx_base.specs.declared.names.ClientNo.{ClientNo}
 use Rattle.mx_base.specs.declared.names.LinkId.{LinkId}
 use Rattle.packet_frame.specs.Packets.{Framed}
-use Rattle.query_rules.specs.declared.rule.Rule.{Rule}
+use Rattle.core_promises.specs.Judges.{Rulebook}
 use Rattle.server_side.specs.Account.{Account}
 use Rattle.handshake.specs.declared.response.Response.{Response}
 use Rattle.client_session.specs.Accounts.{account_of}
@@ -164,11 +164,11 @@ LeavesBy stops.Rests c now new = IsSame new now
 LeavesBy stops.Ends c now new = IsSame new (left_in c ended now)
 LeavesBy (stops.Quits flag) c now new = leaving.Quits flag c now new
 
-module _ (rules : List Rule) (service : Service) (default : List ℕ) (c : ClientNo) where
+module _ (book : Rulebook) (service : Service) (default : List ℕ) (c : ClientNo) where
   pub leaves-so : (stop : Stop) (choices : List Choice) (old now new : Tabled) → LeavesBy stop c now new
-      → TurnsUntil rules choices (halt_of stop) service default c old now → RuledTurns rules choices (halt_of stop) service default c old new
+      → TurnsUntil book choices (halt_of stop) service default c old now → RuledTurns book choices (halt_of stop) service default c old new
   leaves-so stop (choice ∷ others) old now new leaves is =
-      let rest : RuledTurns rules others (halt_of stop) service default c is.0 new = leaves-so stop others is.0 now new leaves is.2 in
+      let rest : RuledTurns book others (halt_of stop) service default c is.0 new = leaves-so stop others is.0 now new leaves is.2 in
       ((is.0, is.1.0, rest.0), (is.1.1, rest.1))
   leaves-so stops.Waits [] old now new leaves is = (record { row = is.row; there = is.there; waits = is.waits; same = both-same leaves is.same }, tt)
   leaves-so stops.Rests [] old now new leaves is = (record { row = is.row; looks = is.looks; same = both-same leaves is.same }, tt)
@@ -176,7 +176,7 @@ module _ (rules : List Rule) (service : Service) (default : List ℕ) (c : Clien
   leaves-so (stops.Quits flag) [] old now new leaves is = (quits-so service default c flag old now new is leaves, tt)
 
   -- a message is up where it quits
-  pub may-leave : (stop : Stop) (choices : List Choice) (old now : Tabled) → TurnsUntil rules choices (halt_of stop) service default c old now
+  pub may-leave : (stop : Stop) (choices : List Choice) (old now : Tabled) → TurnsUntil book choices (halt_of stop) service default c old now
       → MayLeaveBy stop (now.clients c)
   may-leave stop (choice ∷ others) old now is = may-leave stop others is.0 now is.2
   may-leave stops.Waits [] old now is = tt
@@ -187,57 +187,57 @@ module _ (rules : List Rule) (service : Service) (default : List ℕ) (c : Clien
       (record { found = subst (λ (o : Option Framed). IsSome o) (sym is.up.found) refl; past_login = is.past_login })
 
 -- Turns that are behind a client, whatever comes behind them.
-pub record HasTurned (rules : List Rule) (service : Service) (default : List ℕ) (c : ClientNo) (old now : Tabled) : Type 0 where
+pub record HasTurned (book : Rulebook) (service : Service) (default : List ℕ) (c : ClientNo) (old now : Tabled) : Type 0 where
   pub choices : List Choice
-  pub said : All (IsSaid rules c) choices
-  pub onward : (others : List Choice) (halt : Halt) (new : Tabled) → TurnsUntil rules others halt service default c now new
-      → TurnsUntil rules (choices ++ others) halt service default c old new
+  pub said : All (IsSaid book.rules c) choices
+  pub onward : (others : List Choice) (halt : Halt) (new : Tabled) → TurnsUntil book others halt service default c now new
+      → TurnsUntil book (choices ++ others) halt service default c old new
 
 -- The loop's invariant, and what stands behind it.
 
-pub record IsGoing (rules : List Rule) (service : Service) (default : List ℕ) (c : ClientNo) (old now : MarkedTables) : Type 0 where
-  pub turned : HasTurned rules service default c (tables_of old.tables) (tables_of now.tables)
+pub record IsGoing (book : Rulebook) (service : Service) (default : List ℕ) (c : ClientNo) (old now : MarkedTables) : Type 0 where
+  pub turned : HasTurned book service default c (tables_of old.tables) (tables_of now.tables)
   pub there : IsSome ((tables_of now.tables).clients c)
   pub goes : GoesOn old now
 
-module _ (rules : List Rule) (service : Service) (default : List ℕ) (c : ClientNo) where
-  none-turned : (old : Tabled) → HasTurned rules service default c old old
-  none-turned old = record { choices = []; said = All-nil (IsSaid rules c); onward = λ others halt new is. is }
+module _ (book : Rulebook) (service : Service) (default : List ℕ) (c : ClientNo) where
+  none-turned : (old : Tabled) → HasTurned book service default c old old
+  none-turned old = record { choices = []; said = All-nil (IsSaid book.rules c); onward = λ others halt new is. is }
 
-  one-more : (old now later : Tabled) → HasTurned rules service default c old now → HasChosen rules service default c now later
-      → HasTurned rules service default c old later
+  one-more : (old now later : Tabled) → HasTurned book service default c old now → HasChosen book service default c now later
+      → HasTurned book service default c old later
   one-more old now later turned chosen = record {
     choices = turned.choices ++ chosen.choice ∷ [];
-    said = All-push (IsSaid rules c) turned.choices chosen.choice turned.said chosen.said;
+    said = All-push (IsSaid book.rules c) turned.choices chosen.choice turned.said chosen.said;
     onward = λ others halt new is.
-        subst (λ (all : List Choice). TurnsUntil rules all halt service default c old new) (sym (append_assoc turned.choices (chosen.choice ∷ []) others))
+        subst (λ (all : List Choice). TurnsUntil book all halt service default c old new) (sym (append_assoc turned.choices (chosen.choice ∷ []) others))
         (turned.onward (chosen.choice ∷ others) halt new (later, chosen.turns, is));
   }
 
-  pub begins : (m : MarkedTables) → is_away ((tables_of m.tables).clients c) ≡ false → IsGoing rules service default c m m
+  pub begins : (m : MarkedTables) → is_away ((tables_of m.tables).clients c) ≡ false → IsGoing book service default c m m
   begins m going = record {
     turned = none-turned (tables_of m.tables);
     there = not-away ((tables_of m.tables).clients c) going;
     goes = still_goes m;
   }
 
-  pub goes-on : (old now later : MarkedTables) → IsGoing rules service default c old now
-      → HasChosen rules service default c (tables_of now.tables) (tables_of later.tables) → GoesOn now later → IsGoing rules service default c old later
+  pub goes-on : (old now later : MarkedTables) → IsGoing book service default c old now
+      → HasChosen book service default c (tables_of now.tables) (tables_of later.tables) → GoesOn now later → IsGoing book service default c old later
   goes-on old now later going chosen goes = record {
     turned = one-more (tables_of old.tables) (tables_of now.tables) (tables_of later.tables) going.turned chosen;
-    there = chosen-some rules service default c (tables_of now.tables) (tables_of later.tables) chosen;
+    there = chosen-some book service default c (tables_of now.tables) (tables_of later.tables) chosen;
     goes = goes_along old now later going.goes goes;
   }
 
-  pub gone-so : (stop : Stop) (old now new : MarkedTables) → is_away ((tables_of old.tables).clients c) ≡ false → IsGoing rules service default c old now
+  pub gone-so : (stop : Stop) (old now new : MarkedTables) → is_away ((tables_of old.tables).clients c) ≡ false → IsGoing book service default c old now
       → StopsSo (halt_of stop) service default c (tables_of now.tables) (tables_of new.tables)
-      → HasGone TurnsUntil stop rules service default c (tables_of old.tables) (tables_of new.tables)
+      → HasGone TurnsUntil stop book service default c (tables_of old.tables) (tables_of new.tables)
   gone-so stop old now new present going is = record {
     going = present;
     choices = going.turned.choices ++ [];
-    said = All-append (IsSaid rules c) going.turned.choices [] going.turned.said (All-nil (IsSaid rules c));
+    said = All-append (IsSaid book.rules c) going.turned.choices [] going.turned.said (All-nil (IsSaid book.rules c));
     turned = going.turned.onward [] (halt_of stop) (tables_of new.tables) is;
   }
 
-  pub gone-leaves : (stop : Stop) (old new : Tabled) → HasGone TurnsUntil stop rules service default c old new → MayLeaveBy stop (new.clients c)
-  gone-leaves stop old new gone = may-leave rules service default c stop gone.choices old new gone.turned
+  pub gone-leaves : (stop : Stop) (old new : Tabled) → HasGone TurnsUntil stop book service default c old new → MayLeaveBy stop (new.clients c)
+  gone-leaves stop old new gone = may-leave book service default c stop gone.choices old new gone.turned

@@ -5,7 +5,7 @@ use Rattle.std.proofs.Common.{refl, sym, ap, subst, ◌∙◌}
 use Rattle.mx_base.specs.declared.names.ClientNo.{ClientNo}
 use Rattle.mx_base.specs.declared.names.Hostgroup.{Hostgroup}
 use Rattle.packet_frame.specs.Packets.{Framed}
-use Rattle.query_rules.specs.declared.rule.Rule.{Rule}
+use Rattle.core_promises.specs.Judges.{Rulebook}
 use Rattle.private_model.proofs.Maps.{same_number}
 use Rattle.client_session.specs.Setups.{Setup as Service}
 use Rattle.client_side.specs.declared.stage.Stage.TheVariants.{Commands}
@@ -76,9 +76,9 @@ module _ (service : Service) (default : List ℕ) (c : ClientNo) (old between : 
   makes-so true flag packets statements new lives is = (lives, is)
   makes-so false flag packets statements new lives is = is
 
-  module _ (rules : List Rule) (ordinal : ℕ) (message : Framed) (able : IsLookable false row) (looks : IsLookedAt service default c old row (next.Message ordinal))
+  module _ (book : Rulebook) (ordinal : ℕ) (message : Framed) (able : IsLookable false row) (looks : IsLookedAt service default c old row (next.Message ordinal))
       (found : found_of after ≡ Some message) (past : (turn service default row.desk.seat).client.stage ≡ Commands) (new : Tabled) where
-    taken-up : (turned : Turn) → IsTakenUp turned ordinal rules c after message between new → IsTurned turned rules service default c old new
+    taken-up : (turned : Turn) → IsTakenUp turned ordinal book c after message between new → IsTurned turned book service default c old new
     taken-up (turns.Stops (stops.Quits flag)) is = record {
       up = record { row = row; ordinal = ordinal; looks = looks; same = both-same is.same same; message = message; found = found };
       past_login = past;
@@ -131,22 +131,22 @@ module _ (service : Service) (default : List ℕ) (c : ClientNo) (old between : 
   ends-there able is = record { row = row; looks = looks-at next.Ended able is; lives = able.able.lives; same = same }
 
   -- the message that is up is taken up
-  pub taken-next : (rules : List Rule) (ordinal : ℕ) (turned : Turn) (new : Tabled) → IsLookable false row → next.Message ordinal ≡ next_of service default (old.clients c)
+  pub taken-next : (book : Rulebook) (ordinal : ℕ) (turned : Turn) (new : Tabled) → IsLookable false row → next.Message ordinal ≡ next_of service default (old.clients c)
       → IsUpIn (next.Message ordinal) (between.clients c)
-      → OnUp c between (λ up message. IsTakenUp turned ordinal rules c up message between new) → IsTurned turned rules service default c old new
-  taken-next rules ordinal turned new able is up taken = by (found_of after) refl where
+      → OnUp c between (λ up message. IsTakenUp turned ordinal book c up message between new) → IsTurned turned book service default c old new
+  taken-next book ordinal turned new able is up taken = by (found_of after) refl where
     seat : Seat
     seat = turn service default row.desk.seat
 
     ups : IsUp (next.Message ordinal) seat
     ups = subst (IsUpIn (next.Message ordinal)) seated-there up
 
-    by : (found : Option Framed) → found_of after ≡ found → IsTurned turned rules service default c old new
+    by : (found : Option Framed) → found_of after ≡ found → IsTurned turned book service default c old new
     by None none =
         let no : false ≡ true = subst (λ (o : Option Framed). IsSome o) none ups.0 in
         absurd (cc)
     by (Some message) found =
-        taken-up rules ordinal message able (looks-at (next.Message ordinal) able is) found ups.1 new turned (taken after seated-there message found)
+        taken-up book ordinal message able (looks-at (next.Message ordinal) able is) found ups.1 new turned (taken after seated-there message found)
 
 -- a message is up there
 pub up-there : (ordinal : ℕ) (found : Option Client) → IsSome found → IsUpIn (next.Message ordinal) found → IsUpOr found
@@ -197,13 +197,13 @@ turn-some (Answers payloads) service default c old new is =
 
 -- a choice by what code says of it
 
-pub answered-choice : (rules : List Rule) (service : Service) (default : List ℕ) (c : ClientNo) (old new : Tabled) → IsTurned turns.Answered rules service default c old new
-    → HasChosen rules service default c old new
-answered-choice rules service default c old new is = record { choice = Answers is.0; said = is.1; turns = is.2 }
+pub answered-choice : (book : Rulebook) (service : Service) (default : List ℕ) (c : ClientNo) (old new : Tabled) → IsTurned turns.Answered book service default c old new
+    → HasChosen book service default c old new
+answered-choice book service default c old new is = record { choice = Answers is.0; said = is.1; turns = is.2 }
 
-pub due-choice : (hostgroup : Hostgroup) (rules : List Rule) (service : Service) (default : List ℕ) (c : ClientNo) (old new : Tabled) → IsTurned (turns.Due hostgroup) rules service default c old new
-    → HasChosen rules service default c old new
-due-choice hostgroup rules service default c old new is = record { choice = Goes is.route; said = is.single; turns = (is.goes, is.ruled) }
+pub due-choice : (hostgroup : Hostgroup) (book : Rulebook) (service : Service) (default : List ℕ) (c : ClientNo) (old new : Tabled) → IsTurned (turns.Due hostgroup) book service default c old new
+    → HasChosen book service default c old new
+due-choice hostgroup book service default c old new is = record { choice = Goes is.route; said = is.single; turns = (is.goes, is.ruled) }
 
-pub chosen-some : (rules : List Rule) (service : Service) (default : List ℕ) (c : ClientNo) (old new : Tabled) → HasChosen rules service default c old new → IsSome (new.clients c)
-chosen-some rules service default c old new is = turn-some is.choice service default c old new is.turns.0
+pub chosen-some : (book : Rulebook) (service : Service) (default : List ℕ) (c : ClientNo) (old new : Tabled) → HasChosen book service default c old new → IsSome (new.clients c)
+chosen-some book service default c old new is = turn-some is.choice service default c old new is.turns.0

@@ -7,7 +7,6 @@ use Rattle.mx_base.specs.declared.names.ClientNo.{ClientNo}
 use Rattle.mx_base.specs.declared.names.Hostgroup.{Hostgroup}
 use Rattle.packet_frame.specs.Packets.{Framed, spelling, spellings}
 use Rattle.own_words.specs.Own.{IsAnswer}
-use Rattle.query_rules.specs.declared.rule.Rule.{Rule}
 use Rattle.server_rule.specs.Classes.{Reads}
 use Rattle.private_model.specs.Commands.{Command, is_marked}
 use Rattle.log_story.specs.Plan.{com_execute, text_payload}
@@ -20,11 +19,12 @@ use Rattle.row_laws.specs.Readied.{AreClasses}
 use Rattle.client_seat.specs.Numbers.{Numbered, number_in}
 use Rattle.client_seat.specs.Requests.{Asked, Runs, Says, args_by, asked_in, run_in, text_in}
 use Rattle.stmt_map.specs.declared.client.ClientStatements.{ClientStatements}
+use Rattle.core_laws.specs.clients.Found.{user_in}
 use Rattle.core_tables.specs.Tables.{IsSame, Tabled}
 use Rattle.core_tables.specs.Taking.{IsDue, asked_of, found_of, text_work}
 use Rattle.core_tables.specs.declared.client.Client.{Client}
 use Rattle.router_promises.specs.Verdicts.{Tells}
-use Rattle.core_promises.specs.Judges.{IsVerdictFor, goes_by}
+use Rattle.core_promises.specs.Judges.{IsVerdictFor, Rulebook, goes_by}
 use Rattle.core_turns.specs.Judged.{IsSendable, route_by}
 use Rattle.core_turns.specs.Taken.{IsAnswered, IsDueThere, OnUp, answered_so}
 
@@ -41,12 +41,12 @@ pub payload-at : (payload : List ℕ) (found : Option Framed) (message : Framed)
 payload-at payload found message at is = subst (λ (o : Option Framed). IfSome o (λ (m : Framed). payload ≡ m.payload)) at is
 
 -- The router answers it.
-pub answer-so : (anew : Bool) (rules : List Rule) (c : ClientNo) (flag : ℕ) (said packets : List ℕ) (statements : ClientStatements) (payloads : List (List ℕ)) (old new : Tabled)
-    → IsAnswer rules c payloads → OnUp c old (λ row message. packets ≡ spellings row.desk.seat.first payloads) → said ≡ packets
+pub answer-so : (anew : Bool) (book : Rulebook) (c : ClientNo) (flag : ℕ) (said packets : List ℕ) (statements : ClientStatements) (payloads : List (List ℕ)) (old new : Tabled)
+    → IsAnswer book.rules c payloads → OnUp c old (λ row message. packets ≡ spellings row.desk.seat.first payloads) → said ≡ packets
     → OnUp c old (λ row message. anew ≡ nat_eq (slice_index_or message.payload 0 0) 0x1F)
     → IsSame new (answered_so anew c flag said statements old)
-    → OnUp c old (λ row message. IsVerdictFor rules c message.payload (Tells payloads) → IsAnswered rules c row message old new)
-answer-so anew rules c flag said packets statements payloads old new own spelt same is made = λ row there message found ruled. record {
+    → OnUp c old (λ row message. IsVerdictFor book (user_in row.desk.seat.phase) c message.payload (Tells payloads) → IsAnswered book c row message old new)
+answer-so anew book c flag said packets statements payloads old new own spelt same is made = λ row there message found ruled. record {
   payloads = payloads;
   own = own;
   ruled = ruled;
@@ -90,14 +90,14 @@ record IsSendsAs (form : Form) (command : Command) : Type 0 where
   formed : (reads : Reads) → AreClasses reads → IsForm reads form command
   marked : (reads : Reads) → AreClasses reads → is_marked reads command ≡ marks form
 
-pub due-there : (rules : List Rule) (hostgroup : Hostgroup) (ordinal flag since : ℕ) (text : Option (List ℕ)) (multiplex : Option Bool) (form : Form) (c : ClientNo) (old new : Tabled)
+pub due-there : (book : Rulebook) (hostgroup : Hostgroup) (ordinal flag since : ℕ) (text : Option (List ℕ)) (multiplex : Option Bool) (form : Form) (c : ClientNo) (old new : Tabled)
     → OnUp c old (λ row message. IsSendable message.payload text form)
     → IsDue flag text (text_work ordinal hostgroup since multiplex form) c old new
-    → OnUp c old (λ row message. IsVerdictFor rules c message.payload (goes_by (route_by hostgroup text multiplex))
-    → IsDueThere hostgroup ordinal rules c message old new)
-due-there rules hostgroup ordinal flag since text multiplex form c old new sendable due =
-    on-up old c due.row (λ row message. IsVerdictFor rules c message.payload (goes_by (route_by hostgroup text multiplex))
-    → IsDueThere hostgroup ordinal rules c message old new) due.there
+    → OnUp c old (λ row message. IsVerdictFor book (user_in row.desk.seat.phase) c message.payload (goes_by (route_by hostgroup text multiplex))
+    → IsDueThere hostgroup ordinal book c row message old new)
+due-there book hostgroup ordinal flag since text multiplex form c old new sendable due =
+    on-up old c due.row (λ row message. IsVerdictFor book (user_in row.desk.seat.phase) c message.payload (goes_by (route_by hostgroup text multiplex))
+    → IsDueThere hostgroup ordinal book c row message old new) due.there
     (λ message found ruled.
     let sends : IsSendable message.payload text form = sendable due.row due.there message found in
     let asked : text_in message.payload text ≡ Some (Says due.command) = asked-there due.row message text due.command found due.asked in

@@ -25,7 +25,7 @@ use Rattle.message_judge.specs.declared.caller.Standing.{Standing}
 use Rattle.message_judge.specs.declared.draft.Draft.{Draft}
 use Rattle.message_judge.specs.declared.draft.Draft.TheVariants as drafts
 use Rattle.message_judge.specs.declared.told.Told.{Told}
-use Rattle.core_promises.specs.Judges.{IsVerdictFor, goes_by, is_of_statement, unserved}
+use Rattle.core_promises.specs.Judges.{IsVerdictFor, Rulebook, goes_by, is_of_statement, unserved}
 use Rattle.core_turns.specs.declared.judged.Verdict.{Verdict}
 use Rattle.core_turns.specs.declared.judged.Verdict.TheVariants as verdicts
 
@@ -70,12 +70,14 @@ IsOwnVerdict rules _ = Unit {0}
 -- What becomes of a message is what the promise's verdict says.
 
 -- something that may be known of its client makes this draft
-pub record IsDraftFor (rules : List Rule) (c : ClientNo) (payload : List ℕ) (draft : Draft) : Type 0 where
+pub record IsDraftFor (book : Rulebook) (user : List ℕ) (c : ClientNo) (payload : List ℕ) (draft : Draft) : Type 0 where
   pub caller : Caller
   pub standing : Standing
   pub client : caller.number ≡ c
-  pub flag : is_first_flag rules caller.flag ≡ true
-  pub is : draft_of caller None draft ≡ (judged router_reads rules caller standing None payload).draft
+  pub login : caller.user ≡ user
+  pub home : caller.home ≡ book.home user
+  pub flag : is_first_flag book.rules caller.flag ≡ true
+  pub is : draft_of caller None draft ≡ (judged router_reads book.rules caller standing None payload).draft
 
 -- a command about prepared statements is answered without a look at its client
 abbrev pub IsUnserved : (byte : ℕ) → Option Told → Type 0
@@ -85,8 +87,8 @@ IsUnserved byte (Some told) = (is_of_statement byte ≡ true) × ((number : ℕ)
 abbrev pub route_by : Hostgroup → (text : Option (List ℕ)) → (multiplex : Option Bool) → Route
 route_by hostgroup text multiplex = record { hostgroup = hostgroup; text = text; key = 0; number = 0; multiplex = multiplex; mirror = None }
 
-abbrev pub IsAsPromised : List Rule → ClientNo → (payload : List ℕ) → Verdict → Type 0
-IsAsPromised rules c payload verdicts.Quits = Unit {0}
-IsAsPromised rules c payload (verdicts.Answers told) = IsVerdictFor rules c payload (Tells (payloads_of c.0 told))
-IsAsPromised rules c payload (verdicts.Sends hostgroup text multiplex form) =
-    IsVerdictFor rules c payload (goes_by (route_by hostgroup text multiplex))
+abbrev pub IsAsPromised : Rulebook → (user : List ℕ) → ClientNo → (payload : List ℕ) → Verdict → Type 0
+IsAsPromised book user c payload verdicts.Quits = Unit {0}
+IsAsPromised book user c payload (verdicts.Answers told) = IsVerdictFor book user c payload (Tells (payloads_of c.0 told))
+IsAsPromised book user c payload (verdicts.Sends hostgroup text multiplex form) =
+    IsVerdictFor book user c payload (goes_by (route_by hostgroup text multiplex))

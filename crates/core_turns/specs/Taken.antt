@@ -4,7 +4,6 @@ use Rattle.mx_base.specs.declared.names.ClientNo.{ClientNo}
 use Rattle.mx_base.specs.declared.names.Hostgroup.{Hostgroup}
 use Rattle.packet_frame.specs.Packets.{Framed, spellings}
 use Rattle.own_words.specs.Own.{IsAnswer}
-use Rattle.query_rules.specs.declared.rule.Rule.{Rule}
 use Rattle.server_rule.specs.Classes.{Reads}
 use Rattle.private_model.specs.Commands.{Command}
 use Rattle.log_story.specs.Plan.{Route}
@@ -14,12 +13,13 @@ use Rattle.client_desk.specs.declared.work.Work.{Work}
 use Rattle.stmt_map.specs.declared.client.ClientStatements.{ClientStatements}
 use Rattle.desk_laws.specs.Stands.{IsRequest}
 use Rattle.row_laws.specs.Readied.{AreClasses}
+use Rattle.core_laws.specs.clients.Found.{user_in}
 use Rattle.core_laws.specs.taking.Takes.{is_reset}
 use Rattle.core_tables.specs.Tables.{IsSame, Tabled, client_changed}
 use Rattle.core_tables.specs.Taking.{answers, begins_anew, found_of, goes}
 use Rattle.core_tables.specs.declared.client.Client.{Client}
 use Rattle.router_promises.specs.Verdicts.{Tells}
-use Rattle.core_promises.specs.Judges.{IsVerdictFor, goes_by}
+use Rattle.core_promises.specs.Judges.{IsVerdictFor, Rulebook, goes_by}
 use Rattle.core_turns.specs.declared.turn.Stop.{Stop}
 use Rattle.core_turns.specs.declared.turn.Stop.TheVariants as stops
 use Rattle.core_turns.specs.declared.turn.Turn.{Turn}
@@ -35,10 +35,10 @@ abbrev pub answered_so : (anew : Bool) → ClientNo → (flag : ℕ) → (packet
 answered_so true c flag packets statements t = begins_anew c flag packets statements t
 answered_so false c flag packets statements t = client_changed c (answers flag packets statements) t
 
-pub record IsAnswered (rules : List Rule) (c : ClientNo) (row : Client) (message : Framed) (old new : Tabled) : Type 0 where
+pub record IsAnswered (book : Rulebook) (c : ClientNo) (row : Client) (message : Framed) (old new : Tabled) : Type 0 where
   pub payloads : List (List ℕ)
-  pub own : IsAnswer rules c payloads
-  pub ruled : IsVerdictFor rules c message.payload (Tells payloads)
+  pub own : IsAnswer book.rules c payloads
+  pub ruled : IsVerdictFor book (user_in row.desk.seat.phase) c message.payload (Tells payloads)
   pub flag : ℕ
   pub packets : List ℕ
   pub statements : ClientStatements
@@ -46,11 +46,11 @@ pub record IsAnswered (rules : List Rule) (c : ClientNo) (row : Client) (message
   pub makes : IsSame new (answered_so (is_reset message) c flag packets statements old)
 
 -- It goes to a server in this hostgroup alone, as the verdict says: a statement of it is due.
-pub record IsDueThere (hostgroup : Hostgroup) (ordinal : ℕ) (rules : List Rule) (c : ClientNo) (message : Framed) (old new : Tabled) : Type 0 where
+pub record IsDueThere (hostgroup : Hostgroup) (ordinal : ℕ) (book : Rulebook) (c : ClientNo) (row : Client) (message : Framed) (old new : Tabled) : Type 0 where
   pub route : Route
   pub there : route.hostgroup ≡ hostgroup
   pub single : route.mirror ≡ None
-  pub ruled : IsVerdictFor rules c message.payload (goes_by route)
+  pub ruled : IsVerdictFor book (user_in row.desk.seat.phase) c message.payload (goes_by route)
   pub flag : ℕ
   pub command : Command
   pub work : Work
@@ -71,7 +71,7 @@ abbrev pub IsStopped : Stop → Framed → (old new : Tabled) → Type 0
 IsStopped (stops.Quits flag) message old new = IsQuit message old new
 IsStopped _ message old new = ⊥
 
-abbrev pub IsTakenUp : Turn → (ordinal : ℕ) → List Rule → ClientNo → Client → Framed → (old new : Tabled) → Type 0
-IsTakenUp (turns.Stops stop) ordinal rules c row message old new = IsStopped stop message old new
-IsTakenUp turns.Answered ordinal rules c row message old new = IsAnswered rules c row message old new
-IsTakenUp (turns.Due hostgroup) ordinal rules c row message old new = IsDueThere hostgroup ordinal rules c message old new
+abbrev pub IsTakenUp : Turn → (ordinal : ℕ) → Rulebook → ClientNo → Client → Framed → (old new : Tabled) → Type 0
+IsTakenUp (turns.Stops stop) ordinal book c row message old new = IsStopped stop message old new
+IsTakenUp turns.Answered ordinal book c row message old new = IsAnswered book c row message old new
+IsTakenUp (turns.Due hostgroup) ordinal book c row message old new = IsDueThere hostgroup ordinal book c row message old new

@@ -17,8 +17,9 @@ use Rattle.core_tables.specs.Arrivals.{looked, turn}
 use Rattle.core_tables.specs.Tables.{IsSame, Tabled}
 use Rattle.core_tables.specs.Taking.{IsUpOr}
 use Rattle.core_tables.specs.declared.client.Client.{Client}
+use Rattle.core_laws.specs.clients.Found.{user_at}
 use Rattle.core_laws.specs.clients.Turns.{Answers, Choice, ComesUp, Ends, Goes, GoesBy, Halt, IsLookedAt, IsTurn, MayLeave, Quits, Rests, RestsThere, Turns, Waits, WaitsThere, waits_at}
-use Rattle.core_promises.specs.Judges.{IsVerdictFor, goes_by}
+use Rattle.core_promises.specs.Judges.{IsVerdictFor, Rulebook, goes_by}
 use Rattle.core_promises.specs.Ruled.{AreRuled, IsRuled}
 use Rattle.core_turns.specs.declared.turn.Stop.{Stop}
 use Rattle.core_turns.specs.declared.turn.Stop.TheVariants as stops
@@ -71,20 +72,20 @@ StopsSo Ends service default c old new = IsToEnd service default c old new
 -- Turns by these choices, which are what the verdict says of what came up, and then this end: with the leaving, and but for it.
 
 abbrev pub TurnsBy : Type 1
-TurnsBy = List Rule → List Choice → Halt → Service → (default : List ℕ) → ClientNo → (old new : Tabled) → Type 0
+TurnsBy = Rulebook → List Choice → Halt → Service → (default : List ℕ) → ClientNo → (old new : Tabled) → Type 0
 
 abbrev pub RuledTurns : TurnsBy
-RuledTurns rules choices halt service default c old new =
-    (turns : Turns choices halt service default c old new) × AreRuled rules choices halt service default c old new turns
+RuledTurns book choices halt service default c old new =
+    (turns : Turns choices halt service default c old new) × AreRuled book choices halt service default c old new turns
 
-abbrev pub IsRuledTurn : List Rule → Choice → Service → (default : List ℕ) → ClientNo → (old new : Tabled) → Type 0
-IsRuledTurn rules choice service default c old new =
-    (turn : IsTurn choice service default c old new) × IsRuled rules choice service default c old new turn
+abbrev pub IsRuledTurn : Rulebook → Choice → Service → (default : List ℕ) → ClientNo → (old new : Tabled) → Type 0
+IsRuledTurn book choice service default c old new =
+    (turn : IsTurn choice service default c old new) × IsRuled book choice service default c old new turn
 
 abbrev pub TurnsUntil : TurnsBy
-TurnsUntil rules [] halt service default c old new = StopsSo halt service default c old new
-TurnsUntil rules (choice ∷ others) halt service default c old new =
-    (between : Tabled) × IsRuledTurn rules choice service default c old between × TurnsUntil rules others halt service default c between new
+TurnsUntil book [] halt service default c old new = StopsSo halt service default c old new
+TurnsUntil book (choice ∷ others) halt service default c old new =
+    (between : Tabled) × IsRuledTurn book choice service default c old between × TurnsUntil book others halt service default c between new
 
 -- By what code says of it.
 
@@ -95,18 +96,18 @@ halt_of stops.Ends = Ends
 halt_of (stops.Quits flag) = Quits
 
 -- its statement goes to this hostgroup alone
-pub record IsDueIn (hostgroup : Hostgroup) (rules : List Rule) (service : Service) (default : List ℕ) (c : ClientNo) (old new : Tabled) : Type 0 where
+pub record IsDueIn (hostgroup : Hostgroup) (book : Rulebook) (service : Service) (default : List ℕ) (c : ClientNo) (old new : Tabled) : Type 0 where
   pub route : Route
   pub goes : GoesBy service default route c old new
   pub there : route.hostgroup ≡ hostgroup
   pub single : route.mirror ≡ None
-  pub ruled : IsVerdictFor rules c goes.up.message.payload (goes_by route)
+  pub ruled : IsVerdictFor book (user_at service default goes.up.row) c goes.up.message.payload (goes_by route)
 
-abbrev pub IsTurned : Turn → List Rule → Service → (default : List ℕ) → ClientNo → (old new : Tabled) → Type 0
-IsTurned (turns.Stops stop) rules service default c old new = StopsSo (halt_of stop) service default c old new
-IsTurned turns.Answered rules service default c old new =
-    (payloads : List (List ℕ)) × IsAnswer rules c payloads × IsRuledTurn rules (Answers payloads) service default c old new
-IsTurned (turns.Due hostgroup) rules service default c old new = IsDueIn hostgroup rules service default c old new
+abbrev pub IsTurned : Turn → Rulebook → Service → (default : List ℕ) → ClientNo → (old new : Tabled) → Type 0
+IsTurned (turns.Stops stop) book service default c old new = StopsSo (halt_of stop) service default c old new
+IsTurned turns.Answered book service default c old new =
+    (payloads : List (List ℕ)) × IsAnswer book.rules c payloads × IsRuledTurn book (Answers payloads) service default c old new
+IsTurned (turns.Due hostgroup) book service default c old new = IsDueIn hostgroup book service default c old new
 
 -- One turn, and all that it makes as it goes on, up to where it leaves. No copies are made of its messages, what the router answers is in its
 -- own words, and what becomes of each is what the verdict says.
@@ -115,28 +116,28 @@ abbrev pub IsSaid : List Rule → ClientNo → Choice → Type 0
 IsSaid rules c (Goes route) = route.mirror ≡ None
 IsSaid rules c (Answers payloads) = IsAnswer rules c payloads
 
-pub record HasChosen (rules : List Rule) (service : Service) (default : List ℕ) (c : ClientNo) (old new : Tabled) : Type 0 where
+pub record HasChosen (book : Rulebook) (service : Service) (default : List ℕ) (c : ClientNo) (old new : Tabled) : Type 0 where
   pub choice : Choice
-  pub said : IsSaid rules c choice
-  pub turns : IsRuledTurn rules choice service default c old new
+  pub said : IsSaid book.rules c choice
+  pub turns : IsRuledTurn book choice service default c old new
 
-abbrev pub HasGoneFurther : Option Stop → List Rule → Service → (default : List ℕ) → ClientNo → (old new : Tabled) → Type 0
-HasGoneFurther None rules service default c old new = HasChosen rules service default c old new
-HasGoneFurther (Some stop) rules service default c old new = StopsSo (halt_of stop) service default c old new
+abbrev pub HasGoneFurther : Option Stop → Rulebook → Service → (default : List ℕ) → ClientNo → (old new : Tabled) → Type 0
+HasGoneFurther None book service default c old new = HasChosen book service default c old new
+HasGoneFurther (Some stop) book service default c old new = StopsSo (halt_of stop) service default c old new
 
-pub record HasGone (turns : TurnsBy) (stop : Stop) (rules : List Rule) (service : Service) (default : List ℕ) (c : ClientNo) (old new : Tabled) : Type 0 where
+pub record HasGone (turns : TurnsBy) (stop : Stop) (book : Rulebook) (service : Service) (default : List ℕ) (c : ClientNo) (old new : Tabled) : Type 0 where
   pub going : is_away (old.clients c) ≡ false
   pub choices : List Choice
-  pub said : All (IsSaid rules c) choices
-  pub turned : turns rules choices (halt_of stop) service default c old new
+  pub said : All (IsSaid book.rules c) choices
+  pub turned : turns book choices (halt_of stop) service default c old new
 
 pub record IsAbsent (c : ClientNo) (old new : Tabled) : Type 0 where
   pub away : is_away (old.clients c) ≡ true
   pub same : IsSame new old
 
-abbrev pub HasGoneOn : TurnsBy → Option Went → List Rule → Service → (default : List ℕ) → ClientNo → (old new : Tabled) → Type 0
-HasGoneOn turns None rules service default c old new = IsAbsent c old new
-HasGoneOn turns (Some went) rules service default c old new = HasGone turns went.stop rules service default c old new
+abbrev pub HasGoneOn : TurnsBy → Option Went → Rulebook → Service → (default : List ℕ) → ClientNo → (old new : Tabled) → Type 0
+HasGoneOn turns None book service default c old new = IsAbsent c old new
+HasGoneOn turns (Some went) book service default c old new = HasGone turns went.stop book service default c old new
 
 -- what a client is by which code has it leave
 abbrev pub MayLeaveBy : Stop → Option Client → Type 0
@@ -148,6 +149,6 @@ MayLeaveIf None row = Unit {0}
 MayLeaveIf (Some went) row = MayLeaveBy went.stop row
 
 -- where somebody is there
-abbrev pub IsTurnedIf : Option Turn → List Rule → Service → (default : List ℕ) → ClientNo → (old new : Tabled) → Type 0
-IsTurnedIf None rules service default c old new = IsAbsent c old new
-IsTurnedIf (Some turn) rules service default c old new = (is_away (old.clients c) ≡ false) × IsTurned turn rules service default c old new
+abbrev pub IsTurnedIf : Option Turn → Rulebook → Service → (default : List ℕ) → ClientNo → (old new : Tabled) → Type 0
+IsTurnedIf None book service default c old new = IsAbsent c old new
+IsTurnedIf (Some turn) book service default c old new = (is_away (old.clients c) ≡ false) × IsTurned turn book service default c old new

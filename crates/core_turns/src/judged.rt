@@ -11,7 +11,10 @@ ghost use Rattle.query_rules.specs.Effects.{is_first_flag};
 ghost use Rattle.query_rules.specs.Passing.{rules_of};
 ghost use Rattle.query_rules.specs.declared.rule.Rule.{Rule};
 ghost use Rattle.mx_base.specs.declared.names.ClientNo.{ClientNo};
-ghost use Rattle.core_promises.specs.Judges.{is_of_statement};
+ghost use Rattle.core_laws.specs.clients.Found.{user_in};
+ghost use Rattle.core_promises.specs.Judges.{Rulebook, is_of_statement};
+ghost use Rattle.core_promises.specs.Ruled.{book_of};
+ghost use Rattle.core_service.specs.Serves.{home_in};
 ghost use Rattle.core_turns.specs.Judged.{IsAsPromised, IsDraftFor, IsDraftOn, IsOwnVerdict, IsSayable, IsSendable, IsUnserved, IsVerdictOn, byte_of};
 
 use client_desk::Desk;
@@ -63,7 +66,9 @@ pub(crate) struct Judgement {
 }
 
 // The name with which the client logged in.
-fn user_of(alloc: Global, desk: &Desk) -> Result<Bytes, OutOfMemory> {
+fn user_of(alloc: Global, desk: &Desk) -> Result<Bytes, OutOfMemory>
+    ensures { IfOk result (λ user. user ≡ user_in desk.now.seat.phase) }
+{
     match desk.seat.account() {
         Some(account) => Bytes::from_slice(alloc, account.user()),
         None => Ok(Bytes::new(alloc)),
@@ -72,7 +77,8 @@ fn user_of(alloc: Global, desk: &Desk) -> Result<Bytes, OutOfMemory> {
 
 // The flag by which rules are tried first for a client: the one that a rule left, or 0.
 fn flag_of(service: &Service, desk: &Desk) -> u16
-    ensures { is_first_flag (rules_of service.now.rules) result ≡ true }
+    ensures first { is_first_flag (rules_of service.now.rules) result ≡ true }
+    ensures kept { is_first_flag (rules_of service.now.rules) desk.now.seat.flag ≡ true → result ≡ desk.now.seat.flag }
 {
     if service.rules.is_first_flag(desk.seat.flag) {
         desk.seat.flag
@@ -89,6 +95,8 @@ fn caller_of(
     client: ClientNo,
 ) -> Result<Caller, OutOfMemory>
     ensures client { IfOk result (λ caller. caller.number ≡ client) }
+    ensures login { IfOk result (λ caller. caller.user ≡ user_in desk.now.seat.phase) }
+    ensures home { IfOk result (λ caller. caller.home ≡ home_in service.now.users (user_in desk.now.seat.phase)) }
     ensures flag { IfOk result (λ caller. is_first_flag (rules_of service.now.rules) caller.flag ≡ true) }
 {
     let user = user_of(alloc, desk)?;
@@ -195,8 +203,8 @@ fn sent(
     requires unnumbered { going.number ≡ None }
     ensures is { IfOk result (λ verdict. IsVerdictOn payload.now verdict) }
     ensures own { IfOk result (λ verdict. (rules : List Rule) → IsOwnVerdict rules verdict) }
-    ensures promised { IfOk result (λ verdict. is_of_statement (byte_of payload.now) ≡ false → (rules : List Rule) (c : ClientNo)
-        → IsDraftFor rules c payload.now (drafts.Sends going) → IsAsPromised rules c payload.now verdict) }
+    ensures promised { IfOk result (λ verdict. is_of_statement (byte_of payload.now) ≡ false → (book : Rulebook) (user : List ℕ) (c : ClientNo)
+        → IsDraftFor book user c payload.now (drafts.Sends going) → IsAsPromised book user c payload.now verdict) }
 {
     let session = desk.session(going.hostgroup);
     let is_there = session.home.is_some() || servers.online(going.hostgroup);
@@ -234,8 +242,8 @@ fn verdict_of(
     requires { IsDraftOn payload.now draft }
     ensures is { IfOk result (λ verdict. IsVerdictOn payload.now verdict) }
     ensures own { IfOk result (λ verdict. (rules : List Rule) → IsOwnDraft rules draft → IsOwnVerdict rules verdict) }
-    ensures promised { IfOk result (λ verdict. is_of_statement (byte_of payload.now) ≡ false → (rules : List Rule) (c : ClientNo)
-        → IsDraftFor rules c payload.now draft → IsAsPromised rules c payload.now verdict) }
+    ensures promised { IfOk result (λ verdict. is_of_statement (byte_of payload.now) ≡ false → (book : Rulebook) (user : List ℕ) (c : ClientNo)
+        → IsDraftFor book user c payload.now draft → IsAsPromised book user c payload.now verdict) }
 {
     match draft {
         Draft::Ends => Ok(Verdict::Quits),
@@ -254,7 +262,7 @@ fn drafted(
 ) -> Result<Judged, OutOfMemory>
     ensures is { IfOk result (λ judged. IsDraftOn payload.now judged.draft) }
     ensures own { IfOk result (λ judged. IsOwnDraft (rules_of service.now.rules) judged.draft) }
-    ensures known { IfOk result (λ judged. IsDraftFor (rules_of service.now.rules) client payload.now judged.draft) }
+    ensures known { IfOk result (λ judged. IsDraftFor (book_of service.now) (user_in desk.now.seat.phase) client payload.now judged.draft) }
 {
     let caller = caller_of(alloc, service, desk, client)?;
     let standing = Standing {
@@ -275,7 +283,7 @@ pub(crate) fn judged(
 ) -> Result<Judgement, OutOfMemory>
     ensures is { IfOk result (λ judgement. IsVerdictOn payload.now judgement.verdict) }
     ensures own { IfOk result (λ judgement. IsOwnVerdict (rules_of service.now.rules) judgement.verdict) }
-    ensures promised { IfOk result (λ judgement. IsAsPromised (rules_of service.now.rules) client payload.now judgement.verdict) }
+    ensures promised { IfOk result (λ judgement. IsAsPromised (book_of service.now) (user_in desk.now.seat.phase) client payload.now judgement.verdict) }
 {
     if let Some(told) = unprepared(payload) {
         return Ok(Judgement {

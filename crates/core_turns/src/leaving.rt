@@ -1,8 +1,8 @@
 // A client leaves, or goes on and leaves.
 ghost use Rattle.std.specs.Prelude.{ℕ, IfOk, List, OnOk};
 ghost use Rattle.client_session.specs.Setups as setups;
-ghost use Rattle.query_rules.specs.Passing.{rules_of};
-ghost use Rattle.query_rules.specs.declared.rule.Rule.{Rule};
+ghost use Rattle.core_promises.specs.Ruled.{book_of};
+ghost use Rattle.core_promises.specs.Judges.{Rulebook};
 ghost use Rattle.core_tables.specs.Tables.{Tabled, tables_of};
 ghost use Rattle.core_laws.specs.clients.Turns.{Choice};
 ghost use Rattle.marked_tables.specs.Goes.{GoesOn};
@@ -19,9 +19,9 @@ use std::alloc::Global;
 /// A client leaves behind its turns, where they stopped so that it is to.
 pub fn leave(marked: &mut MarkedTables, client: ClientNo, stop: Stop) -> Result<(), OutOfMemory>
     requires { MayLeaveBy stop ((tables_of marked.old.tables).clients client) }
-    ensures is { OnOk result ((rules : List Rule) (setup : setups.Setup) (default : List ℕ) (choices : List Choice)
-        (before : Tabled) → TurnsUntil rules choices (halt_of stop) setup default client before (tables_of marked.old.tables)
-        → RuledTurns rules choices (halt_of stop) setup default client before (tables_of marked.new.tables)) }
+    ensures is { OnOk result ((book : Rulebook) (setup : setups.Setup) (default : List ℕ) (choices : List Choice)
+        (before : Tabled) → TurnsUntil book choices (halt_of stop) setup default client before (tables_of marked.old.tables)
+        → RuledTurns book choices (halt_of stop) setup default client before (tables_of marked.new.tables)) }
     ensures goes { OnOk result (GoesOn marked.old marked.new) }
 {
     match stop {
@@ -44,7 +44,7 @@ pub fn take_turns(
     alloc: Global,
     client: ClientNo,
 ) -> Result<Option<Went>, OutOfMemory>
-    ensures is { IfOk result (λ went. HasGoneOn RuledTurns went (rules_of service.now.rules) service.now.setup service.now.default_schema
+    ensures is { IfOk result (λ went. HasGoneOn RuledTurns went (book_of service.now) service.now.setup service.now.default_schema
         client (tables_of marked.old.tables) (tables_of marked.new.tables)) }
     ensures goes { OnOk result (GoesOn marked.old marked.new) }
 {

@@ -1,6 +1,6 @@
 // A client's messages are taken up, as many as can be.
 ghost use Rattle.std.specs.Prelude.{IfOk, IsSome, OnOk};
-ghost use Rattle.query_rules.specs.Passing.{rules_of};
+ghost use Rattle.core_promises.specs.Ruled.{book_of};
 ghost use Rattle.core_tables.specs.Tables.{tables_of};
 ghost use Rattle.marked_tables.specs.Goes.{GoesOn};
 ghost use Rattle.core_turns.specs.Turned.{HasGoneFurther, HasGoneOn, MayLeaveIf, TurnsUntil};
@@ -25,7 +25,7 @@ fn go_further(
     due: &mut Option<Hostgroup>,
 ) -> Result<Option<Stop>, OutOfMemory>
     requires { IsSome ((tables_of marked.old.tables).clients client) }
-    ensures is { IfOk result (λ stop. HasGoneFurther stop (rules_of service.now.rules) service.now.setup service.now.default_schema
+    ensures is { IfOk result (λ stop. HasGoneFurther stop (book_of service.now) service.now.setup service.now.default_schema
         client (tables_of marked.old.tables) (tables_of marked.new.tables)) }
     ensures there { OnOk result (IsSome ((tables_of marked.new.tables).clients client)) }
     ensures goes { OnOk result (GoesOn marked.old marked.new) }
@@ -50,7 +50,7 @@ pub fn go_on(
     alloc: Global,
     client: ClientNo,
 ) -> Result<Option<Went>, OutOfMemory>
-    ensures is { IfOk result (λ went. HasGoneOn TurnsUntil went (rules_of service.now.rules) service.now.setup service.now.default_schema
+    ensures is { IfOk result (λ went. HasGoneOn TurnsUntil went (book_of service.now) service.now.setup service.now.default_schema
         client (tables_of marked.old.tables) (tables_of marked.new.tables)) }
     ensures leaves { IfOk result (λ went. MayLeaveIf went ((tables_of marked.new.tables).clients client)) }
     ensures goes { OnOk result (GoesOn marked.old marked.new) }

@@ -1,5 +1,5 @@
 // What becomes of a message is done.
-ghost use Rattle.std.specs.Prelude.{◌≡◌, nat_eq, slice_index_or, IfOk, List, OnOk};
+ghost use Rattle.std.specs.Prelude.{◌≡◌, nat_eq, slice_index_or, IfOk, OnOk};
 ghost use Rattle.std.specs.Option.{option_copied};
 ghost use Rattle.log_story.specs.Plan.{com_reset};
 ghost use Rattle.packet_frame.specs.Packets.{spellings};
@@ -9,9 +9,10 @@ ghost use Rattle.core_tables.specs.Taking.{IsUpOr};
 ghost use Rattle.marked_tables.specs.Goes.{GoesOn};
 ghost use Rattle.message_judge.specs.Told.{IsOwnTold, payloads_of};
 ghost use Rattle.query_rules.specs.Passing.{rules_of};
-ghost use Rattle.query_rules.specs.declared.rule.Rule.{Rule};
 ghost use Rattle.router_promises.specs.Verdicts.{Tells};
-ghost use Rattle.core_promises.specs.Judges.{IsVerdictFor, goes_by};
+ghost use Rattle.core_laws.specs.clients.Found.{user_in};
+ghost use Rattle.core_promises.specs.Judges.{IsVerdictFor, Rulebook, goes_by};
+ghost use Rattle.core_promises.specs.Ruled.{book_of};
 ghost use Rattle.core_turns.specs.Judged.{IsAsPromised, IsOwnVerdict, IsSendable, IsVerdictOn, route_by};
 ghost use Rattle.core_turns.specs.Taken.{IsAnswered, IsDueThere, IsTakenUp, OnUp};
 
@@ -43,7 +44,7 @@ fn judged_of(
     ensures own { IfOk result (λ judgement. OnUp client (tables_of tables.now)
         (λ row message. IsOwnVerdict (rules_of service.now.rules) judgement.verdict)) }
     ensures promised { IfOk result (λ judgement. OnUp client (tables_of tables.now)
-        (λ row message. IsAsPromised (rules_of service.now.rules) client message.payload judgement.verdict)) }
+        (λ row message. IsAsPromised (book_of service.now) (user_in row.desk.seat.phase) client message.payload judgement.verdict)) }
 {
     let Some(row) = tables.clients.get(&client.0) else {
         unreachable!()
@@ -108,9 +109,10 @@ fn answer(
     told: &Told,
 ) -> Result<(), OutOfMemory>
     requires { IsUpOr ((tables_of marked.old.tables).clients client) }
-    ensures is { OnOk result ((rules : List Rule) → IsOwnTold rules told.now
-        → OnUp client (tables_of marked.old.tables) (λ row message. IsVerdictFor rules client message.payload (Tells (payloads_of client.0 told.now))
-        → IsAnswered rules client row message (tables_of marked.old.tables) (tables_of marked.new.tables))) }
+    ensures is { OnOk result ((book : Rulebook) → IsOwnTold book.rules told.now
+        → OnUp client (tables_of marked.old.tables)
+        (λ row message. IsVerdictFor book (user_in row.desk.seat.phase) client message.payload (Tells (payloads_of client.0 told.now))
+        → IsAnswered book client row message (tables_of marked.old.tables) (tables_of marked.new.tables))) }
     ensures goes { OnOk result (GoesOn marked.old marked.new) }
 {
     let packets = packets_of(alloc, &marked.tables, client, told)?;
@@ -145,9 +147,9 @@ fn becomes_due(
     requires up { IsUpOr ((tables_of marked.old.tables).clients client) }
     requires sendable { OnUp client (tables_of marked.old.tables)
         (λ row message. IsSendable message.payload text form) }
-    ensures is { OnOk result ((rules : List Rule) → OnUp client (tables_of marked.old.tables)
-        (λ row message. IsVerdictFor rules client message.payload (goes_by (route_by hostgroup text multiplex))
-        → IsDueThere hostgroup ordinal rules client message (tables_of marked.old.tables) (tables_of marked.new.tables))) }
+    ensures is { OnOk result ((book : Rulebook) → OnUp client (tables_of marked.old.tables)
+        (λ row message. IsVerdictFor book (user_in row.desk.seat.phase) client message.payload (goes_by (route_by hostgroup text multiplex))
+        → IsDueThere hostgroup ordinal book client row message (tables_of marked.old.tables) (tables_of marked.new.tables))) }
     ensures goes { OnOk result (GoesOn marked.old marked.new) }
 {
     let text = text_of(&text);
@@ -169,7 +171,7 @@ pub(crate) fn take_up(
 ) -> Result<Turn, OutOfMemory>
     requires { IsUpOr ((tables_of marked.old.tables).clients client) }
     ensures is { IfOk result (λ turn. OnUp client (tables_of marked.old.tables)
-        (λ row message. IsTakenUp turn ordinal (rules_of service.now.rules) client row message
+        (λ row message. IsTakenUp turn ordinal (book_of service.now) client row message
         (tables_of marked.old.tables) (tables_of marked.new.tables))) }
     ensures goes { OnOk result (GoesOn marked.old marked.new) }
 {

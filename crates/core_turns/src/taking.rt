@@ -1,6 +1,6 @@
 // A client's next message is taken up.
 ghost use Rattle.std.specs.Prelude.{IfOk, IsSome, OnOk};
-ghost use Rattle.query_rules.specs.Passing.{rules_of};
+ghost use Rattle.core_promises.specs.Ruled.{book_of};
 ghost use Rattle.core_tables.specs.Tables.{tables_of};
 ghost use Rattle.marked_tables.specs.Goes.{GoesOn};
 ghost use Rattle.core_turns.specs.Turned.{IsTurned, IsTurnedIf};
@@ -25,7 +25,7 @@ pub(crate) fn take_there(
     client: ClientNo,
 ) -> Result<Turn, OutOfMemory>
     requires { IsSome ((tables_of marked.old.tables).clients client) }
-    ensures is { IfOk result (λ turn. IsTurned turn (rules_of service.now.rules) service.now.setup service.now.default_schema client
+    ensures is { IfOk result (λ turn. IsTurned turn (book_of service.now) service.now.setup service.now.default_schema client
         (tables_of marked.old.tables) (tables_of marked.new.tables)) }
     ensures goes { OnOk result (GoesOn marked.old marked.new) }
 {
@@ -51,7 +51,7 @@ pub fn take_next(
     alloc: Global,
     client: ClientNo,
 ) -> Result<Option<Turn>, OutOfMemory>
-    ensures is { IfOk result (λ turn. IsTurnedIf turn (rules_of service.now.rules) service.now.setup service.now.default_schema
+    ensures is { IfOk result (λ turn. IsTurnedIf turn (book_of service.now) service.now.setup service.now.default_schema
         client (tables_of marked.old.tables) (tables_of marked.new.tables)) }
     ensures goes { OnOk result (GoesOn marked.old marked.new) }
 {

@@ -3,7 +3,6 @@ use Rattle.std.proofs.Common.{refl, ap}
 use Rattle.std.proofs.lemmas.Result.{IfOk-weaker}
 use Rattle.query_rules.specs.Passing.{rules_of}
 use Rattle.message_judge.specs.Judging.{Judged}
-use Rattle.message_judge.specs.declared.caller.Standing.{Standing}
 use Rattle.core_turns.proofs.Drafts.{drafted-so}
 use Rattle.core_turns.proofs.judged.drafted.Goals as goal
 
@@ -18,6 +17,8 @@ returns-clause-known c = IfOk-weaker c.judge.result _ _
       caller = c.in_ok-caller.caller;
       standing = record { transaction = c.transaction.result; next_number = None };
       client = c.in_ok-caller.ensures.client;
+      login = c.in_ok-caller.ensures.login;
+      home = c.in_ok-caller.ensures.home;
       flag = c.in_ok-caller.ensures.flag;
       is = ap (λ (j : Judged). j.draft) is;
     }) c.judge.ensures.is

@@ -8,11 +8,11 @@ pub returns-in-Some-clause-own : goal.returns-in-Some-clause-own
 returns-in-Some-clause-own c = λ rules number. Refuses (payload_of c.in-Some.why) (c.in-Some.ensures.own rules)
 
 pub returns-in-Some-clause-promised : goal.returns-in-Some-clause-promised
-returns-in-Some-clause-promised c = λ served rules client known.
-    refused-so rules client c.args.payload.now c.args.going known served (option_copied c.class_of.result) c.class_of.ensures c.session-session.result.pin
+returns-in-Some-clause-promised c = λ served book user client known.
+    refused-so book user client c.args.payload.now c.args.going known served (option_copied c.class_of.result) c.class_of.ensures c.session-session.result.pin
     c.if-is_some.is_there c.admit.result c.admit.ensures.is c.in-Some.why c.in-Some.is
 
 pub returns-clause-promised : goal.returns-clause-promised
-returns-clause-promised c = λ served rules client known.
-    sends-so rules client c.args.payload.now c.args.going known served (option_copied c.class_of.result) c.class_of.ensures c.session-session.result.pin
+returns-clause-promised c = λ served book user client known.
+    sends-so book user client c.args.payload.now c.args.going known served (option_copied c.class_of.result) c.class_of.ensures c.session-session.result.pin
     c.if-is_some.is_there c.admit.result c.admit.ensures.is c.in_default.is c.requires.unnumbered

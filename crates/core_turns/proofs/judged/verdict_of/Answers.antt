@@ -5,6 +5,6 @@ use Rattle.core_turns.proofs.Promised.{answers-so}
 use Rattle.core_turns.proofs.judged.verdict_of.Goals as goal
 
 pub returns-in-Answers-clause-promised : goal.returns-in-Answers-clause-promised
-returns-in-Answers-clause-promised c = λ served rules client known.
-    answers-so rules client c.args.payload.now c.in-Answers.told
-    (subst (λ (draft : Draft). IsDraftFor rules client c.args.payload.now draft) c.in-Answers.is known) served
+returns-in-Answers-clause-promised c = λ served book user client known.
+    answers-so book user client c.args.payload.now c.in-Answers.told
+    (subst (λ (draft : Draft). IsDraftFor book user client c.args.payload.now draft) c.in-Answers.is known) served

@@ -1,6 +1,6 @@
 use Rattle.std.specs.Prelude.{Option}
 use Rattle.std.proofs.Common.{subst, sym, ◌∙◌}
-use Rattle.query_rules.specs.Passing.{rules_of}
+use Rattle.core_promises.specs.Ruled.{book_of}
 use Rattle.core_tables.specs.Tables.{tables_of}
 use Rattle.core_turns.specs.Turned.{HasGoneFurther}
 use Rattle.core_turns.specs.declared.turn.Stop.{Stop}
@@ -9,13 +9,13 @@ use Rattle.core_turns.proofs.onward.go_on.Goals as goal
 
 pub returns-in-Some-clause-is : goal.returns-in-Some-clause-is
 returns-in-Some-clause-is c =
-    gone-so (rules_of c.args.service.now.rules) c.args.service.now.setup c.args.service.now.default_schema c.args.client c.in-Some.stop c.args.marked.now c.turns.marked c.go_further.new.marked
+    gone-so (book_of c.args.service.now) c.args.service.now.setup c.args.service.now.default_schema c.args.client c.in-Some.stop c.args.marked.now c.turns.marked c.go_further.new.marked
     (sym c.is_away.ensures ∙ c.if-is_away.false) c.turns.invariant
-    (subst (λ (o : Option Stop). HasGoneFurther o (rules_of c.args.service.now.rules) c.args.service.now.setup c.args.service.now.default_schema c.args.client (tables_of c.turns.marked.tables)
+    (subst (λ (o : Option Stop). HasGoneFurther o (book_of c.args.service.now) c.args.service.now.setup c.args.service.now.default_schema c.args.client (tables_of c.turns.marked.tables)
     (tables_of c.go_further.new.marked.tables)) c.in-Some.is c.in_ok-stop.ensures.is)
 
 pub turns-preserved : goal.turns-preserved
 turns-preserved c =
-    goes-on (rules_of c.args.service.now.rules) c.args.service.now.setup c.args.service.now.default_schema c.args.client c.args.marked.now c.turns.marked c.go_further.new.marked c.turns.invariant
-    (subst (λ (o : Option Stop). HasGoneFurther o (rules_of c.args.service.now.rules) c.args.service.now.setup c.args.service.now.default_schema c.args.client (tables_of c.turns.marked.tables)
+    goes-on (book_of c.args.service.now) c.args.service.now.setup c.args.service.now.default_schema c.args.client c.args.marked.now c.turns.marked c.go_further.new.marked c.turns.invariant
+    (subst (λ (o : Option Stop). HasGoneFurther o (book_of c.args.service.now) c.args.service.now.setup c.args.service.now.default_schema c.args.client (tables_of c.turns.marked.tables)
     (tables_of c.go_further.new.marked.tables)) c.in_default.is c.in_ok-stop.ensures.is) c.in_ok-stop.ensures.goes

@@ -3,7 +3,7 @@ use Rattle.std.proofs.Common.{sym, subst, ◌∙◌}
 use Rattle.std.proofs.lemmas.Result.{IfOk-weaker, on_ok_weaker}
 use Rattle.client_seat.specs.declared.next.Next.{Next}
 use Rattle.client_seat.specs.declared.next.Next.TheVariants as next
-use Rattle.query_rules.specs.Passing.{rules_of}
+use Rattle.core_promises.specs.Ruled.{book_of}
 use Rattle.core_tables.specs.Arrivals.{IsUpIn, looked, next_of}
 use Rattle.core_tables.specs.Tables.{IsSame, Tabled, tables_of}
 use Rattle.marked_tables.proofs.Going.{goes_along}
@@ -51,7 +51,7 @@ returns-in-Message-clause-is c =
     let up : IsUpIn (next.Message c.in-Message.ordinal) (between.clients c.args.client) =
     subst (λ (n : Next). IsUpIn n (between.clients c.args.client)) c.in-Message.is c.in_ok-look.ensures.up in
     IfOk-weaker c.take_up.result _ _
-    (λ turned taken. taken-next c.args.service.now.setup c.args.service.now.default_schema c.args.client old between at.0 at.1 same (rules_of c.args.service.now.rules) c.in-Message.ordinal turned _
+    (λ turned taken. taken-next c.args.service.now.setup c.args.service.now.default_schema c.args.client old between at.0 at.1 same (book_of c.args.service.now) c.in-Message.ordinal turned _
     able said up taken) c.take_up.ensures.is
 
 pub returns-in-Message-clause-goes : goal.returns-in-Message-clause-goes
