@@ -10,7 +10,8 @@ use Rattle.query_rules.specs.declared.rule.Rule.{Rule}
 use Rattle.tale_world.specs.Decided.{Decided, plan_of}
 use Rattle.core_promises.proofs.Apart.{apart}
 use Rattle.core_promises.specs.Sessions.{ServesApart}
-use Rattle.core_promises.specs.Judges.{JudgesBy}
+use Rattle.core_promises.specs.Judges.{JudgesBy, Rulebook, rulebook_of}
+use Rattle.core_promises.specs.Ruled.{book_of}
 use Rattle.core_promises.specs.Waits.{AreDoneBy}
 use Rattle.core_service.specs.Serves.{ServesBy}
 use Rattle.core_service.specs.declared.service.Service.{Service}
@@ -63,12 +64,16 @@ classes = record { class = λ text. refl; hides = λ text. refl }
 fits-of : (log : Log) → AllLawful MayFollow log → AllLawful Fits log
 fits-of log follows = lawful-each MayFollow (AllLawful Fits) log (λ l e may fit. lawful-more Fits l e fit may.fits) tt follows
 
--- what a router of a log has, by how clients log in, the default schema and the rules
-record Served (setup : Setup) (default : List ℕ) (rules : List Rule) (log : Log) (t : Tabled) (roomy : ClientNo → Bool) : Type 0 where
+-- what its messages are judged by is what the configuration has
+book-is : (config : Config) (service : Service) → ServesBy config service → book_of service ≡ rulebook_of (router_by config service)
+book-is config service by = λ i. record { rules = rules_of service.rules; home = λ user. by.homes user i }
+
+-- what a router of a log has, by how clients log in, the default schema, and what messages are judged by
+record Served (setup : Setup) (default : List ℕ) (book : Rulebook) (log : Log) (t : Tabled) (roomy : ClientNo → Bool) : Type 0 where
   core : IsCore setup default log t roomy
   single : (m : MessageName) (route : Route) → core.decided.routes m ≡ Some (Some route) → route.mirror ≡ None
-  judges : JudgesBy rules default core.decided log
-  speaks : SpeaksOwn rules (plan_of core.decided)
+  judges : JudgesBy book default core.decided log
+  speaks : SpeaksOwn book.rules (plan_of core.decided)
   waited : AreDoneBy default core.decided log
 
 -- what was decided to be said are the router's own words
@@ -81,7 +86,7 @@ speaks_so rules d spoken = record { own = λ m answer is. own m answer (d.own m)
   own m answer (Some (Some other)) there is = spoken.own m answer (there ∙ ap Some is)
 
 served_by : (service : Service) (log : Log) (t : Tabled) (roomy : ClientNo → Bool) → IsRouter service log t roomy
-    → Served service.setup service.default_schema (rules_of service.rules) log t roomy
+    → Served service.setup service.default_schema (book_of service) log t roomy
 served_by service log t roomy is = record {
   core = is.core;
   single = is.recorded.alone;
@@ -94,8 +99,10 @@ apart_of : (config : Config) (service : Service) (log : Log) (t : Tabled) (roomy
     → IsRouter service log t roomy → ServesApart config log
 apart_of config service log t roomy by stands =
     let router : Router = router_by config service in
-    let kept : Served service.setup service.default_schema (rules_of service.rules) log t roomy = served_by service log t roomy stands in
-    let is : Served (service_of router) config.proxy.default_schema router.rules log t roomy = rw (by.setup, by.default_schema) at kept in
+    let kept : Served service.setup service.default_schema (rulebook_of router) log t roomy =
+    subst (λ (book : Rulebook). Served service.setup service.default_schema book log t roomy) (book-is config service by)
+    (served_by service log t roomy stands) in
+    let is : Served (service_of router) config.proxy.default_schema (rulebook_of router) log t roomy = rw (by.setup, by.default_schema) at kept in
     record {
       router = router;
       configured = configured_by config service by;

@@ -23,6 +23,7 @@ use Rattle.core_laws.specs.entry.Cores.{with_entry}
 use Rattle.router_laws.specs.decisions.Routers.{IsRouter}
 use Rattle.router_laws.specs.wakes.Calling.{Caller, GivesUpAll, IsThere, is_called, is_given}
 use Rattle.query_rules.specs.Passing.{rules_of}
+use Rattle.core_promises.specs.Ruled.{book_of}
 use Rattle.router_laws.specs.decisions.Rulings.{AreRuledAll}
 use Rattle.router_laws.specs.decisions.Speaks.{IsGivenOurs}
 use Rattle.router_laws.specs.waits.Drained.{IsDrainedFor}
@@ -220,7 +221,7 @@ Fails = (service : Service) (log : Log) (t now : Tabled) (roomy : ClientNo → B
     (callers : List Caller) (links : List LinkId) (server : ServerId) (address : Address) → IsRouter service log t roomy
     → MayFollow log (OpenFailed server address) → (fails : FailsSo service.setup service.default_schema given callers links t now) → All IsGivenOurs given
     → All (IsCallerOurs (rules_of service.rules)) callers
-    → AreRuledAll (rules_of service.rules) callers service.setup service.default_schema fails.late fails.calls.turned fails.calls.going
+    → AreRuledAll (book_of service) callers service.setup service.default_schema fails.late fails.calls.turned fails.calls.going
     → IsRouter service (with_entry log (OpenFailed server address)) now roomy
 
 pub fails_carries : Fails → (service : Service) (server : ServerId) (old new : Router) → HasFailed service (tables old) (tables new)
@@ -235,7 +236,7 @@ Wakes = (service : Service) (log : Log) (t now : Tabled) (roomy room : ClientNo 
     (callers : List Caller) (links : List LinkId) (until_ms now_ms : ℕ) → IsRouter service log t roomy → MayFollow log (Woke until_ms now_ms)
     → IsDrainedFor t log → (wakes : WakesSo service.setup service.default_schema given callers links roomy t now) → All IsGivenOurs given
     → All (IsCallerOurs (rules_of service.rules)) callers
-    → AreRuledAll (rules_of service.rules) callers service.setup service.default_schema wakes.late wakes.calls.turned wakes.calls.going
+    → AreRuledAll (book_of service) callers service.setup service.default_schema wakes.late wakes.calls.turned wakes.calls.going
     → IsRouter service (with_entry log (Woke until_ms now_ms)) now room
 
 pub wakes_carries : Wakes → (service : Service) (now_ms : ℕ) (old new : Router) → HasWoken service old.roomy (tables old) (tables new)

@@ -35,7 +35,7 @@ use Rattle.router_laws.specs.clients.Plans.{nobody}
 use Rattle.router_laws.specs.clients.Speaks.{IsLinkOf, SpeaksSo}
 use Rattle.router_laws.specs.entering.Rooms.{OthersLack}
 use Rattle.query_rules.specs.Passing.{rules_of}
-use Rattle.core_promises.specs.Ruled.{AreRuled}
+use Rattle.core_promises.specs.Ruled.{AreRuled, book_of}
 use Rattle.router_laws.specs.decisions.Speaks.{IsOurs, IsPartingOurs}
 use Rattle.router_laws.specs.decisions.Routers.{IsRouter}
 use Rattle.router_laws.specs.routers.Somehow.{AreLinked, IsLinked}
@@ -68,7 +68,7 @@ Speaks = (service : Service) (log : Log) (t now : Tabled) (roomy room : ClientNo
     → (so : SpeaksSo service.setup service.default_schema link bytes c ordinal choices halt parting links t now)
     → All (IsOurs (rules_of service.rules) c) choices → IsPartingOurs parting
     → OthersLack c roomy room
-    → AreRuled (rules_of service.rules) choices halt service.setup service.default_schema c so.heard so.follows.turned so.follows.turns
+    → AreRuled (book_of service) choices halt service.setup service.default_schema c so.heard so.follows.turned so.follows.turns
     → IsRouter service (with_entry log (entry.Got link bytes)) now room
 
 abbrev pub Again : Type 0
@@ -88,7 +88,7 @@ Going = (service : Service) (log : Log) (e : Entry) (t now : Tabled) (roomy room
     → (so : LeavesGoing service.setup service.default_schema link links ordinal choices halt parting c t now)
     → All (IsOurs (rules_of service.rules) c) choices → IsPartingOurs parting
     → OthersLack c roomy room
-    → AreRuled (rules_of service.rules) choices halt service.setup service.default_schema c so.between so.follows.turned so.follows.turns
+    → AreRuled (book_of service) choices halt service.setup service.default_schema c so.between so.follows.turned so.follows.turns
     → IsRouter service (with_entry log e) now room
 
 abbrev pub Linked : Type 0

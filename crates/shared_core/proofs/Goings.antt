@@ -12,7 +12,8 @@ use Rattle.client_seat.specs.Seats.{ended, is_ended}
 use Rattle.core_service.specs.declared.service.Service.{Service}
 use Rattle.query_rules.specs.Passing.{rules_of}
 use Rattle.query_rules.specs.declared.rule.Rule.{Rule}
-use Rattle.core_promises.specs.Ruled.{AreRuled}
+use Rattle.core_promises.specs.Judges.{Rulebook}
+use Rattle.core_promises.specs.Ruled.{AreRuled, book_of}
 use Rattle.router_laws.specs.decisions.Rulings.{AreRuledAll}
 use Rattle.router_laws.specs.decisions.Speaks.{IsOurs}
 use Rattle.core_tables.specs.Parting.{left_in}
@@ -104,11 +105,11 @@ rests-behind setup default c choices Quits old mid turns = tt
 rests-behind setup default c choices Ends old mid turns = tt
 
 pub gone-so : (service : Service) (c : ClientNo) (ends : Bool) (took : Option Went) (went : Went) (old mid new : Tabled) → took ≡ Some went
-    → HasGoneOn RuledTurns took (rules_of service.rules) service.setup service.default_schema c old mid
+    → HasGoneOn RuledTurns took (book_of service) service.setup service.default_schema c old mid
     → (RestsBehind (halt_of went.stop) c mid → HasParted c ends (halt_of went.stop) mid new) → HasGone service c ends old new
 gone-so service c ends took went old mid new is gone parts =
-    let P : Option Went → Type 0 = λ o. HasGoneOn RuledTurns o (rules_of service.rules) service.setup service.default_schema c old mid in
-    let on : turned.HasGone RuledTurns went.stop (rules_of service.rules) service.setup service.default_schema c old mid = subst P is gone in
+    let P : Option Went → Type 0 = λ o. HasGoneOn RuledTurns o (book_of service) service.setup service.default_schema c old mid in
+    let on : turned.HasGone RuledTurns went.stop (book_of service) service.setup service.default_schema c old mid = subst P is gone in
     let parted : HasParted c ends (halt_of went.stop) mid new =
     parts (rests-behind service.setup service.default_schema c on.choices (halt_of went.stop) old mid on.turned.0) in
     record {
@@ -130,9 +131,9 @@ away-going (Some row) away going = by (is_ended row.desk.seat.phase) away going 
   by false is off = let e = is in cc
 
 pub absent-so : (service : Service) (c : ClientNo) (ends : Bool) (took : Option Went) (old mid new : Tabled) → took ≡ None
-    → HasGoneOn RuledTurns took (rules_of service.rules) service.setup service.default_schema c old mid → is_going (old.clients c) ≡ true → HasGone service c ends old new
+    → HasGoneOn RuledTurns took (book_of service) service.setup service.default_schema c old mid → is_going (old.clients c) ≡ true → HasGone service c ends old new
 absent-so service c ends took old mid new is gone going =
-    let P : Option Went → Type 0 = λ o. HasGoneOn RuledTurns o (rules_of service.rules) service.setup service.default_schema c old mid in
+    let P : Option Went → Type 0 = λ o. HasGoneOn RuledTurns o (book_of service) service.setup service.default_schema c old mid in
     let absent : turned.IsAbsent c old mid = subst P is gone in
     absurd (away-going (old.clients c) absent.away going)
 
@@ -173,24 +174,24 @@ followed-so service c ends homes old mid new are gone freed going = by (old.clie
 -- Several do.
 
 -- who goes on last, behind others, by rules
-abbrev pub GoesRuled : List Rule → Caller → Setup → (default : List ℕ) → (old new : Tabled) → Type 0
-GoesRuled rules k setup default old new =
-    (goes : CallerGoesOn setup default k old new) × AreRuled rules k.choices k.halt setup default k.client old goes.turned goes.turns
+abbrev pub GoesRuled : Rulebook → Caller → Setup → (default : List ℕ) → (old new : Tabled) → Type 0
+GoesRuled book k setup default old new =
+    (goes : CallerGoesOn setup default k old new) × AreRuled book k.choices k.halt setup default k.client old goes.turned goes.turns
 
-abbrev pub AllGoRuled : List Rule → List Caller → Setup → (default : List ℕ) → (old new : Tabled) → Type 0
-AllGoRuled rules callers setup default old new =
-    (going : AllGoOn callers setup default old new) × AreRuledAll rules callers setup default old new going
+abbrev pub AllGoRuled : Rulebook → List Caller → Setup → (default : List ℕ) → (old new : Tabled) → Type 0
+AllGoRuled book callers setup default old new =
+    (going : AllGoOn callers setup default old new) × AreRuledAll book callers setup default old new going
 
-gone-along : (rules : List Rule) (callers : List Caller) (last : Caller) (setup : Setup) (default : List ℕ) (old mid new : Tabled)
-    → AllGoRuled rules callers setup default old mid → GoesRuled rules last setup default mid new
-    → AllGoRuled rules (callers ++ last ∷ []) setup default old new
-gone-along rules [] last setup default old mid new all goes =
-    let P : Tabled → Type 0 = λ t. GoesRuled rules last setup default t new in
-    let first : GoesRuled rules last setup default old new = subst P (tables_are mid old all.0) goes in
+gone-along : (book : Rulebook) (callers : List Caller) (last : Caller) (setup : Setup) (default : List ℕ) (old mid new : Tabled)
+    → AllGoRuled book callers setup default old mid → GoesRuled book last setup default mid new
+    → AllGoRuled book (callers ++ last ∷ []) setup default old new
+gone-along book [] last setup default old mid new all goes =
+    let P : Tabled → Type 0 = λ t. GoesRuled book last setup default t new in
+    let first : GoesRuled book last setup default old new = subst P (tables_are mid old all.0) goes in
     ((new, first.0, same-itself new), (first.1, tt))
-gone-along rules (k ∷ ks) last setup default old mid new all goes =
-    let rest : AllGoRuled rules (ks ++ last ∷ []) setup default all.0.0 new =
-    gone-along rules ks last setup default all.0.0 mid new (all.0.2, all.1.1) goes in
+gone-along book (k ∷ ks) last setup default old mid new all goes =
+    let rest : AllGoRuled book (ks ++ last ∷ []) setup default all.0.0 new =
+    gone-along book ks last setup default all.0.0 mid new (all.0.2, all.1.1) goes in
     ((all.0.0, all.0.1, rest.0), (all.1.0, rest.1))
 
 named-along : (callers : List Caller) (last : Caller)
@@ -205,8 +206,8 @@ one-more : (service : Service) (clients : List ClientNo) (c : ClientNo) (ends : 
     → HasGone service c ends mid new → HaveGone service (clients ++ c ∷ []) old new
 one-more service clients c ends old mid new before gone =
     let last : Caller = record { client = c; choices = gone.choices; halt = gone.halt; parting = gone.parting } in
-    let along : AllGoRuled (rules_of service.rules) (before.callers ++ last ∷ []) service.setup service.default_schema old new =
-    gone-along (rules_of service.rules) before.callers last service.setup service.default_schema old mid new (before.going, before.ruled)
+    let along : AllGoRuled (book_of service) (before.callers ++ last ∷ []) service.setup service.default_schema old new =
+    gone-along (book_of service) before.callers last service.setup service.default_schema old mid new (before.going, before.ruled)
     (gone.goes, gone.ruled) in
     record {
       callers = before.callers ++ last ∷ [];

@@ -29,7 +29,8 @@ use Rattle.core_laws.specs.entry.Cores.{with_entry}
 use Rattle.router_laws.specs.reading.Givings.{MayGiveUp}
 use Rattle.router_laws.specs.reading.Givings.{MayBeGivenUp}
 use Rattle.query_rules.specs.Passing.{rules_of}
-use Rattle.query_rules.specs.declared.rule.Rule.{Rule}
+use Rattle.core_promises.specs.Ruled.{book_of}
+use Rattle.core_promises.specs.Judges.{Rulebook}
 use Rattle.router_laws.specs.decisions.Rulings.{IsRuledOn}
 use Rattle.router_laws.specs.decisions.Speaks.{AreGivenOurs, AreGoingOurs}
 use Rattle.router_laws.specs.reading.Hears.{HearsRuled, HearsSo}
@@ -43,13 +44,13 @@ use Rattle.shared_core.specs.declared.router.Router.{Router}
 
 abbrev pub Hears : Type 0
 Hears =
-    (rules : List Rule) (service : Setup) (default : List ℕ) (l : LinkId) (bytes : List ℕ) (clock : ℕ) (given : Option GivenUp) (going : Option Going)
+    (book : Rulebook) (service : Setup) (default : List ℕ) (l : LinkId) (bytes : List ℕ) (clock : ℕ) (given : Option GivenUp) (going : Option Going)
     (server : Server) (said : Said) (old heard mid freed now : Tabled) → old.links l ≡ Some server → server.row.lost ≡ false
     → server.row.link.spoilt ≡ false → IsHeard l bytes clock said heard old → MayGiveUp given heard
     → IsSame mid (given_up_in (told_to given) heard) → IsSame freed (freed_in l mid)
     → IsCalled (name_in server.row.link.state.carries) given freed (option_map (λ (g : Going). g.client) going)
-    → (goes : GoesSo going service default freed now) → IsRuledOn rules going service default freed now goes
-    → HearsRuled rules service default l bytes clock given going old now
+    → (goes : GoesSo going service default freed now) → IsRuledOn book going service default freed now goes
+    → HearsRuled book service default l bytes clock given going old now
 
 abbrev pub StillGoes : Type 0
 StillGoes =
@@ -62,7 +63,7 @@ Routes =
     (given : Option GivenUp) (going : Option Going) → IsRouter service log t roomy → MayFollow log (entry.Got l bytes)
     → AreBytes bytes → (so : HearsSo service.setup service.default_schema l bytes clock given going t now) → AreGivenOurs given
     → AreGoingOurs (rules_of service.rules) going
-    → IsRuledOn (rules_of service.rules) going service.setup service.default_schema so.freed now so.goes → IsRouter service (with_entry log (entry.Got l bytes)) now roomy
+    → IsRuledOn (book_of service) going service.setup service.default_schema so.freed now so.goes → IsRouter service (with_entry log (entry.Got l bytes)) now roomy
 
 -- What is given up may be, and who is called for that goes on still.
 
@@ -115,9 +116,9 @@ heard_so hears still service link bytes old new name said given heard mid freed 
     let goes_on : HasCalled service name gives.told freed (tables new) =
     calls gives.told gives.its (for_then name heard freed given (λ c. still link gives.told heard mid freed c gives.same frees) may) in
     let named : name ≡ name_in at.0.row.link.state.carries = carried ∙ ap carried_at at.1 in
-    let all : HearsRuled (rules_of service.rules) service.setup service.default_schema link bytes old.clock gives.told goes_on.going (tables old)
+    let all : HearsRuled (book_of service) service.setup service.default_schema link bytes old.clock gives.told goes_on.going (tables old)
     (tables new) =
-    hears (rules_of service.rules) service.setup service.default_schema link bytes old.clock gives.told goes_on.going at.0 said (tables old) heard mid
+    hears (book_of service) service.setup service.default_schema link bytes old.clock gives.told goes_on.going at.0 said (tables old) heard mid
     freed (tables new) at.1 (unlike at.0.row.lost two.0) (unlike at.0.row.link.spoilt two.1) is (may_of name heard gives.told given gives.its may)
     gives.same frees
     (subst (λ (n : Option SessionName). IsCalled n gives.told freed (option_map (λ (g : Going). g.client) goes_on.going)) named goes_on.called)

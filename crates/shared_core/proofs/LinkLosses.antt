@@ -28,6 +28,7 @@ use Rattle.core_laws.specs.clients.Going.{GivenUp, Going, IsCalled, is_going, to
 use Rattle.core_laws.specs.entry.Cores.{with_entry}
 use Rattle.core_laws.specs.entry.Freeing.{all_freed}
 use Rattle.query_rules.specs.Passing.{rules_of}
+use Rattle.core_promises.specs.Ruled.{book_of}
 use Rattle.router_laws.specs.decisions.Rulings.{IsRuledOn}
 use Rattle.router_laws.specs.decisions.Speaks.{AreGivenOurs, AreGoingOurs}
 use Rattle.router_laws.specs.decisions.Routers.{IsRouter}
@@ -49,7 +50,7 @@ Routes =
     (service : Service) (log : Log) (t now : Tabled) (roomy : ClientNo → Bool) (l : LinkId) (how : Break)
     (given : Option GivenUp) (going : Option Going) → IsRouter service log t roomy → MayFollow log (entry_by how l)
     → AreGivenOurs given → AreGoingOurs (rules_of service.rules) going → (so : LosesSo service.setup service.default_schema l given going t now)
-    → IsRuledOn (rules_of service.rules) going service.setup service.default_schema so.lost now so.goes
+    → IsRuledOn (book_of service) going service.setup service.default_schema so.lost now so.goes
     → IsRouter service (with_entry log (entry_by how l)) now roomy
 
 abbrev pub EndedRoutes : Type 0

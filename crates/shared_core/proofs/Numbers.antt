@@ -9,6 +9,7 @@ use Rattle.std.specs.declared.cmp.Ordering.TheVariants.{Less, Equal, Greater}
 use Rattle.std.proofs.Common.{refl, sym, ap, ◌∙◌, subst, append-nil}
 use Rattle.std.proofs.lemmas.Bool.{eq-eqb, true≢false}
 use Rattle.std.proofs.lemmas.Cmp.{ranked}
+use Rattle.std.proofs.lemmas.List.{append_assoc}
 use Rattle.std.proofs.lemmas.List.Elements.{All-cons, All-nil}
 use Rattle.std.proofs.lemmas.Map.Keys.{sorted_head, sorted_tail}
 use Rattle.private_model.proofs.Maps.{client_of}
@@ -20,7 +21,7 @@ use Rattle.core_laws.specs.clients.Going.{is_going}
 use Rattle.router_laws.specs.wakes.Calling.{IsThere}
 use Rattle.shared_core.specs.Follows.{AreRising, is_of}
 use Rattle.shared_core.specs.Stands.{is_roomy}
-use Rattle.shared_core.specs.Wakes.{AreCalled, going_in}
+use Rattle.shared_core.specs.Wakes.{AreCalled, going_in, going_more}
 use Rattle.shared_core.specs.declared.roomy.Roomy.{Roomy}
 use Rattle.shared_core.proofs.Rooming.{any_more, or_true}
 
@@ -70,6 +71,16 @@ pub going_rise : (t : Tabled) (ns left : List ℕ) (clients : List ClientNo) →
 going_rise t ns left clients none is sorted =
     let all : going_in t ns ≡ clients = sym is ∙ (ap (λ (ks : List ℕ). clients ++ going_in t ks) none ∙ append-nil clients) in
     subst AreRising all (going_rises t ns sorted)
+
+pub going_goes_on : (t : Tabled) (n : ℕ) (before left : List ℕ) (clients now all : List ClientNo) → before ≡ n ∷ left
+    → now ≡ going_more t (record { 0 = n }) clients → clients ++ going_in t before ≡ all → now ++ going_in t left ≡ all
+going_goes_on t n before left clients now all next kept was =
+    ap (λ (cs : List ClientNo). cs ++ going_in t left) kept ∙ (by (is_going (t.clients (record { 0 = n })))
+    ∙ (ap (λ (ns : List ℕ). clients ++ going_in t ns) (sym next) ∙ was)) where
+      by : (b : Bool) → (if b then clients ++ record { 0 = n } ∷ [] else clients) ++ going_in t left
+          ≡ clients ++ (if b then record { 0 = n } ∷ going_in t left else going_in t left)
+      by true = append_assoc clients (record { 0 = n } ∷ []) (going_in t left)
+      by false = refl
 
 going_there : (t : Tabled) (ns : List ℕ) → All (λ (c : ClientNo). IsThere t c) (going_in t ns)
 going_there t [] = All-nil _

@@ -12,7 +12,7 @@ use Rattle.router_laws.specs.clients.Leaves.{LeavesAtOnce, LeavesGoing, is_at_re
 use Rattle.router_laws.specs.clients.Plans.{nobody}
 use Rattle.router_laws.specs.clients.Speaks.{SpeaksSo}
 use Rattle.query_rules.specs.Passing.{rules_of}
-use Rattle.core_promises.specs.Ruled.{AreRuled}
+use Rattle.core_promises.specs.Ruled.{AreRuled, book_of}
 use Rattle.router_laws.specs.decisions.Speaks.{IsOurs, IsPartingOurs}
 use Rattle.shared_core.specs.declared.leaving.Leaving.{Leaving}
 use Rattle.shared_core.specs.declared.leaving.Leaving.TheVariants as leaving
@@ -27,7 +27,7 @@ pub record HasSpoken (service : Service) (link : LinkId) (bytes : List ℕ) (c :
   pub ours : All (IsOurs (rules_of service.rules) c) choices
   pub word : IsPartingOurs parting
   pub so : SpeaksSo service.setup service.default_schema link bytes c ordinal choices halt parting links old new
-  pub ruled : AreRuled (rules_of service.rules) choices halt service.setup service.default_schema c so.heard so.follows.turned so.follows.turns
+  pub ruled : AreRuled (book_of service) choices halt service.setup service.default_schema c so.heard so.follows.turned so.follows.turns
 
 -- it goes on, and waits for an answer or isn't logged in
 pub record IsBusy (row : Client) : Type 0 where
@@ -62,4 +62,4 @@ pub record HasLeftGoing (service : Service) (link : LinkId) (c : ClientNo) (old 
   pub ours : All (IsOurs (rules_of service.rules) c) choices
   pub word : IsPartingOurs parting
   pub so : LeavesGoing service.setup service.default_schema link links ordinal choices halt parting c old new
-  pub ruled : AreRuled (rules_of service.rules) choices halt service.setup service.default_schema c so.between so.follows.turned so.follows.turns
+  pub ruled : AreRuled (book_of service) choices halt service.setup service.default_schema c so.between so.follows.turned so.follows.turns

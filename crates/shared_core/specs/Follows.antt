@@ -17,7 +17,7 @@ use Rattle.core_laws.specs.clients.Going.{GivenUp, GoesSo, Going, IsCalled, is_g
 use Rattle.core_laws.specs.clients.Turns.{Choice, Halt, MayLeave, Rests}
 use Rattle.own_words.specs.Own.{IsFailure}
 use Rattle.query_rules.specs.Passing.{rules_of}
-use Rattle.core_promises.specs.Ruled.{AreRuled}
+use Rattle.core_promises.specs.Ruled.{AreRuled, book_of}
 use Rattle.router_laws.specs.decisions.Rulings.{AreRuledAll, IsRuledOn}
 use Rattle.router_laws.specs.decisions.Speaks.{AreGivenOurs, AreGoingOurs, IsOurs, IsPartingOurs}
 use Rattle.marked_tables.specs.Goes.{GoesOn}
@@ -70,7 +70,7 @@ pub record HasGone (service : Service) (c : ClientNo) (ends : Bool) (old new : T
   pub word : IsPartingOurs parting
   pub goes : CallerGoesOn service.setup service.default_schema
       (record { client = c; choices = choices; halt = halt; parting = parting }) old new
-  pub ruled : AreRuled (rules_of service.rules) choices halt service.setup service.default_schema c old goes.turned goes.turns
+  pub ruled : AreRuled (book_of service) choices halt service.setup service.default_schema c old goes.turned goes.turns
   pub ended : ends ≡ true → ends_by halt parting ≡ true
 
 -- How it was ended behind its turns.
@@ -107,7 +107,7 @@ pub record HasFollowed (service : Service) (c : ClientNo) (ends : Bool) (old new
   pub ours : All (IsOurs (rules_of service.rules) c) choices
   pub word : IsPartingOurs parting
   pub follows : FollowsSo service.setup service.default_schema c choices halt parting links old new
-  pub ruled : AreRuled (rules_of service.rules) choices halt service.setup service.default_schema c old follows.turned follows.turns
+  pub ruled : AreRuled (book_of service) choices halt service.setup service.default_schema c old follows.turned follows.turns
   pub ended : ends ≡ true → ends_by halt parting ≡ true
 
 -- Several clients did, one after the other.
@@ -117,7 +117,7 @@ pub record HaveFollowed (service : Service) (clients : List ClientNo) (old new :
   pub named : map (λ (k : Caller). k.client) callers ≡ clients
   pub ours : All (IsCallerOurs (rules_of service.rules)) callers
   pub calls : CallsSo service.setup service.default_schema callers links old new
-  pub ruled : AreRuledAll (rules_of service.rules) callers service.setup service.default_schema old calls.turned calls.going
+  pub ruled : AreRuledAll (book_of service) callers service.setup service.default_schema old calls.turned calls.going
 
 -- by what they were called
 pub record HaveGone (service : Service) (clients : List ClientNo) (old new : Tabled) : Type 0 where
@@ -125,7 +125,7 @@ pub record HaveGone (service : Service) (clients : List ClientNo) (old new : Tab
   pub named : map (λ (k : Caller). k.client) callers ≡ clients
   pub ours : All (IsCallerOurs (rules_of service.rules)) callers
   pub going : AllGoOn callers service.setup service.default_schema old new
-  pub ruled : AreRuledAll (rules_of service.rules) callers service.setup service.default_schema old new going
+  pub ruled : AreRuledAll (book_of service) callers service.setup service.default_schema old new going
 
 -- The router answered a client's statement itself.
 pub record HasAnswered (c : ClientNo) (old new : Tabled) : Type 0 where
@@ -172,4 +172,4 @@ pub record HasCalled (service : Service) (name : Option SessionName) (told : Opt
   pub called : IsCalled name told old (option_map (λ (g : Going). g.client) going)
   pub ours : AreGoingOurs (rules_of service.rules) going
   pub goes : GoesSo going service.setup service.default_schema old new
-  pub ruled : IsRuledOn (rules_of service.rules) going service.setup service.default_schema old new goes
+  pub ruled : IsRuledOn (book_of service) going service.setup service.default_schema old new goes

@@ -4,6 +4,7 @@ use Rattle.mx_base.specs.declared.names.LinkId.{LinkId}
 use Rattle.core_service.specs.declared.service.Service.{Service}
 use Rattle.core_laws.specs.clients.Going.{GivenUp, Going}
 use Rattle.query_rules.specs.Passing.{rules_of}
+use Rattle.core_promises.specs.Ruled.{book_of}
 use Rattle.router_laws.specs.decisions.Rulings.{IsRuledOn}
 use Rattle.router_laws.specs.decisions.Speaks.{AreGivenOurs, AreGoingOurs}
 use Rattle.router_laws.specs.reading.Hears.{HearsSo}
@@ -17,4 +18,4 @@ pub record HasHeard (service : Service) (link : LinkId) (bytes : List ℕ) (old 
   pub given_ours : AreGivenOurs given
   pub ours : AreGoingOurs (rules_of service.rules) going
   pub so : HearsSo service.setup service.default_schema link bytes old.clock given going (tables old) (tables new)
-  pub ruled : IsRuledOn (rules_of service.rules) going service.setup service.default_schema so.freed (tables new) so.goes
+  pub ruled : IsRuledOn (book_of service) going service.setup service.default_schema so.freed (tables new) so.goes

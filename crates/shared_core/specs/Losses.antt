@@ -16,6 +16,7 @@ use Rattle.core_laws.specs.clients.Going.{GivenUp, Going}
 use Rattle.core_laws.specs.parting.Partings.{IsAtWork}
 use Rattle.router_laws.specs.links.Loses.{GoesWithIt, LosesEnded, LosesSo}
 use Rattle.query_rules.specs.Passing.{rules_of}
+use Rattle.core_promises.specs.Ruled.{book_of}
 use Rattle.router_laws.specs.decisions.Rulings.{IsRuledOn}
 use Rattle.router_laws.specs.decisions.Speaks.{AreGivenOurs, AreGoingOurs}
 use Rattle.shared_core.specs.Follows.{MayBeGivenWith}
@@ -55,7 +56,7 @@ pub record HasLost (service : Service) (link : LinkId) (old new : Tabled) : Type
   pub given_ours : AreGivenOurs given
   pub ours : AreGoingOurs (rules_of service.rules) going
   pub so : LosesSo service.setup service.default_schema link given going old new
-  pub ruled : IsRuledOn (rules_of service.rules) going service.setup service.default_schema so.lost new so.goes
+  pub ruled : IsRuledOn (book_of service) going service.setup service.default_schema so.lost new so.goes
 
 -- Or a client was ended with it.
 pub record HasLostEnded (link : LinkId) (c : ClientNo) (old new : Tabled) : Type 0 where

@@ -7,6 +7,7 @@ use Rattle.core_tables.specs.Tables.{Tabled}
 use Rattle.core_laws.specs.clients.Going.{GivenUp, is_going}
 use Rattle.router_laws.specs.wakes.Calling.{Caller, GivesUpAll, IsThere, IsUnsent, is_given}
 use Rattle.query_rules.specs.Passing.{rules_of}
+use Rattle.core_promises.specs.Ruled.{book_of}
 use Rattle.router_laws.specs.decisions.Rulings.{AreRuledAll}
 use Rattle.router_laws.specs.decisions.Speaks.{IsGivenOurs}
 use Rattle.router_laws.specs.wakes.Deciding.{IsCallerOurs}
@@ -52,7 +53,7 @@ pub record HasWoken (service : Service) (roomy : Roomy) (old new : Tabled) : Typ
   pub given_ours : All IsGivenOurs given
   pub ours : All (IsCallerOurs (rules_of service.rules)) callers
   pub so : WakesSo service.setup service.default_schema given callers links (is_roomy roomy) old new
-  pub ruled : AreRuledAll (rules_of service.rules) callers service.setup service.default_schema so.late so.calls.turned so.calls.going
+  pub ruled : AreRuledAll (book_of service) callers service.setup service.default_schema so.late so.calls.turned so.calls.going
 
 -- One was given up, if one was, and its client went on.
 pub record HasFailed (service : Service) (old new : Tabled) : Type 0 where
@@ -62,4 +63,4 @@ pub record HasFailed (service : Service) (old new : Tabled) : Type 0 where
   pub given_ours : All IsGivenOurs given
   pub ours : All (IsCallerOurs (rules_of service.rules)) callers
   pub so : FailsSo service.setup service.default_schema given callers links old new
-  pub ruled : AreRuledAll (rules_of service.rules) callers service.setup service.default_schema so.late so.calls.turned so.calls.going
+  pub ruled : AreRuledAll (book_of service) callers service.setup service.default_schema so.late so.calls.turned so.calls.going

@@ -6,7 +6,7 @@ ghost use Rattle.core_laws.specs.clients.Turns.{Rests, Waits};
 ghost use Rattle.core_tables.specs.Parting.{freed_in};
 ghost use Rattle.core_tables.specs.Tables.{IsSame};
 ghost use Rattle.core_turns.specs.Turned.{HasGoneOn, RuledTurns, halt_of};
-ghost use Rattle.query_rules.specs.Passing.{rules_of};
+ghost use Rattle.core_promises.specs.Ruled.{book_of};
 ghost use Rattle.core_laws.specs.entry.Freeing.{all_freed};
 ghost use Rattle.shared_core.specs.Follows.{AreAllHomes, AreRising, HasFollowed, HasGone, HasParted, HaveFollowed, HaveGone, IsRested, Keeps, MayEnd, RestsBehind, is_of, known_in, known_more};
 ghost use Rattle.shared_core.specs.Stands.{Chooses, tables};
@@ -110,7 +110,7 @@ impl Router {
         service: &Service,
         client: ClientNo,
     ) -> Result<Option<Went>, OutOfMemory>
-        ensures is { IfOk result (λ went. HasGoneOn RuledTurns went (rules_of service.now.rules) service.now.setup
+        ensures is { IfOk result (λ went. HasGoneOn RuledTurns went (book_of service.now) service.now.setup
             service.now.default_schema client (tables self.old) (tables self.new)) }
         ensures keeps { OnOk result (Keeps self.old self.new) }
     {

@@ -52,7 +52,7 @@ impl Router {
         router_laws::wakes::settling_stands();
         self.told(service, event, bytes)?;
         self.settle(service)?;
-        self.turns(service);
+        self.turns();
         Ok(())
     }
 
@@ -119,7 +119,7 @@ impl Machine for Core {
 
     fn taken(&mut self, link: LinkId, n: usize) {
         self.router.wrote(link, n);
-        self.router.turns(&self.service);
+        self.router.turns();
     }
 
     fn wants_read(&self, link: LinkId) -> bool {

@@ -59,12 +59,11 @@ impl Router {
         })
     }
 
-    /// It may have something to ask for, and another moment at which it wants to be woken. Takes no memory.
-    pub(crate) fn turns(&mut self, service: &Service)
+    /// It may have something to ask for; as it has no more, the moment is known at which it wants to be woken. Takes no memory.
+    pub(crate) fn turns(&mut self)
         ensures { Chooses self.old self.new }
     {
         self.acting = true;
-        self.times(service);
     }
 
     /// The moment is known at which it wants to be woken. Takes no memory.

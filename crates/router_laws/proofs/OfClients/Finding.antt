@@ -38,8 +38,8 @@ module _ (setup : Setup) (plan : Plan) (log : Log) (e : Entry) (said x : Client)
 
   pub found_then : (choices : List Choice) (halt : Halt) (service : Service) (default : List ℕ) (c : ClientNo) (mid turned : Tabled)
       (turns : Turns choices halt service default c mid turned) (k : ℕ) → said.taken ≡ k
-      → AreFoundAt choices halt service default c mid turned turns (messages plan said) said.taken
-      → AreFoundAt choices halt service default c mid turned turns (messages plan x) k
+      → AreFoundAt choices halt service default c mid turned turns (setup.accounts c).user (messages plan said) said.taken
+      → AreFoundAt choices halt service default c mid turned turns (setup.accounts c).user (messages plan x) k
   found_then choices halt service default c mid turned turns k taken found =
-      subst (λ (ms : List Framed). AreFoundAt choices halt service default c mid turned turns ms k) (sym messages_then)
-      (subst (AreFoundAt choices halt service default c mid turned turns (messages plan said)) taken found)
+      subst (λ (ms : List Framed). AreFoundAt choices halt service default c mid turned turns (setup.accounts c).user ms k) (sym messages_then)
+      (subst (AreFoundAt choices halt service default c mid turned turns (setup.accounts c).user (messages plan said)) taken found)

@@ -9,8 +9,6 @@ use Rattle.mx_wire.specs.declared.entry.Entry.{Entry}
 use Rattle.mx_wire.specs.declared.entry.Entry.TheVariants as entry
 use Rattle.packet_frame.specs.Packets.{Framed}
 use Rattle.client_session.specs.Setups.{Setup as Serving}
-use Rattle.query_rules.specs.Passing.{rules_of}
-use Rattle.query_rules.specs.declared.rule.Rule.{Rule}
 use Rattle.private_model.specs.Names.{ClientNo, MessageName}
 use Rattle.private_model.proofs.Maps.{client_of}
 use Rattle.private_model.specs.View.{Setup}
@@ -28,12 +26,12 @@ use Rattle.core_tables.specs.Tables.{Tabled}
 use Rattle.core_laws.proofs.OfEntry.Going.{tale_more}
 use Rattle.core_laws.proofs.OfEntry.Growing.{messages_more}
 use Rattle.core_laws.proofs.OfEntry.Lists.{seated_of}
-use Rattle.core_laws.specs.clients.Found.{AreFoundAt, IsFoundAt}
+use Rattle.core_laws.specs.clients.Found.{AreFoundAt, IsFoundAt, user_at}
 use Rattle.core_laws.specs.clients.Turns.{Answers, Choice, Goes, Halt, IsTurn, Turns}
 use Rattle.core_laws.specs.entry.Cores.{with_entry}
 use Rattle.core_laws.specs.entry.Tells.{Fits, IsOf}
-use Rattle.core_promises.specs.Judges.{AreJudged, IsJudged, IsVerdictFor, goes_by}
-use Rattle.core_promises.specs.Ruled.{AreRuled, IsRuled}
+use Rattle.core_promises.specs.Judges.{AreJudged, IsJudged, IsVerdictFor, Rulebook, goes_by}
+use Rattle.core_promises.specs.Ruled.{AreRuled, IsRuled, book_of}
 use Rattle.router_promises.specs.Verdicts.{Tells, Verdict}
 use Rattle.shared_router.proofs.Furthering.{IsWithin, within_step}
 use Rattle.shared_router.proofs.Looked.{Each, each-all}
@@ -51,26 +49,32 @@ use Rattle.router_laws.specs.decisions.Records.{AreCountsOf, IsRecorded}
 
 -- Of a client's messages that came up at its turns, where these are by the verdict.
 
-module _ (rules : List Rule) (plan : Plan) (client : Client) where
-  judged_as : (c : ClientNo) → client.number ≡ c → (up message : Framed) → Some up ≡ Some message → (verdict : Verdict)
-      → IsVerdictFor rules c up.payload verdict → IsVerdictFor rules client.number message.payload verdict
-  judged_as c number up message same verdict is =
-      subst (λ (m : Framed). IsVerdictFor rules client.number m.payload verdict) (same_Some up message same)
-      (subst (λ (x : ClientNo). IsVerdictFor rules x up.payload verdict) (sym number) is)
+module _ (book : Rulebook) (setup : Setup) (plan : Plan) (client : Client) where
+  abbrev user : List ℕ
+  user = (setup.accounts client.number).user
+
+  judged_as : (served : List ℕ) (c : ClientNo) → client.number ≡ c → served ≡ (setup.accounts c).user → (up message : Framed) → Some up ≡ Some message
+      → (verdict : Verdict) → IsVerdictFor book served c up.payload verdict
+      → IsVerdictFor book user client.number message.payload verdict
+  judged_as served c number login up message same verdict is =
+      subst (λ (m : Framed). IsVerdictFor book user client.number m.payload verdict) (same_Some up message same)
+      (subst (λ (x : ClientNo). IsVerdictFor book (setup.accounts x).user x up.payload verdict) (sym number)
+      (subst (λ (u : List ℕ). IsVerdictFor book u c up.payload verdict) login is))
 
   judged_one : (choice : Choice) (service : Serving) (default : List ℕ) (c : ClientNo) → client.number ≡ c → (old new : Tabled)
-      (turn : IsTurn choice service default c old new) (found : Option Framed) → IsFoundAt choice service default c old new turn found
-      → IsRuled rules choice service default c old new turn → (message : Framed) → found ≡ Some message
-      → IsVerdictFor rules client.number message.payload (verdict_of choice)
+      (turn : IsTurn choice service default c old new) (found : Option Framed)
+      → IsFoundAt choice service default c old new turn (setup.accounts c).user found
+      → IsRuled book choice service default c old new turn → (message : Framed) → found ≡ Some message
+      → IsVerdictFor book user client.number message.payload (verdict_of choice)
   judged_one (Goes route) service default c number old new turn found at ruled message is =
-      judged_as c number turn.up.message message (sym at ∙ is) (goes_by route) ruled
+      judged_as (user_at service default turn.up.row) c number at.login turn.up.message message (sym at.message_is ∙ is) (goes_by route) ruled
   judged_one (Answers payloads) service default c number old new turn found at ruled message is =
-      judged_as c number turn.up.message message (sym at ∙ is) (Tells payloads) ruled
+      judged_as (user_at service default turn.up.row) c number at.login turn.up.message message (sym at.message_is ∙ is) (Tells payloads) ruled
 
   pub judged_by : (k : ℕ) (choices : List Choice) (halt : Halt) (service : Serving) (default : List ℕ) (c : ClientNo) → client.number ≡ c
       → (old new : Tabled) (turns : Turns choices halt service default c old new)
-      → AreFoundAt choices halt service default c old new turns (messages plan client) k
-      → AreRuled rules choices halt service default c old new turns → JudgedFrom rules plan client k choices
+      → AreFoundAt choices halt service default c old new turns (setup.accounts c).user (messages plan client) k
+      → AreRuled book choices halt service default c old new turns → JudgedFrom book setup plan client k choices
   judged_by k [] halt service default c number old new turns found ruled = tt
   judged_by k (choice ∷ others) halt service default c number old new turns found ruled = (
     judged_one choice service default c number old turns.0 turns.1 (slice_get (messages plan client) k) found.0 ruled.0,
@@ -81,21 +85,21 @@ module _ (rules : List Rule) (plan : Plan) (client : Client) where
 
   pub record IsFated (k : ℕ) (fate : Fate) : Type 0 where
     pub goes : (message : Framed) (route : Route) → slice_get (messages plan client) k ≡ Some message → fate.route ≡ Some route
-        → IsVerdictFor rules client.number message.payload (goes_by route)
+        → IsVerdictFor book user client.number message.payload (goes_by route)
     pub tells : (message : Framed) (payloads : List (List ℕ)) → slice_get (messages plan client) k ≡ Some message
         → option_map (λ (answer : OwnAnswer). answer.payloads) fate.own ≡ Some payloads
-        → IsVerdictFor rules client.number message.payload (Tells payloads)
+        → IsVerdictFor book user client.number message.payload (Tells payloads)
 
-  judged_first : (k : ℕ) (choice : Choice) (others : List Choice) → JudgedFrom rules plan client k (choice ∷ others) → IsFated k (fate_of choice)
+  judged_first : (k : ℕ) (choice : Choice) (others : List Choice) → JudgedFrom book setup plan client k (choice ∷ others) → IsFated k (fate_of choice)
   judged_first k (Goes mine) others judged = record {
     goes = λ message route at is.
-        subst (λ (r : Route). IsVerdictFor rules client.number message.payload (goes_by r)) (same_Some mine route is) (judged.0 message at);
+        subst (λ (r : Route). IsVerdictFor book user client.number message.payload (goes_by r)) (same_Some mine route is) (judged.0 message at);
     tells = λ message payloads at is. none_some None payloads refl is;
   }
   judged_first k (Answers mine) others judged = record {
     goes = λ message route at is. none_some None route refl is;
     tells = λ message payloads at is.
-        subst (λ (p : List (List ℕ)). IsVerdictFor rules client.number message.payload (Tells p)) (same_Some mine payloads is) (judged.0 message at);
+        subst (λ (p : List (List ℕ)). IsVerdictFor book user client.number message.payload (Tells p)) (same_Some mine payloads is) (judged.0 message at);
   }
 
   unfated : (k : ℕ) → IsFated k no_fate
@@ -108,7 +112,7 @@ module _ (rules : List Rule) (plan : Plan) (client : Client) where
   judged_if true k fate is = subst (IsFated k) (same_Some no_fate fate is) (unfated k)
   judged_if false k fate is = none_some None fate refl is
 
-  pub judged_at : (choices : List Choice) (halt : Halt) (first k : ℕ) (fate : Fate) → JudgedFrom rules plan client first choices
+  pub judged_at : (choices : List Choice) (halt : Halt) (first k : ℕ) (fate : Fate) → JudgedFrom book setup plan client first choices
       → fate_in choices halt (suc first) (suc k) ≡ Some fate → IsFated k fate
   judged_at [] halt first k fate judged is = judged_if (is_quitting halt && nat_eq (suc k) (suc first)) k fate is
   judged_at (choice ∷ others) halt first k fate judged is =
@@ -121,10 +125,10 @@ module _ (rules : List Rule) (plan : Plan) (client : Client) where
             subst (λ (i : ℕ). IsFated i fate) at (subst (IsFated first) (same_Some (fate_of choice) fate has) (judged_first first choice others judged))
         by false other has later = later has
 
-  pub judged_none : (k : ℕ) (choices : List Choice) → choices ≡ [] → JudgedFrom rules plan client k choices
-  judged_none k choices none = subst (JudgedFrom rules plan client k) (sym none) tt
+  pub judged_none : (k : ℕ) (choices : List Choice) → choices ≡ [] → JudgedFrom book setup plan client k choices
+  judged_none k choices none = subst (JudgedFrom book setup plan client k) (sym none) tt
 
-  judged_among : (b : Bool) (k : ℕ) (choices : List Choice) → JudgedFrom rules plan client k choices → JudgedFrom rules plan client k (if b then choices else [])
+  judged_among : (b : Bool) (k : ℕ) (choices : List Choice) → JudgedFrom book setup plan client k choices → JudgedFrom book setup plan client k (if b then choices else [])
   judged_among true k choices judged = judged
   judged_among false k choices judged = tt
 
@@ -138,7 +142,7 @@ none_sent plan tale given none = λ k dflt within some.
 pub judges_none : (service : Service) (log : Log) (e : Entry) (d : Decided) (n : Counts) (deeds : Deeds) → ((c : ClientNo) → deeds.calls c ≡ [])
     → ((c : ClientNo) → deeds.given c ≡ None) → JudgesThen service log e d n deeds
 judges_none service log e d n deeds none ungiven setup codes plan of fits = record {
-  takes = λ client seated. judged_none (rules_of service.rules) plan client (n.taken client.number) (deeds.calls client.number) (none client.number);
+  takes = λ client seated. judged_none (book_of service) setup plan client (n.taken client.number) (deeds.calls client.number) (none client.number);
   gives = none_sent plan (tale_of setup plan log) deeds.given ungiven;
 }
 
@@ -161,18 +165,18 @@ pub judges_taking : (service : Service) (log : Log) (e : Entry) (d : Decided) (n
     → ((setup : Setup) (codes : Codes) (plan : Plan) → IsOf (decided_with (parting c last (taking c choices halt no_deeds)) n log e d) (length (with_entry log e)) plan
     → Fits setup codes plan service.default_schema (tale_of setup plan (with_entry log e)) → (client : Client)
     → IsSeated (tale_of setup plan (with_entry log e)) client → client.number ≡ c
-    → JudgedFrom (rules_of service.rules) plan client (n.taken c) choices)
+    → JudgedFrom (book_of service) setup plan client (n.taken c) choices)
     → JudgesThen service log e d n (parting c last (taking c choices halt no_deeds))
 judges_taking service log e d n c choices halt last judged setup codes plan of fits = record {
   takes = λ client seated. by client seated (nat_eq c.0 client.number.0) refl;
   gives = none_sent plan (tale_of setup plan log) (λ x. None) (λ x. refl);
 } where
   by : (client : Client) → IsSeated (tale_of setup plan (with_entry log e)) client → (b : Bool) → nat_eq c.0 client.number.0 ≡ b
-      → JudgedFrom (rules_of service.rules) plan client (n.taken client.number) (if b then choices else [])
+      → JudgedFrom (book_of service) setup plan client (n.taken client.number) (if b then choices else [])
   by client seated false other = tt
   by client seated true its =
       let same : c ≡ client.number = client_of c client.number its in
-      subst (λ (x : ClientNo). JudgedFrom (rules_of service.rules) plan client (n.taken x) choices) same (judged setup codes plan of fits client seated (sym same))
+      subst (λ (x : ClientNo). JudgedFrom (book_of service) setup plan client (n.taken x) choices) same (judged setup codes plan of fits client seated (sym same))
 
 -- No more was taken up of a client than its messages.
 
@@ -209,10 +213,10 @@ given_among false given some = false_true false refl some
 module _ (service : Service) (log : Log) (e : Entry) (d : Decided) (n : Counts) (deeds : Deeds) (recorded : IsRecorded d n log) (setup : Setup) (plan : Plan)
     (of : IsOf (decided_with deeds n log e d) (length (with_entry log e)) plan)
     (before : AreCountsOf n (tale_of setup plan log)) (counts : AreCountsOf (counts_with deeds n log e) (tale_of setup plan (with_entry log e)))
-    (was : All (AreJudged (rules_of service.rules) plan (length log)) (tale_of setup plan log).clients)
+    (was : All (AreJudged (book_of service) setup plan (length log)) (tale_of setup plan log).clients)
     (judged : IsJudgedThen service log e n deeds setup plan) where
-  abbrev rules : List Rule
-  rules = rules_of service.rules
+  abbrev book : Rulebook
+  book = book_of service
 
   abbrev old : Tale
   old = tale_of setup plan log
@@ -237,7 +241,7 @@ module _ (service : Service) (log : Log) (e : Entry) (d : Decided) (n : Counts) 
     name = name_of client (suc k)
 
     abbrev IsJudgedAt : (moment : ℕ) → Type 0
-    IsJudgedAt moment = IsJudged rules plan moment name message.payload
+    IsJudgedAt moment = IsJudged book (setup.accounts c).user plan moment name message.payload
 
     -- It was taken up before: what is given up goes to a server, so else it is answered as it was.
 
@@ -274,8 +278,8 @@ module _ (service : Service) (log : Log) (e : Entry) (d : Decided) (n : Counts) 
           let there_at : slice_get (messages plan x) k ≡ Some message =
           sym (message_stays plan x client more k number salt read (omega (arith, early, within))) ∙ at in
           let so_far : IsJudgedAt (length log) =
-          subst (λ (m : ClientNo). IsJudged rules plan (length log) (record { client = m; ordinal = suc k }) message.payload) (sym number)
-          (seated_of (AreJudged rules plan (length log)) old x there was k message early there_at) in
+          subst (λ (m : ClientNo). IsJudged book (setup.accounts m).user plan (length log) (record { client = m; ordinal = suc k }) message.payload) (sym number)
+          (seated_of (AreJudged book setup plan (length log)) old x there was k message early there_at) in
           record {
             goes = so_far.goes;
             tells = λ payloads unrouted own. so_far.tells payloads unrouted (sym (own_stays unrouted) ∙ own);
@@ -302,9 +306,9 @@ module _ (service : Service) (log : Log) (e : Entry) (d : Decided) (n : Counts) 
     taken_then less least None is some = false_true false refl some
     taken_then less least (Some mine) is some =
         let has : HasFate plan now name mine = fate_so d n log e made (length log) plan recorded refl of_now name mine is (omega (arith, least)) in
-        let fated : IsFated rules plan client k mine =
-        judged_at rules plan client (made.calls c) (made.halts c) (n.taken c) k mine
-        (judged_among rules plan client known (n.taken c) (deeds.calls c) (judged.takes client seated)) is in
+        let fated : IsFated book setup plan client k mine =
+        judged_at book setup plan client (made.calls c) (made.halts c) (n.taken c) k mine
+        (judged_among book setup plan client known (n.taken c) (deeds.calls c) (judged.takes client seated)) is in
         record {
           goes = λ route goes. fated.goes message route at (sym has.routed ∙ goes);
           tells = λ payloads unrouted own. fated.tells message payloads at (sym has.own ∙ own);
@@ -326,7 +330,8 @@ module _ (service : Service) (log : Log) (e : Entry) (d : Decided) (n : Counts) 
           taken_then less least (fate_at made n name) refl
           (fate_there (made.calls c) (made.halts c) (suc (n.taken c)) (suc k) (omega (arith, least)) (omega (arith, less, count_now)))
 
-  pub judged_then : All (AreJudged rules plan (length (with_entry log e))) new.clients
+  pub judged_then : All (AreJudged book setup plan (length (with_entry log e))) new.clients
   judged_then = λ i dflt within k message less at.
-      subst (λ (moment : ℕ). IsJudged rules plan moment (name_of (slice_index_or new.clients i dflt) (suc k)) message.payload) (sym (one_more log e))
-      (each (slice_index_or new.clients i dflt) (counted_seats new (is_tale_of setup plan (with_entry log e)).counted i dflt within) k message at less)
+      let client : Client = slice_index_or new.clients i dflt in
+      subst (λ (moment : ℕ). IsJudged book (setup.accounts client.number).user plan moment (name_of client (suc k)) message.payload) (sym (one_more log e))
+      (each client (counted_seats new (is_tale_of setup plan (with_entry log e)).counted i dflt within) k message at less)

@@ -30,6 +30,7 @@ use Rattle.router_laws.proofs.OfDecisions.Gathering.{plans_so}
 use Rattle.router_laws.proofs.OfDecisions.Keeping.{first_so, recorded_then}
 use Rattle.router_laws.proofs.OfDecisions.Recording.{is_more, one_more}
 use Rattle.query_rules.specs.Passing.{rules_of}
+use Rattle.core_promises.specs.Ruled.{book_of}
 use Rattle.router_promises.specs.Terms.{plan_in, setup_in}
 use Rattle.core_promises.specs.Waits.{AreDoneBy, WaitsSo}
 use Rattle.router_laws.proofs.OfDecisions.Speaking.{first_spoken, ours_alone, spoken_then}
@@ -99,7 +100,7 @@ module _ (service : Service) (log : Log) (e : Entry) (deeds : Deeds) (t now : Ta
       let fitted = fits_then (setup_in terms) codes (plan_in terms) of fits in
       lawful-more (WaitsSo terms) log e (router.waited terms codes then fitted) (waits terms codes then fitted)
 
-  judged_now : JudgesBy (rules_of service.rules) service.default_schema new (with_entry log e)
+  judged_now : JudgesBy (book_of service) service.default_schema new (with_entry log e)
   judged_now setup codes plan of fits =
       let then : IsOf router.core.decided (length log) plan = of_then setup codes plan of fits in
       let fitted : Fits setup codes plan service.default_schema (tale_of setup plan log) = fits_then setup codes plan of fits in
@@ -226,5 +227,5 @@ router_of_none service roomy stands = record {
   open_just = λ l. refl;
   spoken = first_spoken (rules_of service.rules) service.setup;
   waited = λ terms codes of fits. tt;
-  judged = λ setup codes plan of fits. All-nil (AreJudged (rules_of service.rules) plan 0);
+  judged = λ setup codes plan of fits. All-nil (AreJudged (book_of service) setup plan 0);
 }

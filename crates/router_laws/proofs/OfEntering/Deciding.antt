@@ -50,7 +50,7 @@ use Rattle.router_laws.proofs.OfDecisions.Tallying.{counts_then}
 use Rattle.router_laws.proofs.OfDecisions.Working.{none_given}
 use Rattle.query_rules.specs.Passing.{rules_of}
 use Rattle.router_laws.proofs.OfDecisions.Speaking.{ours_alone, ours_of_one}
-use Rattle.core_promises.specs.Ruled.{AreRuled}
+use Rattle.core_promises.specs.Ruled.{AreRuled, book_of}
 use Rattle.router_laws.specs.decisions.Judges.{JudgedFrom, JudgesThen}
 use Rattle.router_laws.specs.decisions.Speaks.{AreOurs, IsEndOurs, IsOurs}
 use Rattle.router_laws.specs.decisions.Counting.{BeginsSo, TakesSo}
@@ -325,7 +325,7 @@ module _ (service : Service) (log : Log) (e : Entry) (t now : Tabled) (roomy roo
   -- and what it takes up is ruled
 
   module _ (ordinal : ℕ) (mid turned : Tabled) (turns : Turns choices halt service.setup service.default_schema c mid turned)
-      (ruled : AreRuled (rules_of service.rules) choices halt service.setup service.default_schema c mid turned turns) where
+      (ruled : AreRuled (book_of service) choices halt service.setup service.default_schema c mid turned turns) where
     pub record Finds (setup : Setup) (codes : Codes) (plan : Plan) : Type 0 where
       pub so : GoesFinding service.setup service.default_schema setup codes plan log e d new t now roomy room c ordinal choices halt mid turned turns
       pub next : ordinal ≡ suc (router.counts.taken c)
@@ -345,8 +345,8 @@ module _ (service : Service) (log : Log) (e : Entry) (t now : Tabled) (roomy roo
 
       judged : (setup : Setup) (codes : Codes) (plan : Plan) → IsOf new (length (with_entry log e)) plan → FitsThen setup codes plan service.default_schema log e
           → (client : tales.Client) → IsSeated (tale_of setup plan (with_entry log e)) client → client.number ≡ c
-          → JudgedFrom (rules_of service.rules) plan client (router.counts.taken c) choices
+          → JudgedFrom (book_of service) setup plan client (router.counts.taken c) choices
       judged setup codes plan of fits client seated number =
-          judged_by (rules_of service.rules) plan client (router.counts.taken c) choices halt service.setup service.default_schema c number mid turned turns
+          judged_by (book_of service) setup plan client (router.counts.taken c) choices halt service.setup service.default_schema c number mid turned turns
           ((finds setup codes plan of fits).so.finds (before setup codes plan of fits).rests (router.counts.taken c) (finds setup codes plan of fits).next
           client seated number) ruled

@@ -29,7 +29,7 @@ use Rattle.query_rules.specs.Passing.{rules_of}
 use Rattle.router_laws.proofs.OfDecisions.Judging.{judges_of_none}
 use Rattle.router_laws.proofs.OfDecisions.Speaking.{end_ours}
 use Rattle.router_laws.proofs.OfWaits.Then.{loss_waits}
-use Rattle.core_promises.specs.Ruled.{AreRuled}
+use Rattle.core_promises.specs.Ruled.{AreRuled, book_of}
 use Rattle.router_laws.specs.decisions.Speaks.{IsOurs, IsPartingOurs}
 use Rattle.router_laws.specs.decisions.Goings.{end_of}
 use Rattle.router_laws.specs.decisions.Routers.{IsBefore, IsRouter}
@@ -127,7 +127,7 @@ pub going_routed : Going → Told → (service : Service) (log : Log) (e : Entry
     → (so : LeavesGoing service.setup service.default_schema link links ordinal choices halt parting c t now)
     → All (IsOurs (rules_of service.rules) c) choices → IsPartingOurs parting
     → OthersLack c roomy room
-    → AreRuled (rules_of service.rules) choices halt service.setup service.default_schema c so.between so.follows.turned so.follows.turns
+    → AreRuled (book_of service) choices halt service.setup service.default_schema c so.between so.follows.turned so.follows.turns
     → IsRouter service (with_entry log e) now room
 going_routed law told service log e t now roomy room link c links ordinal choices halt parting router may lost so ours told_ours others ruled =
     deciding.finds_router service log e t now roomy room router may c choices halt (end_of parting) ours (end_ours parting told_ours) ordinal so.between

@@ -18,6 +18,7 @@ use Rattle.core_tables.specs.declared.client.Client.{Client}
 use Rattle.core_tables.specs.Tables.{IsSame, Tabled}
 use Rattle.core_tables.specs.Writing.{wrote_on}
 use Rattle.query_rules.specs.Passing.{rules_of}
+use Rattle.core_promises.specs.Ruled.{book_of}
 use Rattle.router_laws.specs.decisions.Rulings.{IsRuledOn}
 use Rattle.router_laws.specs.decisions.Speaks.{AreGivenOurs, AreGoingOurs}
 use Rattle.router_laws.specs.decisions.Routers.{IsRouter}
@@ -43,7 +44,7 @@ pub record Laws : Type 0 where
   pub loses : (service : Service) (log : Log) (t now : Tabled) (roomy : ClientNo → Bool) (l : LinkId) (how : Break)
       (given : Option GivenUp) (going : Option Going) → IsRouter service log t roomy → MayFollow log (entry_by how l)
       → AreGivenOurs given → AreGoingOurs (rules_of service.rules) going → (so : LosesSo service.setup service.default_schema l given going t now)
-      → IsRuledOn (rules_of service.rules) going service.setup service.default_schema so.lost now so.goes
+      → IsRuledOn (book_of service) going service.setup service.default_schema so.lost now so.goes
       → IsRouter service (with_entry log (entry_by how l)) now roomy
   pub closes : (service : Service) (log : Log) (t now : Tabled) (roomy room : ClientNo → Bool) (l : LinkId)
       → IsRouter service log t roomy → MayFollow log (entry.Closed l) → ((c : ClientNo) → room c ≡ false → roomy c ≡ false)

@@ -5,8 +5,8 @@ use Rattle.mx_wire.specs.Log.{Log}
 use Rattle.mx_wire.specs.Tells.{MayFollow}
 use Rattle.mx_wire.specs.declared.entry.Entry.{Entry}
 use Rattle.core_service.specs.declared.service.Service.{Service}
-use Rattle.query_rules.specs.Passing.{rules_of}
-use Rattle.query_rules.specs.declared.rule.Rule.{Rule}
+use Rattle.core_promises.specs.Ruled.{book_of}
+use Rattle.core_promises.specs.Judges.{Rulebook}
 use Rattle.private_model.specs.Names.{ClientNo, LinkId}
 use Rattle.private_model.specs.View.{Setup}
 use Rattle.link_laws.specs.Stands.{Codes}
@@ -46,11 +46,11 @@ module _ (laws : Laws) (judges : FollowsJudge) (service : Service) (log : Log) (
   abbrev e : Entry
   e = entry_by how l
 
-  abbrev rules : List Rule
-  rules = rules_of service.rules
+  abbrev book : Rulebook
+  book = book_of service
 
   module _ (it : Going) (so : LosesSo service.setup service.default_schema l given (Some it) t now) (tells : TellsSo (Some it) service.setup)
-      (ruled : IsRuledOn rules (Some it) service.setup service.default_schema so.lost now so.goes) (setup : Setup) (codes : Codes) (plan : Plan)
+      (ruled : IsRuledOn book (Some it) service.setup service.default_schema so.lost now so.goes) (setup : Setup) (codes : Codes) (plan : Plan)
       (of : IsOf (decided_with (deeds_of given (Some it)) router.counts log e router.core.decided) (length (with_entry log e)) plan)
       (fits : Fits setup codes plan service.default_schema (tale_of setup plan (with_entry log e))) where
     abbrev g : Ground
@@ -71,9 +71,9 @@ module _ (laws : Laws) (judges : FollowsJudge) (service : Service) (log : Log) (
     number : x.number ≡ it.client
     number = somebody.number laws.losses service.setup service.default_schema g log t now roomy l how given it before.rests is so
 
-    judged : JudgedFrom rules plan x x.taken it.choices
+    judged : JudgedFrom book setup plan x x.taken it.choices
     judged =
-        judges rules service.setup service.default_schema g so.lost so.goes.turned g.fresh e x
+        judges book service.setup service.default_schema g so.lost so.goes.turned g.fresh e x
         (losses.later laws.losses service.setup service.default_schema g log t now roomy l how given (Some it) before.rests is so)
         it.choices it.halt it.parting it.client number
         (somebody.following laws.losses service.setup service.default_schema g log t now roomy l how given it before.rests is so)
@@ -84,15 +84,15 @@ module _ (laws : Laws) (judges : FollowsJudge) (service : Service) (log : Log) (
     plain = lost_plain g.tale how l
 
     by_was : (y : tales.Client) → WasThere plan g.tale e y ⊎ HasCome g.tale e y
-        → JudgedFrom rules plan y (router.counts.taken y.number) ((deeds_of given (Some it)).calls y.number)
+        → JudgedFrom book setup plan y (router.counts.taken y.number) ((deeds_of given (Some it)).calls y.number)
     by_was y (inr come) = absurd (plain.comes y come)
     by_was y (inl was) =
-        one_judged rules plan g.tale e router.counts.taken before.counts.taken given it x
+        one_judged book setup plan g.tale e router.counts.taken before.counts.taken given it x
         (somebody.seated laws.losses service.setup service.default_schema g log t now roomy l how given it before.rests is so) number judged y was.was
         was.seated was.continued (plain.reads was.was.link)
 
     one_judges : (y : tales.Client) → IsSeated (tale_of setup plan (with_entry log e)) y
-        → JudgedFrom rules plan y (router.counts.taken y.number) ((deeds_of given (Some it)).calls y.number)
+        → JudgedFrom book setup plan y (router.counts.taken y.number) ((deeds_of given (Some it)).calls y.number)
     one_judges y seated =
         by_was y
         (seated_of (λ (z : tales.Client). WasThere plan g.tale e z ⊎ HasCome g.tale e z) last y
@@ -100,7 +100,7 @@ module _ (laws : Laws) (judges : FollowsJudge) (service : Service) (log : Log) (
         (onward.were laws service log t now roomy l how given (Some it) router follow so tells setup codes plan of fits))
 
   pub loses_judge : (going : Option Going) (so : LosesSo service.setup service.default_schema l given going t now) → TellsSo going service.setup
-      → IsRuledOn rules going service.setup service.default_schema so.lost now so.goes
+      → IsRuledOn book going service.setup service.default_schema so.lost now so.goes
       → JudgesThen service log e router.core.decided router.counts (deeds_of given going)
   loses_judge None so tells ruled = λ setup codes plan of fits. record {
     takes = λ y seated. tt;

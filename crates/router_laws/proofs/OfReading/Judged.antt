@@ -7,8 +7,8 @@ use Rattle.mx_wire.specs.Tells.{MayFollow}
 use Rattle.mx_wire.specs.declared.entry.Entry.{Entry}
 use Rattle.mx_wire.specs.declared.entry.Entry.TheVariants as entry
 use Rattle.core_service.specs.declared.service.Service.{Service}
-use Rattle.query_rules.specs.Passing.{rules_of}
-use Rattle.query_rules.specs.declared.rule.Rule.{Rule}
+use Rattle.core_promises.specs.Ruled.{book_of}
+use Rattle.core_promises.specs.Judges.{Rulebook}
 use Rattle.private_model.proofs.Maps.{client_of}
 use Rattle.private_model.specs.Names.{ClientNo, LinkId}
 use Rattle.private_model.specs.Story.{is_client, is_link_id}
@@ -48,11 +48,11 @@ pub one_seated : (x was : tales.Client) (xs : List tales.Client) → x ∷ [] �
 one_seated x was xs first second = let both : x ∷ [] ≡ was ∷ [] = first ∙ second in cc
 
 -- One client goes on, at an entry that reads nothing of any.
-module _ (rules : List Rule) (plan : Plan) (tale : Tale) (e : Entry) (taken : ClientNo → ℕ)
+module _ (book : Rulebook) (setup : Setup) (plan : Plan) (tale : Tale) (e : Entry) (taken : ClientNo → ℕ)
     (counted : All (λ (x : tales.Client). x.taken ≡ taken x.number) tale.clients) (given : Option GivenUp) (it : Going) (x : tales.Client)
-    (seated : IsSeated tale x) (number : x.number ≡ it.client) (judged : JudgedFrom rules plan x x.taken it.choices) where
+    (seated : IsSeated tale x) (number : x.number ≡ it.client) (judged : JudgedFrom book setup plan x x.taken it.choices) where
   abbrev Judged : tales.Client → List Choice → Type 0
-  Judged y choices = JudgedFrom rules plan y (taken y.number) choices
+  Judged y choices = JudgedFrom book setup plan y (taken y.number) choices
 
   one_by : (y was : tales.Client) → IsSeated tale was → IsContinued plan tale e was y → is_read_on e was.link ≡ false → (b : Bool)
       → is_client it.client y.number ≡ b → Judged y ((deeds_of given (Some it)).calls y.number)
@@ -60,9 +60,9 @@ module _ (rules : List Rule) (plan : Plan) (tale : Tale) (e : Entry) (taken : Cl
       let no : x.number ≡ was.number = number ∙ client_of it.client y.number its ∙ on.number in
       let same : x ≡ was = one_seated x was (seats tale was.number) (sym seated ∙ ap (seats tale) no) seated_was in
       subst (Judged y) (sym (for_same it.client y.number it.choices [] its))
-      (judged_on rules plan tale e was y on unread (taken y.number)
+      (judged_on book setup plan tale e was y on unread (taken y.number)
       (seated_of (λ (z : tales.Client). z.taken ≡ taken z.number) tale was seated_was counted ∙ ap taken (sym on.number)) it.choices
-      (subst (λ (z : tales.Client). JudgedFrom rules plan z z.taken it.choices) same judged))
+      (subst (λ (z : tales.Client). JudgedFrom book setup plan z z.taken it.choices) same judged))
   one_by y was seated_was on unread false other =
       subst (Judged y) (sym (for_other it.client y.number it.choices [] other)) tt
 
@@ -76,11 +76,11 @@ module _ (laws : Laws) (judges : FollowsJudge) (service : Service) (log : Log) (
   abbrev e : Entry
   e = entry.Got l bytes
 
-  abbrev rules : List Rule
-  rules = rules_of service.rules
+  abbrev book : Rulebook
+  book = book_of service
 
   module _ (it : Going) (so : HearsSo service.setup service.default_schema l bytes clock given (Some it) t now)
-      (ruled : IsRuledOn rules (Some it) service.setup service.default_schema so.freed now so.goes) (setup : Setup) (codes : Codes) (plan : Plan)
+      (ruled : IsRuledOn book (Some it) service.setup service.default_schema so.freed now so.goes) (setup : Setup) (codes : Codes) (plan : Plan)
       (of : IsOf (decided_with (deeds_of given (Some it)) router.counts log e router.core.decided) (length (with_entry log e)) plan)
       (fits : Fits setup codes plan service.default_schema (tale_of setup plan (with_entry log e))) where
     abbrev g : Ground
@@ -101,9 +101,9 @@ module _ (laws : Laws) (judges : FollowsJudge) (service : Service) (log : Log) (
     number : x.number ≡ it.client
     number = somebody.number laws.reads service.setup service.default_schema g log t now roomy l bytes clock given it before.rests is so
 
-    judged : JudgedFrom rules plan x x.taken it.choices
+    judged : JudgedFrom book setup plan x x.taken it.choices
     judged =
-        judges rules service.setup service.default_schema g so.freed so.goes.turned g.fresh e x
+        judges book service.setup service.default_schema g so.freed so.goes.turned g.fresh e x
         (hearing.freed laws.reads service.setup service.default_schema g log t now roomy l bytes clock given (Some it) before.rests is so)
         it.choices it.halt it.parting it.client number
         (somebody.following laws.reads service.setup service.default_schema g log t now roomy l bytes clock given it before.rests is so)
@@ -111,17 +111,17 @@ module _ (laws : Laws) (judges : FollowsJudge) (service : Service) (log : Log) (
         so.goes.turns ruled
 
     by_was : (y : tales.Client) → WasThere plan g.tale e y ⊎ HasCome g.tale e y
-        → JudgedFrom rules plan y (router.counts.taken y.number) ((deeds_of given (Some it)).calls y.number)
+        → JudgedFrom book setup plan y (router.counts.taken y.number) ((deeds_of given (Some it)).calls y.number)
     by_was y (inr come) = absurd come
     by_was y (inl was) =
-        one_judged rules plan g.tale e router.counts.taken before.counts.taken given it x
+        one_judged book setup plan g.tale e router.counts.taken before.counts.taken given it x
         (somebody.seated laws.reads service.setup service.default_schema g log t now roomy l bytes clock given it before.rests is so) number judged y was.was
         was.seated was.continued
         (onward.unread_by laws service log t now roomy l bytes clock given (Some it) router follow bytes_are so setup codes plan of fits was.was was.seated
         (is_link_id was.was.link l) refl)
 
     one_judges : (y : tales.Client) → IsSeated (tale_of setup plan (with_entry log e)) y
-        → JudgedFrom rules plan y (router.counts.taken y.number) ((deeds_of given (Some it)).calls y.number)
+        → JudgedFrom book setup plan y (router.counts.taken y.number) ((deeds_of given (Some it)).calls y.number)
     one_judges y seated =
         by_was y
         (seated_of (λ (z : tales.Client). WasThere plan g.tale e z ⊎ HasCome g.tale e z) last y
@@ -129,7 +129,7 @@ module _ (laws : Laws) (judges : FollowsJudge) (service : Service) (log : Log) (
         (onward.were laws service log t now roomy l bytes clock given (Some it) router follow bytes_are so setup codes plan of fits))
 
   pub hears_judge : (going : Option Going) (so : HearsSo service.setup service.default_schema l bytes clock given going t now)
-      → IsRuledOn rules going service.setup service.default_schema so.freed now so.goes
+      → IsRuledOn book going service.setup service.default_schema so.freed now so.goes
       → JudgesThen service log e router.core.decided router.counts (deeds_of given going)
   hears_judge None so ruled = λ setup codes plan of fits. record {
     takes = λ y seated. tt;

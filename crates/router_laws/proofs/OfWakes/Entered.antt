@@ -59,7 +59,8 @@ use Rattle.router_laws.proofs.OfDecisions.Keeping.{recorded_then}
 use Rattle.router_laws.proofs.OfDecisions.Listing.{open_with}
 use Rattle.router_laws.proofs.OfDecisions.Router.{router_goes_on, stood_before}
 use Rattle.query_rules.specs.Passing.{rules_of}
-use Rattle.query_rules.specs.declared.rule.Rule.{Rule}
+use Rattle.core_promises.specs.Judges.{Rulebook}
+use Rattle.core_promises.specs.Ruled.{book_of}
 use Rattle.core_service.specs.declared.service.Service.{Service}
 use Rattle.router_laws.proofs.OfDecisions.Speaking.{ours_alone}
 use Rattle.router_laws.proofs.OfWakes.Saying.{ours_of_calls}
@@ -160,7 +161,7 @@ module _ (service : Service) (knows : Knows service.setup) (log : Log) (e : Entr
     (may : MayFollow log e) (gives : GivesUpAll given t mid) (theirs : (c : ClientNo) → is_given given c ≡ true → is_called callers c ≡ true)
     (so_calls : CallsSo service.setup service.default_schema callers links mid now) (given_ours : All IsGivenOurs given)
     (ours : All (IsCallerOurs (rules_of service.rules)) callers) (waits : WaitsThen service log e router.core.decided) (judges : TurnsJudge)
-    (ruled : AreRuledAll (rules_of service.rules) callers service.setup service.default_schema mid so_calls.turned so_calls.going)
+    (ruled : AreRuledAll (book_of service) callers service.setup service.default_schema mid so_calls.turned so_calls.going)
     (tells : All (λ (k : Caller). TellsFor k.parting service.setup k.client) callers)
     (called_so : (g : Ground) → Rests service.setup g t roomy → PlansSo g log e (calls_deeds given callers) → AreCalled g e (is_called callers) roomy room) where
   abbrev made : Deeds
@@ -432,23 +433,23 @@ module _ (service : Service) (knows : Knows service.setup) (log : Log) (e : Entr
 
     -- What becomes of messages.
 
-    abbrev rules : List Rule
-    rules = rules_of service.rules
+    abbrev book : Rulebook
+    book = book_of service
 
     abbrev IsJudgedBy : tales.Client → Option Caller → Type 0
-    IsJudgedBy y o = JudgedFrom rules plan y (router.counts.taken y.number) (option_map_or (λ (j : Caller). j.choices) o [])
+    IsJudgedBy y o = JudgedFrom book setup plan y (router.counts.taken y.number) (option_map_or (λ (j : Caller). j.choices) o [])
 
     judged_by : (y : tales.Client) → WasThere plan g.tale e y → (b : Bool) → called y.number ≡ b → IsJudgedBy y (found_in callers y.number)
     judged_by y was true its =
         let at =
-        judged_of knows.laws knows.frees judges rules service.setup service.default_schema g t mid now roomy room over e callers links stood.rests calling
+        judged_of knows.laws knows.frees judges book service.setup service.default_schema g t mid now roomy room over e callers links stood.rests calling
         stands_mid rested so_calls ruled y.number its in
         let same : at.x ≡ was.was =
         one_seated at.x was.was (seats g.tale was.was.number) (sym at.seated ∙ ap (seats g.tale) (at.number ∙ was.continued.number)) was.seated in
         subst (IsJudgedBy y) (sym at.found)
-        (judged_on rules plan g.tale e was.was y was.continued (is_entry.unread was.was.link) (router.counts.taken y.number)
+        (judged_on book setup plan g.tale e was.was y was.continued (is_entry.unread was.was.link) (router.counts.taken y.number)
         (taken_before was.was was.seated ∙ ap router.counts.taken (sym was.continued.number)) at.caller.choices
-        (subst (λ (z : tales.Client). JudgedFrom rules plan z z.taken at.caller.choices) same at.judged))
+        (subst (λ (z : tales.Client). JudgedFrom book setup plan z z.taken at.caller.choices) same at.judged))
     judged_by y was false other = subst (IsJudgedBy y) (sym (none_found callers y.number other)) tt
 
     judged_there : (y : tales.Client) → WasThere plan g.tale e y ⊎ HasCome g.tale e y → IsJudgedBy y (found_in callers y.number)

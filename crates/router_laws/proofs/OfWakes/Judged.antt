@@ -5,7 +5,7 @@ use Rattle.std.proofs.lemmas.Bool.{false≢true}
 use Rattle.std.proofs.lemmas.List.Elements.{All-head, All-tail}
 use Rattle.mx_wire.specs.declared.entry.Entry.{Entry}
 use Rattle.client_session.specs.Setups.{Setup as Service}
-use Rattle.query_rules.specs.declared.rule.Rule.{Rule}
+use Rattle.core_promises.specs.Judges.{Rulebook}
 use Rattle.private_model.proofs.Maps.{client_of}
 use Rattle.private_model.specs.Names.{ClientNo, LinkId}
 use Rattle.private_model.specs.Story.{is_client}
@@ -33,19 +33,19 @@ use Rattle.router_laws.proofs.OfWakes.Going.{Laws, MayGoOn}
 use Rattle.router_laws.specs.wakes.Calling.{AllGoOn, Caller, CallerGoesOn, CallsSo, is_called}
 use Rattle.router_laws.specs.wakes.Deciding.{found_in}
 
-module _ (laws : Laws) (judges : TurnsJudge) (rules : List Rule) (service : Service) (default : List ℕ) (g : Ground) (looked : (x : ClientNo) → g.fresh x ≡ false)
+module _ (laws : Laws) (judges : TurnsJudge) (book : Rulebook) (service : Service) (default : List ℕ) (g : Ground) (looked : (x : ClientNo) → g.fresh x ≡ false)
     (classes : AreClasses g.setup.reads) (single : (whose : ClientNo → Bool) → AreSingle g.plan whose) where
   abbrev At : List ClientNo → (early late : Tale) → (ClientNo → Bool) → Tabled → Type 0
   At cs early late over t = IsAt laws service default g looked classes single cs early late over t
 
   -- of this caller, which is this client
   abbrev pub IsCallerJudged : Caller → tales.Client → Type 0
-  IsCallerJudged caller x = JudgedFrom rules g.plan x x.taken caller.choices
+  IsCallerJudged caller x = JudgedFrom book g.setup g.plan x x.taken caller.choices
 
   module _ (cs : List ClientNo) (early late : Tale) (over : ClientNo → Bool) (t now : Tabled) (at : At cs early late over t) (caller : Caller)
       (x : tales.Client) (is : IsCaller service default g caller x) (aside : AreAside cs x) (seated : IsSeated late x)
       (goes : CallerGoesOn service default caller t now)
-      (ruled : AreRuled rules caller.choices caller.halt service default caller.client t goes.turned goes.turns) where
+      (ruled : AreRuled book caller.choices caller.halt service default caller.client t goes.turned goes.turns) where
     abbrev h : Ground
     h = with_over laws service default g looked classes single over early
 
@@ -54,7 +54,7 @@ module _ (laws : Laws) (judges : TurnsJudge) (rules : List Rule) (service : Serv
 
     one_judged : IsCallerJudged caller x
     one_judged =
-        judges rules service default x x early (on h early) t goes.turned caller.choices caller.halt caller.client is.number
+        judges book service default x x early (on h early) t goes.turned caller.choices caller.halt caller.client is.number
         (going.turning laws service default h looked early t goes.turned now x caller may at.stands
         (subst (λ (c : ClientNo). Turns caller.choices caller.halt service default c t goes.turned) (sym is.number) goes.turns)
         (subst (λ (c : ClientNo). PartsSo caller.parting c goes.turned now) (sym is.number) goes.parts))
@@ -67,7 +67,7 @@ module _ (laws : Laws) (judges : TurnsJudge) (rules : List Rule) (service : Serv
 
   pub all_judged : (ks : List Caller) (xs : List tales.Client) → AreCallers service default g ks xs → (cs : List ClientNo) (early late : Tale)
       (over : ClientNo → Bool) (t now : Tabled) → AreApart cs xs → All (IsSeated late) xs → At cs early late over t
-      → (goes : AllGoOn ks service default t now) → AreRuledAll rules ks service default t now goes → AreJudgedAll ks xs
+      → (goes : AllGoOn ks service default t now) → AreRuledAll book ks service default t now goes → AreJudgedAll ks xs
   all_judged [] xs are cs early late over t now apart seated at goes ruled = tt
   all_judged (k ∷ ks) [] are cs early late over t now apart seated at goes ruled = tt
   all_judged (k ∷ ks) (x ∷ xs) are cs early late over t now apart seated at goes ruled =
@@ -121,20 +121,20 @@ module _ (laws : Laws) (judges : TurnsJudge) (rules : List Rule) (service : Serv
       (judged_in tale c ks ys theirs.1 (All-tail (IsSeated tale) y ys seated) judged.1) (is_client c k.client) refl there
 
 -- All that are called.
-module _ (laws : Laws) (frees : Frees) (judges : TurnsJudge) (rules : List Rule) (service : Service) (default : List ℕ) (g : Ground) (t mid now : Tabled)
+module _ (laws : Laws) (frees : Frees) (judges : TurnsJudge) (book : Rulebook) (service : Service) (default : List ℕ) (g : Ground) (t mid now : Tabled)
     (roomy room over : ClientNo → Bool) (e : Entry) (ks : List Caller) (links : List LinkId) (rests : Rests service g t roomy)
     (is : IsCalling service default g e ks over roomy room) (stands : Stands service (on g (counted g.tale)) mid)
     (rested : NoneDone g.setup g.plan (counted g.tale)) (so : CallsSo service default ks links mid now)
-    (ruled : AreRuledAll rules ks service default mid so.turned so.going) where
+    (ruled : AreRuledAll book ks service default mid so.turned so.going) where
   abbrev heard : Tale
   heard = counted g.tale
 
   abbrev xs : List tales.Client
   xs = clients_of (is_called ks) heard
 
-  judged : AreJudgedAll laws judges rules service default g rests.looked is.classes is.single ks xs
+  judged : AreJudgedAll laws judges book service default g rests.looked is.classes is.single ks xs
   judged =
-      all_judged laws judges rules service default g rests.looked is.classes is.single ks xs
+      all_judged laws judges book service default g rests.looked is.classes is.single ks xs
       (called.are laws frees service default g t mid now roomy room over e ks links rests is stands rested so) [] heard heard g.over mid so.turned
       (called.kept_apart (is_called ks) 1 heard.clients
       (called.numbered laws frees service default g t mid now roomy room over e ks links rests is stands rested so))
@@ -142,8 +142,8 @@ module _ (laws : Laws) (frees : Frees) (judges : TurnsJudge) (rules : List Rule)
       (called.first laws frees service default g t mid now roomy room over e ks links rests is stands rested so) so.going ruled
 
   pub judged_of : (c : ClientNo) → is_called ks c ≡ true
-      → IsJudgedIn laws judges rules service default g rests.looked is.classes is.single ks heard c
+      → IsJudgedIn laws judges book service default g rests.looked is.classes is.single ks heard c
   judged_of c there =
-      judged_in laws judges rules service default g rests.looked is.classes is.single heard c ks xs
+      judged_in laws judges book service default g rests.looked is.classes is.single heard c ks xs
       (called.are laws frees service default g t mid now roomy room over e ks links rests is stands rested so)
       (called.seated_xs laws frees service default g t mid now roomy room over e ks links rests is stands rested so) judged there

@@ -30,6 +30,7 @@ use Rattle.core_stands.specs.Stands.{IsAt, IsCalm, Rests}
 use Rattle.core_laws.specs.entry.Cores.{with_entry}
 use Rattle.core_laws.specs.clients.Going.{GivenUp}
 use Rattle.query_rules.specs.Passing.{rules_of}
+use Rattle.core_promises.specs.Ruled.{book_of}
 use Rattle.router_laws.specs.decisions.Plans.{HasDeeds, PlansSo}
 use Rattle.router_laws.specs.decisions.Routers.{IsRouter, WaitsThen}
 use Rattle.router_laws.specs.decisions.Rulings.{AreRuledAll}
@@ -155,7 +156,7 @@ module _ (service : Service) (given : List GivenUp) (callers : List Caller) (lin
 
   pub woke_router : Knows service.setup → (router : IsRouter service log t roomy) → MayFollow log e → All IsGivenOurs given
       → All (IsCallerOurs (rules_of service.rules)) callers → WaitsThen service log e router.core.decided → TurnsJudge
-      → AreRuledAll (rules_of service.rules) callers service.setup service.default_schema wakes.late wakes.calls.turned wakes.calls.going
+      → AreRuledAll (book_of service) callers service.setup service.default_schema wakes.late wakes.calls.turned wakes.calls.going
       → All (λ (k : Caller). TellsFor k.parting service.setup k.client) callers → IsRouter service (with_entry log e) now room
   woke_router knows router may given_ours ours waits judges ruled tells =
       calls_router service knows log e (woke_tells until_ms now_ms) t wakes.late now roomy room given callers links router may wakes.gives wakes.all_given
@@ -203,7 +204,7 @@ module _ (service : Service) (given : List GivenUp) (callers : List Caller) (lin
 
   pub fails_router : Knows service.setup → IsRouter service log t roomy → MayFollow log failed → All IsGivenOurs given
       → All (IsCallerOurs (rules_of service.rules)) callers → TurnsJudge
-      → AreRuledAll (rules_of service.rules) callers service.setup service.default_schema fails.late fails.calls.turned fails.calls.going
+      → AreRuledAll (book_of service) callers service.setup service.default_schema fails.late fails.calls.turned fails.calls.going
       → All (λ (k : Caller). TellsFor k.parting service.setup k.client) callers → IsRouter service (with_entry log failed) now roomy
   fails_router knows router may given_ours ours judges ruled tells =
       calls_router service knows log failed (fails_tells server address) t fails.late now roomy roomy given callers links router may fails.gives

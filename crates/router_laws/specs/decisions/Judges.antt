@@ -3,8 +3,6 @@ use Rattle.std.specs.Prelude.{◌≡◌, ℕ, suc, Bool, true, All, is_some, len
 use Rattle.mx_wire.specs.Log.{Log}
 use Rattle.mx_wire.specs.declared.entry.Entry.{Entry}
 use Rattle.packet_frame.specs.Packets.{Framed}
-use Rattle.query_rules.specs.Passing.{rules_of}
-use Rattle.query_rules.specs.declared.rule.Rule.{Rule}
 use Rattle.private_model.specs.Names.{ClientNo}
 use Rattle.private_model.specs.View.{Setup}
 use Rattle.link_laws.specs.Stands.{Codes}
@@ -19,7 +17,8 @@ use Rattle.core_service.specs.declared.service.Service.{Service}
 use Rattle.core_laws.specs.clients.Turns.{Answers, Choice, Goes}
 use Rattle.core_laws.specs.entry.Cores.{with_entry}
 use Rattle.core_laws.specs.entry.Tells.{Fits, IsOf}
-use Rattle.core_promises.specs.Judges.{IsVerdictFor, goes_by}
+use Rattle.core_promises.specs.Judges.{IsVerdictFor, Rulebook, goes_by}
+use Rattle.core_promises.specs.Ruled.{book_of}
 use Rattle.router_laws.specs.decisions.Deeds.{Counts, Deeds, decided_with}
 
 abbrev pub verdict_of : Choice → Verdict
@@ -27,11 +26,12 @@ verdict_of (Goes route) = goes_by route
 verdict_of (Answers payloads) = Tells payloads
 
 -- of a client's messages from the k-th on, where this is decided of them
-abbrev pub JudgedFrom : List Rule → Plan → Client → (k : ℕ) → List Choice → Type 0
-JudgedFrom rules plan client k [] = Unit {0}
-JudgedFrom rules plan client k (choice ∷ others) =
-    ((message : Framed) → slice_get (messages plan client) k ≡ Some message → IsVerdictFor rules client.number message.payload (verdict_of choice))
-    × JudgedFrom rules plan client (suc k) others
+abbrev pub JudgedFrom : Rulebook → Setup → Plan → Client → (k : ℕ) → List Choice → Type 0
+JudgedFrom book setup plan client k [] = Unit {0}
+JudgedFrom book setup plan client k (choice ∷ others) =
+    ((message : Framed) → slice_get (messages plan client) k ≡ Some message
+    → IsVerdictFor book (setup.accounts client.number).user client.number message.payload (verdict_of choice))
+    × JudgedFrom book setup plan client (suc k) others
 
 -- the last message goes to a server, of each client for which this holds
 abbrev pub AreSent : Plan → Tale → (ClientNo → Bool) → Type 0
@@ -41,7 +41,7 @@ AreSent plan tale given =
 -- Behind an entry with these deeds: what each client took up at it is judged, and what is given up went to a server.
 pub record IsJudgedThen (service : Service) (log : Log) (e : Entry) (n : Counts) (deeds : Deeds) (setup : Setup) (plan : Plan) : Type 0 where
   pub takes : (client : Client) → IsSeated (tale_of setup plan (with_entry log e)) client
-      → JudgedFrom (rules_of service.rules) plan client (n.taken client.number) (deeds.calls client.number)
+      → JudgedFrom (book_of service) setup plan client (n.taken client.number) (deeds.calls client.number)
   pub gives : AreSent plan (tale_of setup plan log) (λ c. is_some (deeds.given c))
 
 -- by each plan that has what is decided then, and fits

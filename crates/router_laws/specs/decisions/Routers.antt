@@ -23,6 +23,7 @@ use Rattle.query_rules.specs.Passing.{rules_of}
 use Rattle.router_promises.specs.Terms.{Terms, plan_in, setup_in}
 use Rattle.core_promises.specs.Waits.{AreDoneBy, WaitsSo}
 use Rattle.core_promises.specs.Judges.{JudgesBy}
+use Rattle.core_promises.specs.Ruled.{book_of}
 use Rattle.router_laws.specs.decisions.Speaks.{DecidesOwn}
 use Rattle.router_laws.specs.decisions.Plans.{AreUngiven, PlansSo}
 use Rattle.router_laws.specs.decisions.Records.{AreCountsBy, AreCountsOf, IsRecorded}
@@ -40,7 +41,7 @@ pub record IsRouter (service : Service) (log : Log) (t : Tabled) (roomy : Client
   pub open_just : AreOpenJust log t
   pub spoken : DecidesOwn (rules_of service.rules) core.decided
   pub waited : AreDoneBy service.default_schema core.decided log
-  pub judged : JudgesBy (rules_of service.rules) service.default_schema core.decided log
+  pub judged : JudgesBy (book_of service) service.default_schema core.decided log
 
 -- where the entry is a wait, all is done
 abbrev pub WaitsThen : Service → Log → Entry → Decided → Type 0

@@ -3,7 +3,7 @@ use Rattle.std.specs.Prelude.{◌≡◌, ℕ, false, List, Option, Some}
 use Rattle.std.specs.Option.{option_map}
 use Rattle.mx_base.specs.declared.names.LinkId.{LinkId}
 use Rattle.client_session.specs.Setups.{Setup as Service}
-use Rattle.query_rules.specs.declared.rule.Rule.{Rule}
+use Rattle.core_promises.specs.Judges.{Rulebook}
 use Rattle.core_tables.specs.Hearing.{IsHeardOn}
 use Rattle.core_tables.specs.Parting.{freed_in, given_up_in, name_in}
 use Rattle.core_tables.specs.Tables.{IsSame, Tabled}
@@ -30,7 +30,7 @@ pub record HearsSo (service : Service) (default : List ℕ) (l : LinkId) (bytes 
   pub goes : GoesSo going service default freed new
 
 -- And the turns of the client that goes on are ruled.
-pub record HearsRuled (rules : List Rule) (service : Service) (default : List ℕ) (l : LinkId) (bytes : List ℕ) (now : ℕ) (given : Option GivenUp)
+pub record HearsRuled (book : Rulebook) (service : Service) (default : List ℕ) (l : LinkId) (bytes : List ℕ) (now : ℕ) (given : Option GivenUp)
     (going : Option Going) (old new : Tabled) : Type 0 where
   pub so : HearsSo service default l bytes now given going old new
-  pub ruled : IsRuledOn rules going service default so.freed new so.goes
+  pub ruled : IsRuledOn book going service default so.freed new so.goes

@@ -12,7 +12,7 @@ ghost use Rattle.core_laws.specs.clients.Follows.{Parting};
 ghost use Rattle.core_laws.specs.clients.Turns.{Choice, Halt};
 ghost use Rattle.router_laws.specs.clients.Leaves.{IsLossOf, LeavesAgain, LeavesAtOnce, LeavesGoing};
 ghost use Rattle.query_rules.specs.Passing.{rules_of};
-ghost use Rattle.core_promises.specs.Ruled.{AreRuled};
+ghost use Rattle.core_promises.specs.Ruled.{AreRuled, book_of};
 ghost use Rattle.router_laws.specs.decisions.Speaks.{IsOurs, IsPartingOurs};
 ghost use Rattle.router_laws.specs.decisions.Routers.{IsRouter};
 ghost use Rattle.router_laws.specs.entering.Rooms.{OthersLack};
@@ -42,7 +42,7 @@ pub fn leaves_going_router()
         → IsRouter service log t roomy → MayFollow log e → IsLossOf link e
         → (so : LeavesGoing service.setup service.default_schema link links ordinal choices halt parting c t now)
         → All (IsOurs (rules_of service.rules) c) choices → IsPartingOurs parting → OthersLack c roomy room
-        → AreRuled (rules_of service.rules) choices halt service.setup service.default_schema c so.between so.follows.turned so.follows.turns
+        → AreRuled (book_of service) choices halt service.setup service.default_schema c so.between so.follows.turned so.follows.turns
         → IsRouter service (with_entry log e) now room }
 {
     crate::clients::leaves_going();

@@ -17,6 +17,7 @@ ghost use Rattle.private_model.specs.Names.{ClientNo};
 ghost use Rattle.core_laws.specs.entry.Cores.{with_entry};
 ghost use Rattle.core_laws.specs.clients.Going.{Going};
 ghost use Rattle.query_rules.specs.Passing.{rules_of};
+ghost use Rattle.core_promises.specs.Ruled.{book_of};
 ghost use Rattle.router_laws.specs.decisions.Speaks.{AreGivenOurs, AreGoingOurs};
 ghost use Rattle.router_laws.specs.decisions.Judges.{JudgesThen};
 ghost use Rattle.router_laws.specs.decisions.Goings.{deeds_of};
@@ -36,7 +37,7 @@ pub fn loses_judge()
     ensures { (service : Service) (log : Log) (t now : Tabled) (roomy : ClientNo → Bool) (l : LinkId) (how : Break)
         (given : Option GivenUp) (going : Option Going) → (router : IsRouter service log t roomy) → MayFollow log (entry_by how l)
         → (so : LosesSo service.setup service.default_schema l given going t now)
-        → IsRuledOn (rules_of service.rules) going service.setup service.default_schema so.lost now so.goes
+        → IsRuledOn (book_of service) going service.setup service.default_schema so.lost now so.goes
         → JudgesThen service log (entry_by how l) router.core.decided router.counts (deeds_of given going) }
 {
     core_laws::parting::lost_stands();
@@ -58,7 +59,7 @@ pub fn loses_router()
     ensures { (service : Service) (log : Log) (t now : Tabled) (roomy : ClientNo → Bool) (l : LinkId) (how : Break)
         (given : Option GivenUp) (going : Option Going) → IsRouter service log t roomy → MayFollow log (entry_by how l)
         → AreGivenOurs given → AreGoingOurs (rules_of service.rules) going → (so : LosesSo service.setup service.default_schema l given going t now)
-        → IsRuledOn (rules_of service.rules) going service.setup service.default_schema so.lost now so.goes
+        → IsRuledOn (book_of service) going service.setup service.default_schema so.lost now so.goes
         → IsRouter service (with_entry log (entry_by how l)) now roomy }
 {
     loses_judge();

@@ -22,7 +22,8 @@ ghost use Rattle.router_laws.specs.decisions.Rulings.{IsRuledOn};
 ghost use Rattle.router_laws.specs.decisions.Routers.{GoesSoBy, IsRouter};
 ghost use Rattle.router_laws.specs.reading.Givings.{MayGiveUp};
 ghost use Rattle.query_rules.specs.Passing.{rules_of};
-ghost use Rattle.query_rules.specs.declared.rule.Rule.{Rule};
+ghost use Rattle.core_promises.specs.Ruled.{book_of};
+ghost use Rattle.core_promises.specs.Judges.{Rulebook};
 ghost use Rattle.router_laws.specs.decisions.Speaks.{AreGivenOurs, AreGoingOurs};
 ghost use Rattle.router_laws.specs.reading.Hears.{HearsRuled, HearsSo};
 
@@ -59,7 +60,7 @@ pub fn hears_judge()
     ensures { (service : Service) (log : Log) (t now : Tabled) (roomy : ClientNo → Bool) (l : LinkId) (bytes : List ℕ)
         (clock : ℕ) (given : Option GivenUp) (going : Option Going) → (router : IsRouter service log t roomy) → MayFollow log (Got l bytes)
         → AreBytes bytes → (so : HearsSo service.setup service.default_schema l bytes clock given going t now)
-        → IsRuledOn (rules_of service.rules) going service.setup service.default_schema so.freed now so.goes
+        → IsRuledOn (book_of service) going service.setup service.default_schema so.freed now so.goes
         → JudgesThen service log (Got l bytes) router.core.decided router.counts (deeds_of given going) }
 {
     core_laws::hearing::bytes_are_heard();
@@ -84,7 +85,7 @@ pub fn hears_router()
         (clock : ℕ) (given : Option GivenUp) (going : Option Going) → IsRouter service log t roomy → MayFollow log (Got l bytes)
         → AreBytes bytes → (so : HearsSo service.setup service.default_schema l bytes clock given going t now) → AreGivenOurs given
         → AreGoingOurs (rules_of service.rules) going
-        → IsRuledOn (rules_of service.rules) going service.setup service.default_schema so.freed now so.goes
+        → IsRuledOn (book_of service) going service.setup service.default_schema so.freed now so.goes
         → IsRouter service (with_entry log (Got l bytes)) now roomy }
 {
     hears_judge();
@@ -96,13 +97,13 @@ pub fn hears_router()
 
 /// So it is by the code's calls, one after the other, and ruled where the turns are; and who went on before what is given up goes on behind it.
 pub fn hears_so()
-    ensures so { (rules : List Rule) (service : Serving) (default : List ℕ) (l : LinkId) (bytes : List ℕ) (clock : ℕ) (given : Option GivenUp) (going : Option Going)
+    ensures so { (book : Rulebook) (service : Serving) (default : List ℕ) (l : LinkId) (bytes : List ℕ) (clock : ℕ) (given : Option GivenUp) (going : Option Going)
         (server : Server) (said : Said) (old heard mid freed now : Tabled) → old.links l ≡ Some server → server.row.lost ≡ false
         → server.row.link.spoilt ≡ false → IsHeard l bytes clock said heard old → MayGiveUp given heard
         → IsSame mid (given_up_in (told_to given) heard) → IsSame freed (freed_in l mid)
         → IsCalled (name_in server.row.link.state.carries) given freed (option_map (λ (g : Going). g.client) going)
-        → (goes : GoesSo going service default freed now) → IsRuledOn rules going service default freed now goes
-        → HearsRuled rules service default l bytes clock given going old now }
+        → (goes : GoesSo going service default freed now) → IsRuledOn book going service default freed now goes
+        → HearsRuled book service default l bytes clock given going old now }
     ensures going { (l : LinkId) (given : Option GivenUp) (heard mid freed : Tabled) (c : ClientNo)
         → IsSame mid (given_up_in (told_to given) heard) → IsSame freed (freed_in l mid) → is_going (freed.clients c) ≡ is_going (heard.clients c) }
 {}

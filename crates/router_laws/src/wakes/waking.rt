@@ -17,6 +17,7 @@ ghost use Rattle.router_laws.specs.wakes.Deciding.{IsCallerOurs};
 ghost use Rattle.router_laws.specs.decisions.Speaks.{IsGivenOurs};
 ghost use Rattle.router_laws.specs.waits.Drained.{IsDrainedFor};
 ghost use Rattle.query_rules.specs.Passing.{rules_of};
+ghost use Rattle.core_promises.specs.Ruled.{book_of};
 ghost use Rattle.router_laws.specs.wakes.Waking.{FailsSo, WakesSo};
 
 /// A router goes on with a wake that comes where nothing is left to read or to write; nobody has to have room behind it.
@@ -26,7 +27,7 @@ pub fn wakes_router()
         → MayFollow log (Woke until_ms now_ms) → IsDrainedFor t log
         → (wakes : WakesSo service.setup service.default_schema given callers links roomy t now) → All IsGivenOurs given
         → All (IsCallerOurs (rules_of service.rules)) callers
-        → AreRuledAll (rules_of service.rules) callers service.setup service.default_schema wakes.late wakes.calls.turned wakes.calls.going
+        → AreRuledAll (book_of service) callers service.setup service.default_schema wakes.late wakes.calls.turned wakes.calls.going
         → IsRouter service (with_entry log (Woke until_ms now_ms)) now room }
 {
     core_laws::clients::turns_find();
@@ -48,7 +49,7 @@ pub fn fails_router()
         (callers : List Caller) (links : List LinkId) (server : ServerId) (address : Address) → IsRouter service log t roomy
         → MayFollow log (OpenFailed server address) → (fails : FailsSo service.setup service.default_schema given callers links t now)
         → All IsGivenOurs given → All (IsCallerOurs (rules_of service.rules)) callers
-        → AreRuledAll (rules_of service.rules) callers service.setup service.default_schema fails.late fails.calls.turned fails.calls.going
+        → AreRuledAll (book_of service) callers service.setup service.default_schema fails.late fails.calls.turned fails.calls.going
         → IsRouter service (with_entry log (OpenFailed server address)) now roomy }
 {
     core_laws::clients::turns_find();
