@@ -34,7 +34,7 @@ could-come terms past e tells =
 
 -- Links that are lent.
 
-joined-lent : {A : Type 0} (a b : SessionName) → ◌≡◌ {A = Carried} (Joined a) (Lent b) → A
+pub joined-lent : {A : Type 0} (a b : SessionName) → ◌≡◌ {A = Carried} (Joined a) (Lent b) → A
 joined-lent a b is = absurd (cc)
 
 lent-nobody : {A : Type 0} (a : SessionName) → ◌≡◌ {A = Carried} (Lent a) Nobody → A
@@ -43,7 +43,7 @@ lent-nobody a is = absurd (cc)
 same-lent : (a b : SessionName) → ◌≡◌ {A = Carried} (Lent a) (Lent b) → a ≡ b
 same-lent a b is = cc
 
-same-joined : (a b : SessionName) → ◌≡◌ {A = Carried} (Joined a) (Joined b) → a ≡ b
+pub same-joined : (a b : SessionName) → ◌≡◌ {A = Carried} (Joined a) (Joined b) → a ≡ b
 same-joined a b is = cc
 
 lent-by : (n other : SessionName) (link : Link) (held : Held) → MayLend n link held → link.carries ≡ Lent other → other ≡ n

@@ -4,3 +4,4 @@ pub mod Asking
 pub mod Shared
 pub mod Plain
 pub mod OnClasses
+pub mod LeftBehind

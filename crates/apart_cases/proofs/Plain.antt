@@ -1,4 +1,4 @@
--- A query that isn't refused goes to a server as it is, where there are no rules and a server is there.
+-- A query that isn't refused goes to a server of its user's hostgroup as it is, where there are no rules and a server is there.
 use Rattle.std.specs.Prelude.{◌≡◌, ℕ, Bool, true, false, not, ◌&&◌, ◌||◌, List, [], ◌∷◌, Option, Some, None, if◌then◌else◌, refl}
 use Rattle.pin_classifier.specs.Classes.{class_of}
 use Rattle.pin_classifier.specs.declared.class.Class.{Class}
@@ -18,7 +18,10 @@ use Rattle.core_promises.specs.Judges.{IsVerdictFor, Knowledge, goes_by}
 abbrev kept : Pin
 kept = record no_pin { diag = true; own_diag = true; own_found = true }
 
-module _ (c : ClientNo) (home : Hostgroup) (text : List ℕ) where
+module _ (homes : (user : List ℕ) → Hostgroup) (user : List ℕ) (c : ClientNo) (text : List ℕ) where
+  abbrev home : Hostgroup
+  home = homes user
+
   abbrev class : Class
   class = class_of text
 
@@ -27,7 +30,7 @@ module _ (c : ClientNo) (home : Hostgroup) (text : List ℕ) where
 
   abbrev known : Knowledge
   known = record {
-    caller = record { number = c; user = []; home = home; place = record { schema = []; settings = defaults }; flag = 0; last = None };
+    caller = record { number = c; user = user; home = home; place = record { schema = []; settings = defaults }; flag = 0; last = None };
     standing = record { transaction = None; next_number = None };
     pins = λ hostgroup. kept;
     is_there = λ hostgroup. true;
@@ -68,6 +71,7 @@ module _ (c : ClientNo) (home : Hostgroup) (text : List ℕ) where
   asked true is free plain = absurd (cc)
   asked false is free plain = by-refusal class.refusal free plain
 
-  pub goes-as-it-is : class.refusal ≡ None → is_connection_id class.shape ≡ false → IsVerdictFor [] c (com_query ∷ text) (goes_by as_it_is)
+  pub goes-as-it-is : class.refusal ≡ None → is_connection_id class.shape ≡ false
+      → IsVerdictFor (record { rules = []; home = homes }) user c (com_query ∷ text) (goes_by as_it_is)
   unfolding router_reads
-  goes-as-it-is free plain = record { known = known; client = refl; flag = refl; is = asked (is_connection_id class.shape) plain free plain }
+  goes-as-it-is free plain = record { known = known; client = refl; login = refl; home = refl; flag = refl; is = asked (is_connection_id class.shape) plain free plain }

@@ -8,13 +8,14 @@ use Rattle.private_model.specs.Story.{is_message}
 use Rattle.log_story.specs.Plan.{LastWord, OwnAnswer, Route, com_query}
 use Rattle.own_words.specs.Own.{GivesUp, IsOwn, NoLink, SpeaksOwn}
 use Rattle.core_promises.specs.Asks.{CopiesNothing}
-use Rattle.core_promises.specs.Judges.{IsVerdictFor, JudgesSo, goes_by}
+use Rattle.core_promises.specs.Judges.{IsVerdictFor, JudgesSo, goes_by, rulebook_of}
 use Rattle.core_promises.specs.Waits.{WaitsSo}
 use Rattle.promise_tests.proofs.Moments.{entries-so}
 use Rattle.promise_tests.specs.Tests.{each_entry}
 use Rattle.router_cases.proofs.OnLogs.{on_logs}
-use Rattle.router_cases.specs.Worked.{Stored, group, insert, log, message, plan, route, router, terms_with}
+use Rattle.router_cases.specs.Worked.{Stored, anybody, insert, log, message, plan, route, router, terms_with}
 use Rattle.router_promises.specs.Now.{at_first, now_at}
+use Rattle.router_promises.specs.Router.{home_of}
 use Rattle.apart_cases.specs.Tests.{all_say, waits}
 use Rattle.apart_cases.proofs.Asking.{judges-so}
 use Rattle.apart_cases.proofs.OnClasses.{on_classes}
@@ -30,11 +31,11 @@ waits-worked stored =
     entries-so (terms_with stored) (waits (terms_with stored)) (WaitsSo (terms_with stored)) log
     (λ l e so. waits-so (terms_with stored) l (now_at (terms_with stored) l) e so) (waited stored)
 
--- Each message is an INSERT, which goes to the one server.
+-- Each message is an INSERT, which goes to the one server, in its user's hostgroup.
 
-goes-there : (c : ClientNo) → IsVerdictFor router.rules c (com_query ∷ insert) (goes_by route)
+goes-there : (c : ClientNo) → IsVerdictFor (rulebook_of router) anybody.user c (com_query ∷ insert) (goes_by route)
 unfolding on_classes
-goes-there c = goes-as-it-is c group insert refl refl
+goes-there c = goes-as-it-is (home_of router) anybody.user c insert refl refl
 
 said : (stored : Stored) → all_say (com_query ∷ insert) plan (now_at (terms_with stored) log) ≡ true
 unfolding on_logs

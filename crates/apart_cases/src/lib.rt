@@ -2,12 +2,17 @@
 #![tactic(auto)]
 
 mod judged;
+mod left_behind;
 mod lent;
 mod told;
 mod worked;
 mod written;
 
 pub use judged::{answers_ok_by_itself, sends_a_kill, sends_a_ping, sends_a_quit, sets_a_server};
+pub use left_behind::{
+    gives_back_before_it_asks, gives_back_behind_an_error, lends_with_another_insert_id,
+    sends_before_it_asks,
+};
 pub use lent::{
     gives_back_what_is_held, gives_back_what_is_unreset, lends_in_another_schema,
     lends_what_is_held, lends_what_is_lent, lends_with_earlier_settings, reads_what_others_left,
