@@ -2,7 +2,7 @@
 ghost use Rattle.std.specs.Prelude.{◌≡◌, ◌<◌, ℕ, length, IfOk, IfSome, Some, slice_get, slice_index};
 ghost use Rattle.slot_lists.specs.Orders.{before, last};
 ghost use Rattle.slots_by_age.specs.Aged.{IsNone, of_kind, put, taken};
-ghost use Rattle.conn_pool.specs.Shelves.{Fits, best_for, longest_in, of_server, shelf_of};
+ghost use Rattle.conn_pool.specs.Shelves.{Fits, best_for, longest_in, of_key, of_server, shelf_of};
 ghost use Rattle.conn_pool.specs.Sized.{IsFor, IsSmall};
 ghost use Rattle.conn_pool.specs.Pools.{brought_back, busy_if, closed, coming, expiring, given_back, opened, put_aside, rests_since, wants_link};
 
@@ -225,6 +225,14 @@ impl Pool {
         ensures { result ≡ slice_index self.now.waiting.since client }
     {
         self.waiting.since(client)
+    }
+
+    /// How many links of a key may be lent.
+    pub fn idle(&self, key: u32) -> u32
+        requires { key < self.now.idle.lendable.keys }
+        ensures { result ≡ length (of_key self.now.idle.lendable key) }
+    {
+        self.idle.count(key)
     }
 
     /// How many links of a key may be lent, log in, or have a step under way.

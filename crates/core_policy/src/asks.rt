@@ -56,7 +56,7 @@ impl Policy {
     /// Takes no memory.
     pub fn holds(&mut self, link: LinkId) {
         if let Some(part) = self.link(link) {
-            self.todo.links.held.put(part.slot, 0, 0);
+            self.todo.links.held.put(part.slot);
         }
     }
 
@@ -70,9 +70,12 @@ impl Policy {
         self.todo.keys.opens.put(key, MAY_WANT, 0);
     }
 
-    /// There may be room for a link more in a hostgroup. Takes no memory.
+    /// There may be room for a link more in a hostgroup, which matters where a key found none there. Takes no memory.
     pub(crate) fn has_room(&mut self, hostgroup: Hostgroup) {
-        self.todo.keys.rooms.put(u32::from(hostgroup.0), 0, 0);
+        let group = u32::from(hostgroup.0);
+        if self.todo.keys.opens.count(no_room(group)) > 0 {
+            self.todo.keys.rooms.put(group);
+        }
     }
 
     /// There may be room for one in the hostgroup of a key. Takes no memory.
@@ -89,7 +92,7 @@ impl Policy {
             return Some(key);
         }
         for _ in 0..u32::MAX {
-            let hostgroup = self.todo.keys.rooms.oldest_of_all()?;
+            let hostgroup = self.todo.keys.rooms.first()?;
             if let Some(key) = self.todo.keys.opens.oldest(no_room(hostgroup)) {
                 return Some(key);
             }
@@ -112,6 +115,7 @@ impl Policy {
     fn open_for(&mut self, service: &Service, key: u32) -> Option<Asks> {
         self.todo.keys.opens.take(key);
         if !self.wants_link(key) {
+            self.may_lend(key);
             return None;
         }
         let hostgroup = self.keys.row(key)?.hostgroup;
@@ -125,13 +129,22 @@ impl Policy {
             }));
         }
         if let Some(slot) = self.pool.evict(service.group(hostgroup)) {
-            self.todo.links.closes.put(slot, 0, 0);
+            self.todo.links.closes.put(slot);
             self.may_want(key);
             return self.next_close();
         }
-        let group = u32::from(hostgroup.0);
-        self.todo.keys.opens.put(key, no_room(group), 0);
-        self.todo.keys.rooms.take(group);
+        self.waits_for_room(key, hostgroup);
+        self.todo.keys.rooms.take(u32::from(hostgroup.0));
         None
+    }
+
+    /// A key stands among those for which there was no room in its hostgroup, by who waits longest for one of it. Takes no memory.
+    pub(crate) fn waits_for_room(&mut self, key: u32, hostgroup: Hostgroup) {
+        let since = match self.unserved.oldest(key) {
+            Some(slot) => self.unserved.since(slot),
+            None => 0,
+        };
+        let group = no_room(u32::from(hostgroup.0));
+        self.todo.keys.opens.put(key, group, since);
     }
 }

@@ -29,6 +29,8 @@ impl Policy {
         let part = ClientPart {
             slot,
             waits: None,
+            stands: None,
+            stood: None,
             served,
             ended: false,
             counted: 0,
@@ -43,36 +45,37 @@ impl Policy {
 
     /// Something changed of a client: its statement waits for a link, or waits no more; it ended, or was told all. Takes no memory.
     pub fn client_changed(&mut self, tables: &Tables, client: ClientNo, now: u64) {
-        let Some(row) = tables.clients.get(&client.0) else {
+        let (Some(row), Some(mut part)) = (tables.clients.get(&client.0), self.client(client))
+        else {
             return;
         };
-        self.leaves_if_behind(client, row);
-        self.waits_if_due(client, row);
-        self.counts(client, row);
+        self.leaves_if_behind(&mut part, row);
+        self.waits_if_due(&part, row);
+        self.counts(&mut part, row);
         if is_ended(row) {
-            self.ended(client, row, now);
+            self.ended(&mut part, row, now);
         }
-        self.logs_in(client, row);
+        self.logs_in(&part, row);
+        if let Some(place) = self.clients.get_mut(&client.0) {
+            *place = part;
+        }
     }
 
     // It ended: its link closes once all is written, or its time is over.
-    fn ended(&mut self, client: ClientNo, row: &Client, now: u64) {
-        let Some(part) = self.clients.get_mut(&client.0) else {
-            return;
-        };
+    fn ended(&mut self, part: &mut ClientPart, row: &Client, now: u64) {
         if !part.ended {
             part.ended = true;
             self.todo.clients.leavers.put(part.slot, 0, now);
         }
         if row.desk.seat.outgoing().is_empty() {
-            self.todo.clients.parts.put(part.slot, 0, 0);
+            self.todo.clients.parts.put(part.slot);
         }
     }
 
     /// A client parts: its link is closed next, whatever is left to write there. Takes no memory.
     pub fn parts(&mut self, client: ClientNo) {
         if let Some(part) = self.client(client) {
-            self.todo.clients.parts.put(part.slot, 0, 0);
+            self.todo.clients.parts.put(part.slot);
         }
     }
 
@@ -85,7 +88,7 @@ impl Policy {
             self.here = self.here.saturating_sub(1);
         }
         self.kept = self.kept.saturating_sub(part.counted);
-        self.leaves_queue(client);
+        self.leaves_queue(&part);
         self.todo.forget_client(part.slot);
         self.client_slots.leave(part.slot);
         let _ = self.clients.remove(&client.0);

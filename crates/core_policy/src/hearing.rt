@@ -166,7 +166,7 @@ impl Policy {
                 if cut {
                     self.cuts(link);
                 }
-                self.notes_rule(tables, link, name, purpose);
+                self.notes(tables, link, name, purpose);
                 Ok(answered(tables, link, name, purpose, &end, behind || cut))
             }
             Said::Bad { place } => match name {
@@ -176,19 +176,24 @@ impl Policy {
         }
     }
 
-    // Whether a rule keeps a session on its link, behind an answer there. A reset doesn't change that: what the rule kept may outlast it.
-    fn notes_rule(
+    // A session was served there; and whether a rule keeps it on its link, behind an answer there. A reset doesn't change that: what the rule
+    // kept may outlast it.
+    fn notes(
         &mut self,
         tables: &Tables,
         link: LinkId,
         name: Option<SessionName>,
         purpose: Purpose,
     ) {
-        let ruled = match (name, purpose) {
-            (_, Purpose::End { .. }) | (None, _) => None,
-            (Some(name), _) => is_ruled(tables, link, name),
+        let (Some(name), Some(part)) = (name, self.links.get_mut(&link.0)) else {
+            return;
         };
-        if let (Some(ruled), Some(part)) = (ruled, self.links.get_mut(&link.0)) {
+        part.served = true;
+        let ruled = match purpose {
+            Purpose::End { .. } => None,
+            _ => is_ruled(tables, link, name),
+        };
+        if let Some(ruled) = ruled {
             part.ruled = ruled;
         }
     }

@@ -8,6 +8,7 @@ mod deed;
 mod hearing;
 mod keys;
 mod lending;
+mod line;
 mod links;
 mod logins;
 mod looking;

@@ -25,7 +25,7 @@ impl Policy {
                     key: asked.key,
                     bare: key.bare,
                 },
-                user: key.user.as_slice(),
+                user: key.user,
                 found_rows: key.found_rows,
             },
             None => Login {
@@ -46,13 +46,20 @@ impl Policy {
         let Some(slot) = self.link_slots.take(link.0)? else {
             return Ok(());
         };
-        self.keys.hold(asked.key)?;
+        self.keys.hold(asked.key);
+        let once = match self.keys.row(asked.key) {
+            Some(key) => key.fresh,
+            None => false,
+        };
         let part = LinkPart {
             slot,
             key: asked.key,
             spot: None,
+            rests: false,
             cut: false,
             ruled: false,
+            once,
+            served: false,
         };
         self.links.insert(link.0, part)?;
         self.pool
@@ -68,7 +75,7 @@ impl Policy {
         self.pool.close(part.slot);
         self.todo.forget_link(part.slot);
         self.link_slots.leave(part.slot);
-        self.todo.keys.lends.put(part.key, 0, 0);
+        self.may_lend(part.key);
         self.room_for(part.key);
         self.keys.leave(part.key);
         if let Some(spot) = part.spot {

@@ -1,8 +1,9 @@
 // Clients that have to log in.
 
+use crate::parts::ClientPart;
 use crate::policy::Policy;
 use core_tables::Client;
-use mx_base::{ClientNo, OutOfMemory};
+use mx_base::OutOfMemory;
 use std::collections::BTreeSet;
 
 /// How long a client has for its login.
@@ -10,10 +11,7 @@ const LOGIN_MS: u64 = 10_000;
 
 impl Policy {
     // One that is logged in, or ended, has no login to say.
-    pub(crate) fn logs_in(&mut self, client: ClientNo, row: &Client) {
-        let Some(part) = self.client(client) else {
-            return;
-        };
+    pub(crate) fn logs_in(&mut self, part: &ClientPart, row: &Client) {
         if part.ended || row.desk.seat.account().is_some() {
             self.todo.clients.logins.take(part.slot);
         }
@@ -32,7 +30,7 @@ impl Policy {
             }
             self.todo.clients.logins.take(slot);
             if let Some(client) = self.client_at(slot) {
-                self.todo.clients.parts.put(slot, 0, 0);
+                self.todo.clients.parts.put(slot);
                 slow.insert(client.0)?;
             }
         }

@@ -3,7 +3,7 @@
 use crate::deed::Deed;
 use crate::keys::Keys;
 use crate::policy::{Policy, server_place};
-use crate::steps::begins_on;
+use crate::steps::{Next, begins_on};
 use conn_pool::Shelf;
 use core_service::Service;
 use core_tables::{Server, Tables};
@@ -16,6 +16,14 @@ fn take_spot(keys: &mut Keys, row: &Row) -> Result<Option<u32>, OutOfMemory> {
     match &row.link.state.told.schema {
         Some(schema) => keys.take_spot(row.key, schema.as_slice(), settings),
         None => keys.take_spot(row.key, &[0], settings),
+    }
+}
+
+// The number of its key with what it was told, which it has mostly.
+fn spot_of(keys: &mut Keys, known: Option<u32>, row: &Row) -> Result<Option<u32>, OutOfMemory> {
+    match known {
+        Some(spot) => Ok(Some(spot)),
+        None => take_spot(keys, row),
     }
 }
 
@@ -98,17 +106,43 @@ impl Policy {
         if is_lendable(row) {
             self.rests(service, link, row, now)?;
         }
-        if row.may_take() {
-            begins_on(self.alloc, tables, link, row)
-        } else {
-            Ok(None)
+        if !row.may_take() {
+            return Ok(None);
+        }
+        match begins_on(self.alloc, tables, link, row)? {
+            Some(next) => Ok(Some(self.begins(link, next))),
+            None => Ok(None),
         }
     }
 
-    // Whether it can serve nobody any more: it was cut; or a rule kept it for a client that left it, and what is left there isn't known.
+    // What goes there next may change what it was told, and where a client stands.
+    fn begins(&mut self, link: LinkId, next: Next) -> Deed {
+        if let Some(client) = next.moves {
+            if let Some(part) = self.clients.get_mut(&client.0) {
+                part.moves();
+            }
+            self.leaves_spot(link);
+        }
+        next.deed
+    }
+
+    // What a link was told isn't known any more.
+    fn leaves_spot(&mut self, link: LinkId) {
+        let Some(part) = self.links.get_mut(&link.0) else {
+            return;
+        };
+        if let Some(spot) = part.spot {
+            part.spot = None;
+            self.keys.leave_spot(spot);
+        }
+    }
+
+    // Whether it can serve nobody any more: it was cut; a rule kept it for a client that left it, and what is left there isn't known; or it was
+    // for one session alone.
     fn is_used_up(&self, link: LinkId, row: &Row) -> bool {
         match self.link(link) {
-            Some(part) => part.cut || (part.ruled && row.is_vacant()),
+            Some(part) => part.cut
+                || (row.is_vacant() && (part.ruled || (part.once && part.served))),
             None => false,
         }
     }
@@ -129,7 +163,7 @@ impl Policy {
             return Some(Deed::Unready { link, client });
         }
         if let Some(part) = self.link(link) {
-            self.todo.links.closes.put(part.slot, 0, 0);
+            self.todo.links.closes.put(part.slot);
         }
         if server.row.may_part() && !self.is_cut(link) {
             Some(Deed::BeginQuit { link })
@@ -149,13 +183,14 @@ impl Policy {
         let Some(part) = self.links.get_mut(&link.0) else {
             return Ok(());
         };
-        if part.spot.is_some() {
+        if part.rests {
             return Ok(());
         }
-        let Some(spot) = take_spot(&mut self.keys, row)? else {
+        let Some(spot) = spot_of(&mut self.keys, part.spot, row)? else {
             return Ok(());
         };
         part.spot = Some(spot);
+        part.rests = true;
         let server = server_place(row.link.server);
         let shelf = Shelf {
             key: row.key,
@@ -165,7 +200,7 @@ impl Policy {
         };
         self.pool.logged_in(part.slot);
         self.pool.give_back(part.slot, &shelf, row.used);
-        self.todo.keys.lends.put(row.key, 0, 0);
+        self.may_lend(row.key);
         if self.servers.status(row.link.server) != Some(ServerStatus::Online) {
             let _ = self.pool.put_aside(server, now);
         }

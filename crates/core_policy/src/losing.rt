@@ -98,7 +98,7 @@ impl Policy {
 
     // The statement that waits longest for a link of a key is given up.
     fn refuse_oldest(&mut self, tables: &Tables, key: u32) -> Option<GiveUp> {
-        self.todo.keys.lends.put(key, 0, 0);
+        self.may_lend(key);
         let client = self.oldest_of(key)?;
         give_up_unsent(tables, client, Failure::Refused)
     }

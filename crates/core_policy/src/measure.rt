@@ -1,6 +1,7 @@
 // How many bytes of clients are kept.
 
 use crate::clients::is_ended;
+use crate::parts::ClientPart;
 use crate::policy::Policy;
 use core_service::{Failure, Service};
 use core_tables::{Client, Tables};
@@ -8,10 +9,7 @@ use mx_base::ClientNo;
 
 impl Policy {
     // How many bytes of a client count is brought up to date.
-    pub(crate) fn counts(&mut self, client: ClientNo, row: &Client) {
-        let Some(part) = self.clients.get_mut(&client.0) else {
-            return;
-        };
+    pub(crate) fn counts(&mut self, part: &mut ClientPart, row: &Client) {
         let kept = if is_ended(row) {
             0
         } else {

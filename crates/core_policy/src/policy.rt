@@ -145,7 +145,7 @@ impl Policy {
     /// What goes to a link next may be another. Takes no memory.
     pub fn look_at(&mut self, link: LinkId) {
         if let Some(part) = self.link(link) {
-            self.todo.links.looks.put(part.slot, 0, 0);
+            self.todo.links.looks.put(part.slot);
         }
     }
 }

@@ -5,12 +5,50 @@ use crate::losing::name_in;
 use crate::waiting::unsent;
 use client_desk::Work;
 use core_tables::{Client, Tables};
-use link_state::{Carried, Purpose, Session, Task, Wish};
-use mx_base::{LinkId, OutOfMemory};
+use link_state::{Carried, Form, Purpose, Session, Task, Wish};
+use mx_base::{ClientNo, LinkId, OutOfMemory};
+use pin_classifier::Shape;
 use served_link::Row;
 use session_state::SessionName;
 use session_vars::Slot;
 use std::alloc::Global;
+
+/// What goes to a link next; and the client for which it does, where that may change what the link was told, and where the client stands.
+#[derive(Drop)]
+pub(crate) struct Next {
+    pub(crate) deed: Deed,
+    pub(crate) moves: Option<ClientNo>,
+}
+
+// Whether a statement may change what a link was told.
+fn moves(work: &Work) -> bool {
+    match &work.form {
+        Some(Form::Text(class)) => match &class.shape {
+            Shape::Use(_) => true,
+            Shape::Set(_) => true,
+            _ => false,
+        },
+        Some(Form::Reset) => true,
+        Some(_) => false,
+        None => true,
+    }
+}
+
+// Whether a step does.
+fn shifts(wish: &Wish) -> bool {
+    match wish {
+        Wish::Schema(_) => true,
+        Wish::Settings(_) => true,
+        _ => false,
+    }
+}
+
+fn next_on(deed: Deed, client: ClientNo, moves: bool) -> Option<Next> {
+    Some(Next {
+        deed,
+        moves: if moves { Some(client) } else { None },
+    })
+}
 
 // A step is in a session, where the link is joined to that, and else in nobody's.
 fn step_for(row: &Row, name: SessionName) -> Purpose {
@@ -27,7 +65,7 @@ fn begins_for(
     row: &Row,
     client: &Client,
     work: &Work,
-) -> Result<Option<Deed>, OutOfMemory> {
+) -> Result<Option<Next>, OutOfMemory> {
     let name = client.desk.name(work.hostgroup);
     let place = &client.desk.seat.place;
     if !place.settings.value(Slot::Names).is_text() {
@@ -36,14 +74,16 @@ fn begins_for(
     let wanted = work.wanted(client.desk.session(name.hostgroup).id);
     match row.wish(alloc, wanted, place, place)? {
         Wish::Prepare => Ok(None),
-        Wish::Statement => Ok(Some(Deed::BeginText { link, name })),
+        Wish::Statement => Ok(next_on(Deed::BeginText { link, name }, name.client, moves(work))),
         wish => {
             let purpose = step_for(row, name);
-            Ok(Some(Deed::BeginStep {
+            let shifts = shifts(&wish);
+            let deed = Deed::BeginStep {
                 link,
                 purpose,
                 wish,
-            }))
+            };
+            Ok(next_on(deed, name.client, shifts))
         }
     }
 }
@@ -54,7 +94,7 @@ fn begins_unlent(
     tables: &Tables,
     link: LinkId,
     row: &Row,
-) -> Result<Option<Deed>, OutOfMemory> {
+) -> Result<Option<Next>, OutOfMemory> {
     let Some(client) = row.readied else {
         return Ok(None);
     };
@@ -74,7 +114,7 @@ fn begins_in(
     link: LinkId,
     row: &Row,
     name: SessionName,
-) -> Result<Option<Deed>, OutOfMemory> {
+) -> Result<Option<Next>, OutOfMemory> {
     let Some(client) = tables.clients.get(&name.client.0) else {
         return Ok(None);
     };
@@ -109,14 +149,14 @@ pub(crate) fn begins_on(
     tables: &Tables,
     link: LinkId,
     row: &Row,
-) -> Result<Option<Deed>, OutOfMemory> {
+) -> Result<Option<Next>, OutOfMemory> {
     let Some(name) = name_in(row.link.state.carries) else {
         return begins_unlent(alloc, tables, link, row);
     };
     match task_of(tables, row, name) {
         Task::States => begins_in(alloc, tables, link, row, name),
-        Task::Captures => Ok(Some(Deed::BeginCapture { link, name })),
-        Task::Ends => Ok(Some(Deed::BeginEnd { link, name })),
+        Task::Captures => Ok(next_on(Deed::BeginCapture { link, name }, name.client, false)),
+        Task::Ends => Ok(next_on(Deed::BeginEnd { link, name }, name.client, true)),
         Task::Rests => Ok(None),
     }
 }

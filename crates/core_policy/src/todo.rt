@@ -1,6 +1,7 @@
 // What is left to do, by the small numbers of links, clients and keys. Nothing here takes memory but at the start, and as servers are shunned.
 ghost use Rattle.std.specs.Prelude.{◌^◌, ◌<◌};
 
+use crate::line::Line;
 use core_pool::Ages;
 use mx_base::{OutOfMemory, ServerId};
 use std::alloc::Global;
@@ -27,26 +28,26 @@ pub fn no_room(hostgroup: u32) -> u32 {
 /// Links of which the next wish may be another, that are readied for who waits no more, that are to be closed, and that couldn't be yet.
 #[derive(Drop)]
 pub struct LinkTodo {
-    pub looks: Ages,
-    pub unreadies: Ages,
-    pub closes: Ages,
-    pub held: Ages,
+    pub looks: Line,
+    pub unreadies: Line,
+    pub closes: Line,
+    pub held: Line,
 }
 
 /// Keys of which links may be lent, and that may want one more; and hostgroups in which there may be room for one.
 #[derive(Drop)]
 pub struct KeyTodo {
-    pub lends: Ages,
+    pub lends: Line,
     pub opens: Ages,
-    pub rooms: Ages,
+    pub rooms: Line,
 }
 
 /// Clients that part, that ended, whose statements may wait again, and that have to log in.
 #[derive(Drop)]
 pub struct ClientTodo {
-    pub parts: Ages,
+    pub parts: Line,
     pub leavers: Ages,
-    pub anew: Ages,
+    pub anew: Line,
     pub logins: Ages,
 }
 
@@ -62,10 +63,10 @@ pub struct Todo {
 fn no_links(alloc: Global, links: u32) -> Result<LinkTodo, OutOfMemory>
     requires { links < 2 ^ 31 }
 {
-    let looks = Ages::new(alloc, links, 1)?;
-    let unreadies = Ages::new(alloc, links, 1)?;
-    let closes = Ages::new(alloc, links, 1)?;
-    let held = Ages::new(alloc, links, 1)?;
+    let looks = Line::new(alloc, links)?;
+    let unreadies = Line::new(alloc, links)?;
+    let closes = Line::new(alloc, links)?;
+    let held = Line::new(alloc, links)?;
     Ok(LinkTodo {
         looks,
         unreadies,
@@ -77,9 +78,9 @@ fn no_links(alloc: Global, links: u32) -> Result<LinkTodo, OutOfMemory>
 fn no_keys(alloc: Global, keys: u32) -> Result<KeyTodo, OutOfMemory>
     requires { keys < 2 ^ 31 }
 {
-    let lends = Ages::new(alloc, keys, 1)?;
+    let lends = Line::new(alloc, keys)?;
     let opens = Ages::new(alloc, keys, HOSTGROUPS + 1)?;
-    let rooms = Ages::new(alloc, HOSTGROUPS, 1)?;
+    let rooms = Line::new(alloc, HOSTGROUPS)?;
     Ok(KeyTodo {
         lends,
         opens,
@@ -90,9 +91,9 @@ fn no_keys(alloc: Global, keys: u32) -> Result<KeyTodo, OutOfMemory>
 fn no_clients(alloc: Global, clients: u32) -> Result<ClientTodo, OutOfMemory>
     requires { clients < 2 ^ 31 }
 {
-    let parts = Ages::new(alloc, clients, 1)?;
+    let parts = Line::new(alloc, clients)?;
     let leavers = Ages::new(alloc, clients, 1)?;
-    let anew = Ages::new(alloc, clients, 1)?;
+    let anew = Line::new(alloc, clients)?;
     let logins = Ages::new(alloc, clients, 1)?;
     Ok(ClientTodo {
         parts,

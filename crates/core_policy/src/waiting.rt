@@ -1,12 +1,11 @@
 // Statements that wait for a link.
 
-use crate::keys::LinkKey;
-use crate::parts::Waiting;
+use crate::keys::{Keys, LinkKey};
+use crate::parts::{ClientPart, Standpoint, Waiting};
 use crate::policy::Policy;
-use client_desk::Work;
+use client_desk::{Work, outlasts};
 use core_tables::{Client, Tables};
-use mx_base::{Bytes, ClientNo, Hostgroup, OutOfMemory};
-use std::alloc::Global;
+use mx_base::{ClientNo, OutOfMemory};
 
 /// A client's statement that wasn't sent.
 pub(crate) fn unsent(row: &Client) -> Option<&Work> {
@@ -23,65 +22,79 @@ fn is_unsent(row: &Client, ordinal: u64) -> bool {
     }
 }
 
-// The key of a link for a client's statement in a hostgroup.
-fn key_for(
-    alloc: Global,
-    row: &Client,
-    hostgroup: Hostgroup,
-) -> Result<Option<LinkKey>, OutOfMemory> {
+// The key of a link for a client's statement. One that can't be read fully may read what was left there, so it goes where nobody was served.
+fn key_for<'a>(row: &'a Client, work: &Work) -> Option<LinkKey<'a>> {
     let seat = &row.desk.seat;
-    let Some(account) = seat.account() else {
-        return Ok(None);
-    };
-    Ok(Some(LinkKey {
-        hostgroup,
-        user: Bytes::from_slice(alloc, account.user())?,
+    let account = seat.account()?;
+    Some(LinkKey {
+        hostgroup: work.hostgroup,
+        user: account.user(),
         found_rows: account.found_rows(),
         bare: seat.place.schema.as_slice().is_empty(),
-    }))
+        fresh: match &work.form {
+            Some(form) => outlasts(form),
+            None => false,
+        },
+    })
+}
+
+fn is_key(keys: &Keys, standpoint: Option<Standpoint>, wanted: &LinkKey) -> Option<u32> {
+    let key = standpoint?.key;
+    if keys.is(key, wanted) {
+        Some(key)
+    } else {
+        None
+    }
+}
+
+// One more is of a client's key, which is mostly that of its last statement, or of the one before.
+fn take_key(
+    keys: &mut Keys,
+    part: &ClientPart,
+    wanted: &LinkKey,
+) -> Result<Option<u32>, OutOfMemory> {
+    let known = is_key(keys, part.stands, wanted).or(is_key(keys, part.stood, wanted));
+    match known {
+        Some(key) => {
+            keys.hold(key);
+            Ok(Some(key))
+        }
+        None => keys.take(wanted),
+    }
 }
 
 impl Policy {
     // What waited was sent or given up: it waits no more, and a link that is readied for it is nobody's.
-    pub(crate) fn leaves_if_behind(&mut self, client: ClientNo, row: &Client) {
-        let Some(part) = self.client(client) else {
-            return;
-        };
+    pub(crate) fn leaves_if_behind(&mut self, part: &mut ClientPart, row: &Client) {
         let Some(waiting) = part.waits else {
             return;
         };
         if is_unsent(row, waiting.ordinal) {
             return;
         }
-        self.leaves_queue(client);
+        self.leaves_queue(part);
+        part.waits = None;
         if let Some(link) = row.note.readied {
             if let Some(link) = self.link(link) {
-                self.todo.links.unreadies.put(link.slot, 0, 0);
+                self.todo.links.unreadies.put(link.slot);
             }
         }
     }
 
-    /// A client's statement waits no more. Takes no memory.
-    pub(crate) fn leaves_queue(&mut self, client: ClientNo) {
-        let Some(part) = self.clients.get_mut(&client.0) else {
-            return;
-        };
+    /// What a client waited for is left. Takes no memory.
+    pub(crate) fn leaves_queue(&mut self, part: &ClientPart) {
         let Some(waiting) = part.waits else {
             return;
         };
-        part.waits = None;
         self.pool.leave(part.slot);
         self.unserved.take(part.slot);
         self.keys.leave(waiting.key);
     }
 
     // What is due, and doesn't wait yet, is looked at.
-    pub(crate) fn waits_if_due(&mut self, client: ClientNo, row: &Client) {
-        let Some(part) = self.client(client) else {
-            return;
-        };
+    pub(crate) fn waits_if_due(&mut self, part: &ClientPart, row: &Client) {
         if part.waits.is_none() && unsent(row).is_some() {
-            self.todo.clients.anew.put(part.slot, 0, 0);
+            self.todo.clients.anew.put(part.slot);
         }
     }
 
@@ -116,7 +129,7 @@ impl Policy {
 
     // It waits for a link of its key since it became due, unless it does.
     fn waits(&mut self, client: ClientNo, row: &Client, work: &Work) -> Result<(), OutOfMemory> {
-        let Some(key) = key_for(self.alloc, row, work.hostgroup)? else {
+        let Some(wanted) = key_for(row, work) else {
             return Ok(());
         };
         let Some(part) = self.clients.get_mut(&client.0) else {
@@ -125,16 +138,17 @@ impl Policy {
         if part.waits.is_some() {
             return Ok(());
         }
-        let Some(key) = self.keys.take(key)? else {
+        let Some(key) = take_key(&mut self.keys, part, &wanted)? else {
             return Ok(());
         };
+        part.comes_by(key);
         part.waits = Some(Waiting {
             ordinal: work.ordinal,
             key,
         });
         self.pool.wait(part.slot, key, work.since_ms);
         self.unserved.put(part.slot, key, work.since_ms);
-        self.todo.keys.lends.put(key, 0, 0);
+        self.todo.keys.lends.put(key);
         Ok(())
     }
 
@@ -145,7 +159,7 @@ impl Policy {
         };
         if let (Some(waiting), Some(work)) = (part.waits, unsent(row)) {
             self.unserved.put(part.slot, waiting.key, work.since_ms);
-            self.todo.keys.lends.put(waiting.key, 0, 0);
+            self.todo.keys.lends.put(waiting.key);
         }
     }
 

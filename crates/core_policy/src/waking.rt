@@ -7,6 +7,24 @@ use crate::waiting::unsent;
 use core_service::{Failure, Service};
 use core_tables::Tables;
 use mx_base::{ClientNo, LinkId, OutOfMemory};
+use std::collections::HashMap;
+
+// A statement that waited too long, for which an idle link stands: its client's small number, the key, and since when it waits.
+#[derive(Clone, Copy)]
+struct Spared {
+    slot: u32,
+    key: u32,
+    since: u64,
+}
+
+// It is given up, as no link was lent to it.
+fn not_lent(tables: &Tables, client: ClientNo, since: u64, now_ms: u64) -> GiveUp {
+    let since_ms = since_in(tables, client).unwrap_or(since);
+    GiveUp {
+        client,
+        why: Failure::NoConnection { since_ms, now_ms },
+    }
+}
 
 impl Policy {
     /// The loop woke at this moment: servers that were shunned long enough serve again, links that were idle too long are looked at, and
@@ -58,7 +76,7 @@ impl Policy {
     fn may_be_lent(&mut self, slot: u32) {
         if let Some(link) = self.link_at(slot) {
             if let Some(part) = self.link(link) {
-                self.todo.keys.lends.put(part.key, 0, 0);
+                self.may_lend(part.key);
             }
         }
     }
@@ -69,7 +87,7 @@ impl Policy {
             let Some(slot) = self.pool.expire(now, service.idle_ms) else {
                 return;
             };
-            self.todo.links.looks.put(slot, 0, 0);
+            self.todo.links.looks.put(slot);
         }
     }
 
@@ -84,17 +102,36 @@ impl Policy {
                 return;
             }
             self.todo.clients.leavers.take(slot);
-            self.todo.clients.parts.put(slot, 0, 0);
+            self.todo.clients.parts.put(slot);
         }
     }
 
-    // Statements that waited too long, and for which no link is readied, longest first.
+    // Statements that waited too long, and for which no link is readied, are given up, longest first. Where an idle link stands for one, that
+    // is lent to it instead.
     fn late(
         &mut self,
         tables: &Tables,
         service: &Service,
         now: u64,
         given: &mut Vec<GiveUp>,
+    ) -> Result<(), OutOfMemory> {
+        let mut spared = Vec::new(self.alloc);
+        let mut idle = HashMap::new(self.alloc);
+        let done = self.late_ones(tables, service, now, given, &mut spared, &mut idle);
+        for it in &spared {
+            self.unserved.put(it.slot, it.key, it.since);
+        }
+        done
+    }
+
+    fn late_ones(
+        &mut self,
+        tables: &Tables,
+        service: &Service,
+        now: u64,
+        given: &mut Vec<GiveUp>,
+        spared: &mut Vec<Spared>,
+        idle: &mut HashMap<u32, u32>,
     ) -> Result<(), OutOfMemory> {
         for _ in 0..u32::MAX {
             let Some(slot) = self.unserved.oldest_of_all() else {
@@ -104,17 +141,40 @@ impl Policy {
             if since.saturating_add(service.wait_ms) > now {
                 return Ok(());
             }
+            if let Some(key) = self.spares(slot, idle)? {
+                spared.push(Spared { slot, key, since })?;
+                self.unserved.take(slot);
+                continue;
+            }
             self.unserved.take(slot);
             if let Some(client) = self.client_at(slot) {
-                let since_ms = since_in(tables, client).unwrap_or(since);
-                let why = Failure::NoConnection {
-                    since_ms,
-                    now_ms: now,
-                };
-                given.push(GiveUp { client, why })?;
+                given.push(not_lent(tables, client, since, now))?;
             }
         }
         Ok(())
+    }
+
+    // The key of a statement for which an idle link stands, beside those for the ones that are spared already: of each key so many are left.
+    fn spares(&self, slot: u32, idle: &mut HashMap<u32, u32>) -> Result<Option<u32>, OutOfMemory> {
+        let Some(key) = self.key_at(slot) else {
+            return Ok(None);
+        };
+        let left = match idle.get(&key) {
+            Some(left) => *left,
+            None => self.pool.idle(key),
+        };
+        if left == 0 {
+            return Ok(None);
+        }
+        idle.insert(key, left - 1)?;
+        Ok(Some(key))
+    }
+
+    // The key by which the statement of a client waits.
+    fn key_at(&self, slot: u32) -> Option<u32> {
+        let client = self.client_at(slot)?;
+        let waiting = self.client(client)?.waits?;
+        Some(waiting.key)
     }
 
     // Links are to be closed that couldn't be: statements that are due there are given up.
@@ -124,7 +184,7 @@ impl Policy {
                 return Ok(());
             };
             if let Some(link) = self.link_at(slot) {
-                self.todo.links.looks.put(slot, 0, 0);
+                self.todo.links.looks.put(slot);
                 if let Some(up) = due_on(tables, link) {
                     given.push(up)?;
                 }

@@ -154,6 +154,15 @@ impl Berths {
         }
     }
 
+    /// How many links of a key may be lent.
+    pub fn idle(&self, key: u32) -> u32 {
+        if key < self.sizes.keys {
+            self.pool.idle(key)
+        } else {
+            0
+        }
+    }
+
     /// How many links of a key may be lent, log in, or have a step under way.
     pub fn coming(&self, key: u32) -> u64 {
         if key < self.sizes.keys {
