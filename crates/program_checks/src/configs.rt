@@ -35,6 +35,62 @@ match_pattern = \"^DO\"
 multiplex = 0
 ";
 
+/// The user u without a password, and one server that allows one connection.
+pub const ONE_LINK: &str = "[[users]]
+name = \"u\"
+password = \"\"
+[[servers]]
+hostgroup = 0
+host = \"127.0.0.1\"
+port = 3306
+max_connections = 1
+";
+
+/// The same, and two connections.
+pub const TWO_LINKS: &str = "[[users]]
+name = \"u\"
+password = \"\"
+[[servers]]
+hostgroup = 0
+host = \"127.0.0.1\"
+port = 3306
+max_connections = 2
+";
+
+/// The user u without a password, a server in each of two hostgroups, and a rule that sends each SELECT to the second.
+pub const TWO_GROUPS: &str = "[[users]]
+name = \"u\"
+password = \"\"
+[[servers]]
+hostgroup = 0
+host = \"127.0.0.1\"
+port = 3306
+[[servers]]
+hostgroup = 1
+host = \"127.0.0.1\"
+port = 3307
+[[rules]]
+rule_id = 1
+match_pattern = \"^SELECT\"
+destination_hostgroup = 1
+";
+
+/// The user u without a password, a server that allows two connections, and one that allows one.
+pub const UNEVEN: &str = "[[users]]
+name = \"u\"
+password = \"\"
+[[servers]]
+hostgroup = 0
+host = \"127.0.0.1\"
+port = 3306
+max_connections = 2
+[[servers]]
+hostgroup = 0
+host = \"127.0.0.1\"
+port = 3307
+max_connections = 1
+";
+
 /// The user u without a password, and no server. One client may be connected, and its messages are short.
 pub const NO_SERVER: &str = "max_clients = 1
 max_packet = 1024

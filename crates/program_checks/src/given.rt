@@ -1,6 +1,7 @@
 // What a run is given beside its wire.
 use crate::configs::{
-    BAD_LIST, NO_SERVER, ONE_RULE, ONE_SERVER, PROXY, TWO_CLIENTS, UNKNOWN_KEYS, UNKNOWN_RULE_KEY,
+    BAD_LIST, NO_SERVER, ONE_LINK, ONE_RULE, ONE_SERVER, PROXY, TWO_CLIENTS, TWO_GROUPS, TWO_LINKS,
+    UNEVEN, UNKNOWN_KEYS, UNKNOWN_RULE_KEY,
 };
 use crate::names::spelled;
 use crate::tables::add;
@@ -94,6 +95,10 @@ fn add_file(
 pub fn files_of(answer: &mut Answer, recording: &str) -> Vec<(Bytes, Bytes)> {
     let mut files = Vec::new(answer.alloc());
     add_file(answer, &mut files, "one_server", PROXY, ONE_SERVER);
+    add_file(answer, &mut files, "one_link", PROXY, ONE_LINK);
+    add_file(answer, &mut files, "two_links", PROXY, TWO_LINKS);
+    add_file(answer, &mut files, "two_groups", PROXY, TWO_GROUPS);
+    add_file(answer, &mut files, "uneven", PROXY, UNEVEN);
     add_file(answer, &mut files, "one_rule", PROXY, ONE_RULE);
     add_file(answer, &mut files, "no_server", PROXY, NO_SERVER);
     add_file(answer, &mut files, "two_clients", PROXY, TWO_CLIENTS);

@@ -11,7 +11,7 @@ pub enum Names {
 }
 
 // Names with their hexadecimal digits, the longer ones first, as one's digits may stand in another's; and how a line feed is written.
-const NAMES: [(&str, &str, Names); 29] = [
+const NAMES: [(&str, &str, Names); 32] = [
     (" | ", "\n", Names::Both),
     // The greeting to the first client of a recording. A server's is the same.
     (
@@ -76,7 +76,7 @@ const NAMES: [(&str, &str, Names); 29] = [
     (
         "{last_id}",
         "180000000353454c454354204c4153545f494e534552545f49442829",
-        Names::Scripted,
+        Names::Both,
     ),
     // Error 1146, of the server.
     (
@@ -138,6 +138,15 @@ const NAMES: [(&str, &str, Names); 29] = [
     ("{welcome}", "0700000200000002000000", Names::Both),
     // The OK to a command, with no rows and no insert id.
     ("{ok}", "0700000100000002000000", Names::Both),
+    // The same in a transaction.
+    (
+        "{in_transaction}",
+        "0700000100000003000000",
+        Names::Recorded,
+    ),
+    // The queries "BEGIN" and "COMMIT".
+    ("{begin}", "0600000003424547494e", Names::Recorded),
+    ("{commit}", "0700000003434f4d4d4954", Names::Recorded),
     // The query "DO 1".
     ("{do_1}", "0500000003444f2031", Names::Both),
     // EOFs with the sequence ids 3 to 5, outside of a transaction.
