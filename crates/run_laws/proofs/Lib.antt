@@ -1,1 +1,6 @@
-mod Reading
+pub mod Reading
+pub mod Becoming
+pub mod Readable
+pub mod Begun
+pub mod Going
+pub mod Telling

@@ -1,1 +1,4 @@
 pub mod Wholes
+pub mod Becoming
+pub mod Reads
+pub mod Tells

@@ -46,7 +46,7 @@ use Rattle.shared_router.proofs.Coming.{IsNamed, named_at}
 use Rattle.shared_router.proofs.Decidedly.{route_decided}
 use Rattle.shared_router.proofs.Ended as ended
 use Rattle.shared_router.proofs.Furthering.{until_along}
-use Rattle.shared_router.proofs.Going.{ifs}
+use Rattle.run_laws.proofs.Going.{ifs}
 use Rattle.shared_router.proofs.Growing.{numbered_at}
 use Rattle.shared_router.proofs.LastWords.{LoginsFor, WaitsThere, logins-there, words-along}
 use Rattle.shared_router.proofs.Looked.{Each}

@@ -21,7 +21,7 @@ use Rattle.log_story.specs.Servers.{freed_if_done, is_done, links_are_freed}
 use Rattle.log_story.specs.Tale.{Client, Tale, client_gets, client_hears, is_to_server, link_in, new_client, tell, view_of, with_client}
 use Rattle.log_story.specs.Telling.{tale_step, told}
 use Rattle.tale_world.proofs.Looking.{next_moment}
-use Rattle.shared_router.proofs.Going.{IsCalm, Keeps, ended_keeps, freed_keeps, going_keeps, ifs, taken_keeps}
+use Rattle.run_laws.proofs.Going.{IsCalm, Keeps, ended_keeps, freed_keeps, going_keeps, ifs, taken_keeps}
 use Rattle.shared_router.proofs.Looked.{Each, each-last, each-map}
 use Rattle.shared_router.proofs.Seated.{clients_by, freed, freed_clients, step_clients, told_clients}
 

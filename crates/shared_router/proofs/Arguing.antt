@@ -10,11 +10,9 @@ use Rattle.private_model.specs.Commands.{Args}
 use Rattle.session_vars.specs.declared.long_part.LongPart.{LongPart}
 use Rattle.log_story.specs.Executes.{Bound, args_in, bound_after, bound_by, given_in, is_for, longer, typed, with_long}
 use Rattle.log_story.specs.Plan.{com_execute, com_long_data, com_statement_reset}
+use Rattle.link_state.specs.Spells.{args_bytes, types_bytes}
+use Rattle.run_laws.specs.Wholes.{AreParts, AreShort, AreWhole, NotOf, limit}
 use Rattle.router_promises.specs.Statements.{are_types, execute_size}
-use Rattle.shared_router.specs.Spelt.{args_of, types_of}
-use Rattle.shared_router.proofs.Executing.{AreArgs, AreOf, AreParts, IsShort, NotOf}
-use Rattle.shared_router.proofs.Looked.{Each}
-use Rattle.shared_router.proofs.Wholly.{limit}
 
 isnt : {A : Type 0} → false ≡ true → A
 isnt is = absurd (cc)
@@ -79,7 +77,7 @@ longer_total parameter bytes (part ∷ parts) = by_test (nat_eq part.parameter p
   by_test true rest = (let both = length-append part.bytes bytes in omega (arith, both))
   by_test false rest = omega (arith, rest)
 
-each_short : (parts : List LongPart) → 7 + total parts ≤ limit → Each IsShort parts
+each_short : (parts : List LongPart) → 7 + total parts ≤ limit → AreShort parts
 each_short [] fits = tt
 each_short (part ∷ parts) fits = (omega (arith, fits), each_short parts (omega (arith, fits)))
 
@@ -131,10 +129,13 @@ its_values params nulls (sends ∷ rest) =
     (record { types = Some (take (2 * params) rest); nulls = nulls; values = drop (2 * params) rest; long = [] }) (record { types = None; nulls = nulls; values = rest; long = [] })
     (omega (arith, less)) (omega arith)
 
-args_size : (nulls types values : List ℕ) → length (args_of nulls types values) ≤ length nulls + length types + length values
+args_size : (nulls : List ℕ) (types : Option (List ℕ)) (values : List ℕ)
+    → length (args_bytes nulls types values) ≤ length nulls + length (types_bytes types) + length values
 args_size [] types values = omega arith
 args_size (byte ∷ nulls) types values =
-    let behind = length-append nulls (types ++ values) in let both = length-append types values in omega (arith, behind, both)
+    let behind = length-append nulls (types_bytes types ++ values) in
+    let both = length-append (types_bytes types) values in
+    omega (arith, behind, both)
 
 types_there : (params : ℕ) (o : Option (List ℕ)) → are_types params o ≡ true → (types : List ℕ) × ((o ≡ Some types) × (length types ≡ 2 * params))
 types_there params None is = isnt is
@@ -149,10 +150,10 @@ module _ (number : ℕ) (refused : ℕ → Bool) (unprepared : ℕ) (before : Li
 
   pub args_whole : (params : ℕ) → params < 65536 → nat_le (execute_size params payload) (length payload) ≡ true
       → (0 < params → are_types params (args_for params).types ≡ true)
-      → weight (drop unprepared before) ≤ 18446744073709551616 → length payload ≤ 18446744073709551616 → AreOf params (args_for params)
+      → weight (drop unprepared before) ≤ 18446744073709551616 → length payload ≤ 18446744073709551616 → AreWhole params (args_for params)
   args_whole zero few whole types light short = record {
     few = few;
-    shape = (bound_none number refused (suc unprepared) (drop unprepared before) (record { types = None; long = [] }) refl, refl, refl);
+    given = (bound_none number refused (suc unprepared) (drop unprepared before) (record { types = None; long = [] }) refl, refl, refl);
     parts = bound_parts 0 number refused (suc unprepared) (drop unprepared before) (record { types = None; long = [] }) tt;
     short = each_short (bound_for 0).long
         (let all = bound_total 0 number refused (suc unprepared) (drop unprepared before) (record { types = None; long = [] }) in omega (arith, all, light));
@@ -170,11 +171,11 @@ module _ (number : ℕ) (refused : ℕ → Bool) (unprepared : ℕ) (before : Li
       ap (λ (ns : List ℕ). length ns) (its_nulls params (take size (drop 10 payload)) (drop (10 + size) payload))
       ∙ length-take-le size (drop 10 payload) (omega (arith, rest, long)) in
       let values = its_values params (take size (drop 10 payload)) (drop (10 + size) payload) in
-      let spelt = args_size sent.nulls (types_of (args_for params).types) sent.values in
-      let typed_size : length (types_of (args_for params).types) ≡ suc (2 * params) = ap (λ o. length (types_of o)) there.1.0 ∙ ap (λ n. suc n) there.1.1 in
+      let spelt = args_size sent.nulls (args_for params).types sent.values in
+      let typed_size : length (types_bytes (args_for params).types) ≡ suc (2 * params) = ap (λ o. length (types_bytes o)) there.1.0 ∙ ap (λ n. suc n) there.1.1 in
       record {
         few = few;
-        shape = (there.0, (there.1.0, there.1.1, nulls));
+        given = (there.0, (there.1.0, there.1.1, nulls));
         parts = bound_parts params number refused (suc unprepared) (drop unprepared before) (record { types = None; long = [] }) tt;
         short = each_short (bound_for params).long
             (let all = bound_total params number refused (suc unprepared) (drop unprepared before) (record { types = None; long = [] }) in omega (arith, all, light));

@@ -5,11 +5,10 @@ use Rattle.std.proofs.Common.{refl, sym, subst}
 use Rattle.mx_base.specs.declared.names.LinkId.{LinkId}
 use Rattle.mx_wire.specs.declared.entry.Entry.{Entry}
 use Rattle.packet_frame.specs.Packets.{Framed}
-use Rattle.private_model.specs.Commands.{Command, Reply}
+use Rattle.private_model.specs.Commands.{Command}
 use Rattle.private_model.specs.Names.{Hostgroup, SessionName}
-use Rattle.private_model.specs.Story.{BecameDue, Broke, Capture, Dropped, Due, End, Freed, Gone, Happening, Heard, Left, LoggedIn, Mirrored, Own, Prep, Question, Ran, Sent, Statement, Story, Sync, Unprepared}
-use Rattle.private_model.specs.Story.{for_statement, is_name, put}
-use Rattle.private_model.specs.View.{Answered, Asked, Quiet, Setup, Stage, View, due_of, present, view_after, view_heard}
+use Rattle.private_model.specs.Story.{BecameDue, Broke, Due, Freed, Happening, Left, Story}
+use Rattle.private_model.specs.View.{Setup, View, due_of, present}
 use Rattle.log_story.specs.Clients.{client_goes_on, clients_are_ended, clients_go_on, copied, due_by, ended_if_now, is_event_of, is_up, next_taken, taken_by, taken_up}
 use Rattle.log_story.specs.Executes.{Request, requested}
 use Rattle.log_story.specs.Owed.{messages, name_of}
@@ -18,73 +17,19 @@ use Rattle.log_story.specs.Servers.{freed_if_done, is_done, links_are_freed}
 use Rattle.log_story.specs.Tale.{Client, Tale, counted, link_in, tell, view_of, with_client}
 use Rattle.log_story.specs.Telling.{tale_step, told}
 use Rattle.router_promises.specs.Takings.{Taking, as_told, message_in, ordinal_of, taking_then, takings_at, takings_by, takings_from, takings_of}
-use Rattle.shared_router.proofs.Going.{Keeps, ended_keeps, freed_keeps, ifs}
+use Rattle.run_laws.specs.Becoming.{AllBecame}
+use Rattle.run_laws.proofs.Going.{Keeps, ended_keeps, freed_keeps, ifs}
 use Rattle.shared_router.proofs.Looked.{Each}
 use Rattle.shared_router.proofs.Others.{IsOther, entry_keeps}
 use Rattle.shared_router.proofs.Plain.{IsPlain}
 
-no_some : {A B : Type 0} (a : A) → None ≡ Some a → B
-no_some a is = absurd (cc)
-
-some_of : {A : Type 0} (a b : A) → Some a ≡ Some b → a ≡ b
-some_of a b is = cc
-
-module _ (setup : Setup) (P : Due → Type 0) where
-  -- of each as it became due
-  abbrev pub AllBecame : Story → Type 0
-  AllBecame [] = Unit {0}
-  AllBecame (BecameDue client hostgroup ordinal key command multiplex ∷ past) =
-      P (due_of (view_after setup past) (present (view_after setup past) client hostgroup) ordinal key command multiplex) × AllBecame past
-  AllBecame (e ∷ past) = AllBecame past
-
-  pub other_became : (past : Story) (e : Happening) → IsOther e → AllBecame past → AllBecame (e ∷ past)
+module _ (setup : Setup) (P : SessionName → Due → Type 0) where
+  other_became : (past : Story) (e : Happening) → IsOther e → AllBecame setup P past → AllBecame setup P (e ∷ past)
   other_became past (BecameDue client hostgroup ordinal key command multiplex) other all = absurd other
   other_became past _ other all = all
 
-  -- so it is of what is due
-
-  abbrev DuesAre : (SessionName → Option Due) → Type 0
-  DuesAre dues = (n : SessionName) (due : Due) → dues n ≡ Some due → P due
-
-  put_dues : (dues : SessionName → Option Due) (n : SessionName) (o : Option Due) → ((due : Due) → o ≡ Some due → P due) → DuesAre dues → DuesAre (put is_name dues n o)
-  put_dues dues n o now are m due is = by_test (is_name m n) is where
-    by_test : (b : Bool) → (if b then o else dues m) ≡ Some due → P due
-    by_test true here = now due here
-    by_test false other = are m due other
-
-  sent_dues : (question : Question) (dues : SessionName → Option Due) → DuesAre dues → DuesAre (for_statement question (λ n due. put is_name dues n None) dues)
-  sent_dues (Statement n due) dues are = put_dues dues n None (λ d is. no_some d is) are
-  sent_dues (Prep n key text) dues are = are
-  sent_dues (Sync n command) dues are = are
-  sent_dues (Own command) dues are = are
-  sent_dues (End n) dues are = are
-  sent_dues (Capture n) dues are = are
-
-  heard_dues : (view : View) (link : LinkId) (reply : Reply) (stage : Stage) → DuesAre view.dues → DuesAre (view_heard setup view link reply stage).dues
-  heard_dues view link reply Quiet are = are
-  heard_dues view link reply (Asked question) are = are
-  heard_dues view link reply (Answered question) are = are
-
-  pub all_dues : (story : Story) → AllBecame story → DuesAre (view_after setup story).dues
-  all_dues [] all = λ n due is. no_some due is
-  all_dues (BecameDue client hostgroup ordinal key command multiplex ∷ past) all =
-      let view : View = view_after setup past in
-      put_dues view.dues (present view client hostgroup) (Some (due_of view (present view client hostgroup) ordinal key command multiplex))
-      (λ due is. subst P (some_of _ due is) all.0) (all_dues past all.1)
-  all_dues (Sent link question ∷ past) all = sent_dues question (view_after setup past).dues (all_dues past all)
-  all_dues (Heard link reply ∷ past) all = heard_dues (view_after setup past) link reply ((view_after setup past).links link).stage (all_dues past all)
-  all_dues (LoggedIn link server account ∷ past) all = all_dues past all
-  all_dues (Ran link ∷ past) all = all_dues past all
-  all_dues (Freed link ∷ past) all = all_dues past all
-  all_dues (Unprepared link number ∷ past) all = all_dues past all
-  all_dues (Dropped link ∷ past) all = all_dues past all
-  all_dues (Gone link ∷ past) all = all_dues past all
-  all_dues (Left client ∷ past) all = all_dues past all
-  all_dues (Broke ∷ past) all = all_dues past all
-  all_dues (Mirrored client job ∷ past) all = all_dues past all
-
 -- where Q is so of tales, and C of clients, as messages are taken up
-module _ (setup : Setup) (plan : Plan) (P : Due → Type 0) (Q : Tale → Type 0) (keeps : Keeps Q) (C : Client → Type 0)
+module _ (setup : Setup) (plan : Plan) (P : SessionName → Due → Type 0) (Q : Tale → Type 0) (keeps : Keeps Q) (C : Client → Type 0)
     (onward : (client : Client) → C client → C (record client { taken = suc client.taken })) (plain : (client : Client) (ordinal : ℕ) → IsPlain (plan.routes (name_of client ordinal))) where
   abbrev pub due_then : View → Client → Route → Request → Due
   due_then view client route request = due_of view (present view client.number route.hostgroup) (suc client.taken) request.key request.command route.multiplex
@@ -93,7 +38,7 @@ module _ (setup : Setup) (plan : Plan) (P : Due → Type 0) (Q : Tale → Type 0
   IsGood taking = Q taking.tale → C taking.client → slice_get (messages plan taking.client) taking.client.taken ≡ Some taking.message
       → (route : Route) → plan.routes (message_in taking) ≡ Some route
       → (request : Request) → requested setup (view_of setup taking.tale) plan taking.client (ordinal_of taking) route taking.message.payload ≡ Some request
-      → P (due_then (view_of setup taking.tale) taking.client route request)
+      → P (present (view_of setup taking.tale) taking.client.number route.hostgroup) (due_then (view_of setup taking.tale) taking.client route request)
 
   abbrev Has : Tale → Type 0
   Has tale = AllBecame setup P tale.story × Q tale
@@ -102,7 +47,8 @@ module _ (setup : Setup) (plan : Plan) (P : Due → Type 0) (Q : Tale → Type 0
   no_copy client command mirror tale none has = subst (λ o. Has (copied (name_of client (suc client.taken)) command o tale)) (sym none) has
 
   due_has : (client : Client) (route : Route) (request : Option Request) (tale : Tale) → route.mirror ≡ None
-      → ((one : Request) → request ≡ Some one → P (due_then (view_of setup tale) client route one)) → Has tale → Has (due_by client (suc client.taken) route request tale)
+      → ((one : Request) → request ≡ Some one
+      → P (present (view_of setup tale) client.number route.hostgroup) (due_then (view_of setup tale) client route one)) → Has tale → Has (due_by client (suc client.taken) route request tale)
   due_has client route None tale lone now has = (has.0, keeps.tells tale Broke tt has.1)
   due_has client route (Some request) tale lone now has =
       let due : Happening = BecameDue client.number route.hostgroup (suc client.taken) request.key request.command route.multiplex in

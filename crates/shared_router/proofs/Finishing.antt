@@ -35,7 +35,8 @@ use Rattle.shared_router.specs.More.{More}
 use Rattle.shared_router.specs.Ours.{IsOurLog, IsOurs, MayWait}
 use Rattle.shared_router.specs.Owed.{Owed, begun_there, farewell, is_to_quit, nothing_owed, owed_on, owed_on_client, owed_on_server, owed_rest, owed_there}
 use Rattle.shared_router.specs.Shared.{final_terms, world_at}
-use Rattle.shared_router.specs.Spelt.{ReadsAsked, RunsRead, RunsReadSo, question_spelt}
+use Rattle.run_laws.specs.Reads.{ReadsAsked}
+use Rattle.shared_router.specs.Spelt.{RunsRead, RunsReadSo, question_spelt}
 use Rattle.shared_router.specs.Waited.{AreWhole, AsItWaits, AskNothing, OwesNoStep}
 use Rattle.shared_router.proofs.Calming.{left_false, nothing_closes, right_false, stays_open, then_false}
 use Rattle.shared_router.proofs.Greeting.{all_of}

@@ -90,7 +90,6 @@ pub mod Blank
 pub mod Starting
 pub mod Wishing
 pub mod Passing
-pub mod Going
 pub mod Grouping
 pub mod Lonely
 pub mod Fitly
@@ -107,12 +106,8 @@ pub mod Summing
 pub mod Working
 pub mod Answered
 pub mod Repeating
-pub mod Executing
-pub mod Begun
-pub mod Telling
 pub mod Arguing
 pub mod Becoming
-pub mod Readable
 pub mod Weighing
 pub mod Rereading
 pub mod Abiding

@@ -280,6 +280,7 @@ module _ (fixed : Fixed) where
     ends = refl;
     until = refl;
     steps = λ l n step is. is;
+    keys = λ k key is. is;
   }
 
   goes-looked : (view : View) (e : Entry) (w : World More) (client : Client) → IsLooked w.decided client → AreLooked w.decided w.tale.clients

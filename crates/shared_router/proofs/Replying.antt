@@ -27,7 +27,7 @@ use Rattle.shared_router.specs.Ours.{IsOurLog, IsOurs}
 use Rattle.shared_router.specs.Shared.{final_terms, world_at}
 use Rattle.shared_router.proofs.Along.{IsAt, along, lawful_there}
 use Rattle.shared_router.proofs.Furthering.{tale_more}
-use Rattle.shared_router.proofs.Going.{IsCalm, Keeps, step_keeps}
+use Rattle.run_laws.proofs.Going.{IsCalm, Keeps, step_keeps}
 use Rattle.shared_router.proofs.Lonely.{Lone, Replied, more_lone, reply_stays}
 use Rattle.shared_router.proofs.Parting.{even_at, tale_then, world_more}
 use Rattle.shared_router.proofs.Reasons.{given_along}

@@ -38,18 +38,21 @@ use Rattle.shared_router.specs.Shared.{final_terms, world_at}
 use Rattle.shared_router.specs.Spelt.{RunsReadSo}
 use Rattle.shared_router.proofs.Along.{IsAt, lawful_there}
 use Rattle.shared_router.proofs.Arguing.{args_whole, weight}
-use Rattle.shared_router.proofs.Becoming.{AllBecame, IsGood, step_became}
-use Rattle.shared_router.proofs.Executing.{AreOf}
+use Rattle.run_laws.specs.Becoming.{AllBecame}
+use Rattle.shared_router.proofs.Becoming.{IsGood, step_became}
+use Rattle.run_laws.specs.Wholes.{AreWhole}
 use Rattle.shared_router.proofs.Furthering.{tale_more}
 use Rattle.shared_router.proofs.Looked.{Each}
 use Rattle.shared_router.proofs.Owing.{owes_at}
 use Rattle.shared_router.proofs.Plain.{IsPlain, plain_of}
 use Rattle.shared_router.proofs.Prompting.{prompts_kept}
-use Rattle.shared_router.proofs.Readable.{HasArgs, HasItsArgs, all_replies, readable}
+use Rattle.run_laws.proofs.Readable.{all_replies, readable}
 use Rattle.shared_router.proofs.Routing.{routes_kept}
 use Rattle.shared_router.proofs.Seated.{AreLike, clients_by, freed_clients, numbered_step, step_like, told_clients}
 use Rattle.shared_router.proofs.Numbered.{AreNumbered}
-use Rattle.shared_router.proofs.Telling.{GetsBytes, IsSmall, TellsBytes, first_tells, keeps, step_tells, told_tells}
+use Rattle.run_laws.proofs.Telling.{first_tells, keeps, step_tells, told_tells}
+use Rattle.run_laws.specs.Reads.{HasArgs, HasItsArgs, IsSmall}
+use Rattle.run_laws.specs.Tells.{GetsBytes, TellsBytes}
 use Rattle.shared_router.proofs.Weighing.{IsReadIn, messages_weight, read_by, read_like, weight_at, weight_drop, weight_take}
 
 isnt : {A : Type 0} → false ≡ true → A
@@ -189,7 +192,7 @@ module _ (fixed : Fixed) (numbered : IsNumbered fixed) (log : Log) (our : IsOurL
 
       args_so : (number : ℕ) → nat_eq (slice_index_or payload 0 0) com_execute ≡ true → number_at 4 1 payload ≡ Some number → (prepared : Prepared)
           → prepared_by there last whom number 1 (messages last whom) ≡ Some prepared
-          → AreOf prepared.params (args_in prepared.params number (λ i. not (is_some (last.routes (name_of whom i)))) prepared.ordinal (take (ordinal_of taking - 1) (messages last whom)) payload)
+          → AreWhole prepared.params (args_in prepared.params number (λ i. not (is_some (last.routes (name_of whom i)))) prepared.ordinal (take (ordinal_of taking - 1) (messages last whom)) payload)
       args_so number byte at prepared found =
           let refused : ℕ → Bool = λ i. not (is_some (last.routes (name_of whom i))) in
           let before : List Framed = take (ordinal_of taking - 1) (messages last whom) in
@@ -214,7 +217,7 @@ module _ (fixed : Fixed) (numbered : IsNumbered fixed) (log : Log) (our : IsOurL
       execute_has number byte at request is =
           by_prepared (prepared_by there last whom number 1 (messages last whom)) (λ prepared found. args_so number byte at prepared found) is
         where
-          by_prepared : (o : Option Prepared) → ((prepared : Prepared) → o ≡ Some prepared → AreOf prepared.params
+          by_prepared : (o : Option Prepared) → ((prepared : Prepared) → o ≡ Some prepared → AreWhole prepared.params
               (args_in prepared.params number (λ i. not (is_some (last.routes (name_of whom i)))) prepared.ordinal (take (ordinal_of taking - 1) (messages last whom)) payload))
               → option_map (runs number) o ≡ Some request → HasArgs request.command
           by_prepared None each now = no_some request now
@@ -260,16 +263,16 @@ module _ (fixed : Fixed) (numbered : IsNumbered fixed) (log : Log) (our : IsOurL
     pub numbers : AreNumbered 1 tale.clients
     pub read : Each (IsReadIn entries) tale.clients
 
-  gets_by : (before : Log) (e : Entry) → IsOurs fixed before e → GetsBytes setup last e
-  gets_by before (entry.Got link bytes) ours = ours.1
-  gets_by before _ ours = tt
+  gets_by : (before : Log) (tale : Tale) (e : Entry) → IsOurs fixed before e → GetsBytes tale e
+  gets_by before tale (entry.Got link bytes) ours = λ there. ours.1
+  gets_by before tale _ ours = tt
 
   step_read : (before later : Log) (e : Entry) → IsAt log before e later → IsOurs fixed before e → (entries : ℕ) → entries ≡ length before → IsRead entries (tale_at t before)
       → IsRead (suc entries) (tale_at t (before ++ e ∷ []))
   step_read before later e at ours entries count is =
       let old : Tale = tale_at t before in
       let new : Tale = tale_step setup last old e in
-      let gets : GetsBytes setup last e = gets_by before e ours in
+      let gets : GetsBytes old e = gets_by before old e ours in
       let clients : (as_told setup last old e).clients ≡ clients_by setup last old e = freed_clients setup last old e ∙ told_clients setup last old e in
       let told_read : Each (IsReadIn (suc entries)) (clients_by setup last old e) = read_by setup last entries before old e at.fits.0 is.read in
       let size : length before + length (e ∷ later) ≡ length log = sym (length-append before (e ∷ later)) ∙ ap (λ (l : Log). length l) at.is in

@@ -40,7 +40,8 @@ use Rattle.shared_router.specs.More.{More}
 use Rattle.shared_router.specs.Ours.{IsOurs, Writes}
 use Rattle.shared_router.specs.Owed.{Owed, begun_there, closes, is_whole_step, nothing_owed, owed_next, owed_on_client, owed_there, step_by}
 use Rattle.shared_router.specs.Shared.{final_terms, shared, world_at}
-use Rattle.shared_router.specs.Spelt.{ReadsAsked, ReadsRun, RunsRead, RunsReadSo, spelt}
+use Rattle.run_laws.specs.Reads.{ReadsAsked, ReadsRun}
+use Rattle.shared_router.specs.Spelt.{RunsRead, RunsReadSo, spelt}
 use Rattle.shared_router.specs.Wishes.{wish_on, wish_step, wish_tag}
 use Rattle.shared_router.proofs.Decidedly.{AreDecided}
 use Rattle.shared_router.proofs.Lasting.{alike_at}

@@ -17,7 +17,7 @@ use Rattle.log_story.specs.Tale.{Client, Tale, is_to_server, link_in, tell, view
 use Rattle.log_story.specs.Telling.{is_lost_or_left, tale_step, told}
 use Rattle.shared_router.proofs.Closed.{open_more}
 use Rattle.shared_router.proofs.Dues.{either}
-use Rattle.shared_router.proofs.Going.{IsCalm, Keeps, step_keeps}
+use Rattle.run_laws.proofs.Going.{IsCalm, Keeps, step_keeps}
 
 isnt : {A : Type 0} → false ≡ true → A
 isnt is = absurd (cc)

@@ -26,7 +26,7 @@ use Rattle.router_promises.specs.Router.{Router}
 use Rattle.router_promises.specs.Running.{hostgroup_of}
 use Rattle.router_promises.specs.Tags.{StandsIn, hostgroup_asked}
 use Rattle.shared_router.specs.Spelt.{spelt}
-use Rattle.shared_router.proofs.Going.{IsCalm}
+use Rattle.run_laws.proofs.Going.{IsCalm}
 
 -- a STMT_CLOSE or a STMT_RESET stands there
 abbrev pub is_mute : Option StepText → Bool

@@ -20,7 +20,7 @@ use Rattle.router_promises.specs.Router.{Router}
 use Rattle.router_promises.specs.Running.{hostgroup_of}
 use Rattle.router_promises.specs.Tags.{StandsIn, hostgroup_asked}
 use Rattle.shared_router.specs.Spelt.{spelt}
-use Rattle.shared_router.proofs.Going.{IsCalm, Keeps, ifs, losing_keeps, step_keeps}
+use Rattle.run_laws.proofs.Going.{IsCalm, Keeps, ifs, losing_keeps, step_keeps}
 use Rattle.shared_router.proofs.Spelling.{AllOn, AllStand, At, IsClean, IsStanding, Stood, group_in, is_mute, links_in, none_written, one_on, other_put, put_there, ran_stands, says_stand, tell_calm, text_of_step}
 
 isnt : {A : Type 0} → false ≡ true → A

@@ -20,7 +20,7 @@ use Rattle.log_story.specs.Owed.{messages, talk_of}
 use Rattle.log_story.specs.Plan.{Plan}
 use Rattle.log_story.specs.Tale.{Client, Tale, client_gets, client_hears, is_to_server, new_client}
 use Rattle.shared_router.proofs.Arguing.{weight}
-use Rattle.shared_router.proofs.Going.{ifs}
+use Rattle.run_laws.proofs.Going.{ifs}
 use Rattle.shared_router.proofs.Looked.{Each, each-last, each-map, each-so}
 use Rattle.shared_router.proofs.Seated.{AreLike, clients_by}
 

@@ -14,7 +14,8 @@ use Rattle.log_story.specs.Executes.{is_for}
 use Rattle.log_story.specs.Honest.{IsExecute, IsFront}
 use Rattle.log_story.specs.Plan.{com_execute, com_long_data, text_payload}
 use Rattle.log_story.specs.Servers.{written_in}
-use Rattle.shared_router.specs.Spelt.{ReadsRun, spelt}
+use Rattle.run_laws.specs.Reads.{ReadsRun}
+use Rattle.shared_router.specs.Spelt.{spelt}
 use Rattle.shared_router.proofs.Looked.{Each}
 
 abbrev pub limit : ℕ

@@ -32,7 +32,8 @@ use Rattle.shared_router.specs.Known.{Known, known, link_by, setup_by, view_by}
 use Rattle.shared_router.specs.Ours.{IsOurLog, IsOurs, MayWait}
 use Rattle.shared_router.specs.Owed.{owed_next}
 use Rattle.shared_router.specs.Shared.{world_at}
-use Rattle.shared_router.specs.Spelt.{execute_payload, long_payload, spelt}
+use Rattle.link_state.specs.Spells.{execute_bytes, long_bytes}
+use Rattle.shared_router.specs.Spelt.{spelt}
 use Rattle.shared_router.specs.Waited.{WorksOn, WorksSo}
 use Rattle.shared_router.specs.Wishes.{standing_on, wish_on, wish_spelt}
 use Rattle.shared_router.proofs.Along.{IsAt, along}
@@ -66,7 +67,8 @@ IsNumberedRun command number = Unit {0}
 spelt_some : (command : Command) (number : Option ℕ) → IsNumberedRun command number → has_bytes (spelt command number) ≡ true
 spelt_some (Run text schema settings args) None has = isnt has
 spelt_some (Run text schema settings args) (Some number) has =
-    more_some (flat_map (λ part. spelling 0 (long_payload number part)) args.long) (spelling 0 (execute_payload number args)) (spelling_some (execute_payload number args))
+    more_some (flat_map (long_bytes number) args.long) (spelling 0 (execute_bytes number args.nulls args.types args.values))
+    (spelling_some (execute_bytes number args.nulls args.types args.values))
 spelt_some (Query text) number has = spelling_some (text_payload (Query text))
 spelt_some (InitDb schema) number has = spelling_some (text_payload (InitDb schema))
 spelt_some (FieldList rest) number has = spelling_some (text_payload (FieldList rest))

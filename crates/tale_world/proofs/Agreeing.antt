@@ -28,6 +28,7 @@ more-refl d = record {
   ends = refl;
   until = refl;
   steps = λ l n step is. is;
+  keys = λ k key is. is;
 }
 
 pub more-trans : (a b c : Decided) → IsMore a b → IsMore b c → IsMore a c
@@ -40,6 +41,7 @@ more-trans a b c first next = record {
   ends = next.ends ∙ first.ends;
   until = next.until ∙ first.until;
   steps = λ l n step is. next.steps l n step (first.steps l n step is);
+  keys = λ k key is. next.keys k key (first.keys k key is);
 }
 
 pub agrees-less : (old new : Decided) (moment : ℕ) (plan : Plan) → IsMore old new → Agrees new moment plan → Agrees old moment plan

@@ -48,6 +48,7 @@ own-more d which value = record {
   ends = refl;
   until = refl;
   steps = λ l n step is. is;
+  keys = λ k key is. is;
 }
 
 routes-more : (d : Decided) (which : MessageName → Bool) (value : MessageName → Option Route) → IsMore d (record d { routes = filled which value d.routes })
@@ -60,6 +61,7 @@ routes-more d which value = record {
   ends = refl;
   until = refl;
   steps = λ l n step is. is;
+  keys = λ k key is. is;
 }
 
 module _ {X : Type 0} (setup : Setup) (by : Deciding X) where
@@ -116,6 +118,7 @@ module _ {X : Type 0} (setup : Setup) (by : Deciding X) where
     ends = refl;
     until = refl;
     steps = λ l n step is. is;
+    keys = λ k key is. is;
   }
 
   route-more : (w : World X) (client : Client) (d : Decided) (message : Option Framed) → IsMore d (with_route by w client d message)
@@ -302,6 +305,7 @@ module _ {X : Type 0} (setup : Setup) (by : Deciding X) where
     until = refl;
     steps = λ l n step is.
         filled-kept (λ n. is_link_id l link && nat_eq n (w.tale.wires link).begun) (λ n. by.step w link for bytes) (w.decided.steps l) n step is;
+    keys = λ k key is. is;
   }
 
   login-more : (w : World X) (link : LinkId) → IsMore w.decided (with_login by w link)
@@ -314,6 +318,7 @@ module _ {X : Type 0} (setup : Setup) (by : Deciding X) where
     ends = refl;
     until = refl;
     steps = λ l n step is. is;
+    keys = λ k key is. is;
   }
 
   if-more : (d x y : Decided) (b : Bool) → IsMore d x → IsMore d y → IsMore d (if b then x else y)

@@ -3,11 +3,12 @@ use Rattle.std.specs.Prelude.{◌≡◌, ◌<◌, ℕ, Bool, false, if◌then◌
 use Rattle.server_side.specs.Account.{Account}
 use Rattle.client_session.specs.Setups.{Setup as Service}
 use Rattle.private_model.specs.Names.{ClientNo, LinkId, MessageName}
+use Rattle.private_model.specs.Story.{Key}
 use Rattle.log_story.specs.Plan.{Closes, LastWord, OwnAnswer, Plan, Route, StepText}
 
 -- By what clients log in, and how many bytes for a client are unwritten while its messages wait; and what was decided so far: who
 -- logs in on a link; where a message goes, which may be to no server; whether the router answers it, which may be not by now; at which
--- entry a client was ended, of those until one, and the last word to it; and which step began.
+-- entry a client was ended, of those until one, and the last word to it; which step began; and which text, and where prepared, a key is.
 pub record Decided : Type 0 where
   pub service : Service
   pub room : ℕ
@@ -18,6 +19,7 @@ pub record Decided : Type 0 where
   pub until : ℕ
   pub words : ClientNo → Option LastWord
   pub steps : LinkId → (begun : ℕ) → Option StepText
+  pub keys : (key : ℕ) → Option Key
 
 abbrev pub first_decided : Service → (room : ℕ) → Decided
 first_decided service room = record {
@@ -30,6 +32,7 @@ first_decided service room = record {
   until = 0;
   words = λ c. None;
   steps = λ l n. None;
+  keys = λ key. None;
 }
 
 -- a plan of just that
@@ -78,3 +81,4 @@ pub record IsMore (old new : Decided) : Type 0 where
   pub until : new.until ≡ old.until
   pub steps : (l : LinkId) (n : ℕ) (step : StepText) → old.steps l n ≡ Some step
       → new.steps l n ≡ Some step
+  pub keys : (k : ℕ) (key : Key) → old.keys k ≡ Some key → new.keys k ≡ Some key

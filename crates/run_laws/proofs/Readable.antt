@@ -13,24 +13,16 @@ use Rattle.server_rule.specs.Classes.{Reads}
 use Rattle.session_state.specs.declared.pin.Pin.{Pin}
 use Rattle.session_state.specs.declared.place.Told.{Told}
 use Rattle.log_story.specs.Honest.{IsExecute, number_for}
-use Rattle.shared_router.specs.Spelt.{ReadsAsked, ReadsRun, execute_spelt}
-use Rattle.shared_router.proofs.Becoming.{AllBecame, all_dues}
-use Rattle.shared_router.proofs.Executing.{AreOf, reads_back}
-use Rattle.shared_router.proofs.Telling.{AllHeard, IsSmall}
+use Rattle.run_laws.proofs.Becoming.{all_dues}
+use Rattle.run_laws.proofs.Reading.{reads_back}
+use Rattle.run_laws.specs.Becoming.{AllBecame}
+use Rattle.run_laws.specs.Reads.{AllHeard, HasArgs, HasItsArgs, IsSmall, ReadsAsked, ReadsRun, execute_spelt}
 
 no_some : {A B : Type 0} (a : A) → None ≡ Some a → B
 no_some a is = absurd (cc)
 
 some_of : {A : Type 0} (a b : A) → Some a ≡ Some b → a ≡ b
 some_of a b is = cc
-
--- an execute has the arguments of a statement with some number of parameters
-abbrev pub HasArgs : Command → Type 0
-HasArgs (Run text schema settings args) = (params : ℕ) × AreOf params args
-HasArgs _ = Unit {0}
-
-abbrev pub HasItsArgs : Due → Type 0
-HasItsArgs due = HasArgs due.command
 
 -- Replies.
 
@@ -146,7 +138,7 @@ module _ (setup : Setup) where
   own_reads reads (Run text schema settings args) is = absurd is
   own_reads reads _ is = tt
 
-  question_reads : (question : Question) (view : View) (link : Link) → Fits setup view link question → ((n : SessionName) (due : Due) → view.dues n ≡ Some due → HasItsArgs due)
+  question_reads : (question : Question) (view : View) (link : Link) → Fits setup view link question → ((n : SessionName) (due : Due) → view.dues n ≡ Some due → HasItsArgs n due)
       → AreNumbers link.live → ReadsRun (command_of question) (number_for question link.live)
   question_reads (Statement n due) view link fits dues numbers =
       reads_of due.command due.key link.told link.live (keyed_of view n due link fits) (dues n due fits.is_due) numbers

@@ -33,10 +33,12 @@ use Rattle.server_side.specs.Login.{Opening, by_end, by_switch, denied, end_in, 
 use Rattle.session_state.specs.declared.reply_end.ReplyEnd.{ReplyEnd}
 use Rattle.log_story.specs.Plan.{Plan}
 use Rattle.log_story.specs.Servers.{begins, begun_on, entered_by, heard_by, hears, kind_by, may_begin, quits_for, read_as, reads_on, reply_id, reset_by, runs_first, step_for, with_run, writes}
-use Rattle.log_story.specs.Tale.{Client, Tale, Wire, client_gets, first_tale, is_reset_step, is_to_server, link_in, new_wire, tell, view_of, with_wire}
+use Rattle.log_story.specs.Tale.{Client, Tale, Wire, client_gets, client_hears, first_tale, is_reset_step, is_to_server, link_in, new_wire, tell, view_of, with_wire}
 use Rattle.log_story.specs.Telling.{server_says, tale_step, told, wire_with}
-use Rattle.shared_router.proofs.Begun.{AreBegun, IsBegun, begun_there}
-use Rattle.shared_router.proofs.Going.{IsCalm, Keeps, ifs, losing_keeps, step_keeps}
+use Rattle.run_laws.proofs.Begun.{AreBegun, IsBegun, begun_there}
+use Rattle.run_laws.proofs.Going.{IsCalm, Keeps, ifs, losing_keeps, step_keeps}
+use Rattle.run_laws.specs.Reads.{AllHeard, IsSmall}
+use Rattle.run_laws.specs.Tells.{GetsBytes, TellsBytes}
 
 isnt : {A : Type 0} → false ≡ true → A
 isnt is = absurd (cc)
@@ -112,10 +114,6 @@ four_at : (at : ℕ) (payload : List ℕ) → AreBytes payload → field_at 4 at
 four_at at payload are = or_less (nat_lt (length payload) (at + 4)) (little_endian (take 4 (drop at payload))) 4294967296 (omega arith) (four_less (drop at payload) (AreBytes-drop at payload are))
 
 -- How a reply ends.
-
-pub record IsSmall (end : ReplyEnd) : Type 0 where
-  pub number : end.server_number < 4294967296
-  pub params : end.params < 65536
 
 small_none : (end : ReplyEnd) → end.server_number ≡ 0 → end.params ≡ 0 → IsSmall end
 small_none end number params = record { number = omega (arith, number); params = omega (arith, params) }
@@ -230,21 +228,12 @@ module _ (said rest : List ℕ) where
 
 -- Along a tale.
 
-abbrev pub AllHeard : Story → Type 0
-AllHeard [] = Unit {0}
-AllHeard (Heard link reply ∷ past) = IsSmall (end_of reply) × AllHeard past
-AllHeard (e ∷ past) = AllHeard past
-
 begun_heard : (es : List Happening) (past : Story) → AreBegun es → AllHeard past → AllHeard (es ++ past)
 begun_heard [] past begun all = all
 begun_heard (e ∷ es) past begun all = one e begun.0 (begun_heard es past begun.1 all) where
   one : (x : Happening) → IsBegun x → AllHeard (es ++ past) → AllHeard (x ∷ (es ++ past))
   one (Heard link reply) is rest = absurd is
   one _ is rest = rest
-
-pub record TellsBytes (tale : Tale) : Type 0 where
-  pub unread : (l : LinkId) → AreBytes (tale.wires l).unread
-  pub heard : AllHeard tale.story
 
 module _ (setup : Setup) (plan : Plan) where
   calm_tells : (tale : Tale) (e : Happening) → IsCalm e → TellsBytes tale → TellsBytes (tell e tale)
@@ -330,16 +319,14 @@ module _ (setup : Setup) (plan : Plan) where
       (ifs TellsBytes (is_reset_step (tale.wires k).step) _ _ (reset_tells k wire tale grown is)
       (hears_tells k wire (link_in setup (with_run setup k tale) k).stage (with_run setup k tale) grown (runs_tells (link_in setup tale k).stage k tale is)))
 
-  -- what is read of a server are bytes
-  abbrev pub GetsBytes : Entry → Type 0
-  GetsBytes (entry.Got link bytes) = AreBytes bytes
-  GetsBytes _ = Unit {0}
-
-  pub told_tells : (tale : Tale) (e : Entry) → GetsBytes e → TellsBytes tale → TellsBytes (told setup plan tale e)
+  pub told_tells : (tale : Tale) (e : Entry) → GetsBytes tale e → TellsBytes tale → TellsBytes (told setup plan tale e)
   told_tells tale (entry.Accepted port link salt) gets is = record { unread = is.unread; heard = is.heard }
   told_tells tale (entry.Opened server address link) gets is = record { unread = wire_put tale link (new_wire server) no_bytes is; heard = is.heard }
-  told_tells tale (entry.Got link bytes) gets is =
-      ifs TellsBytes (is_to_server tale link) _ _ (says_tells link bytes tale gets is) (record { unread = is.unread; heard = is.heard })
+  told_tells tale (entry.Got link bytes) gets is = by (is_to_server tale link) refl where
+    by : (b : Bool) → is_to_server tale link ≡ b
+        → TellsBytes (if b then server_says setup plan link bytes tale else record tale { clients = map (client_hears link bytes) tale.clients })
+    by true there = says_tells link bytes tale (gets there) is
+    by false there = record { unread = is.unread; heard = is.heard }
   told_tells tale (entry.Wrote link for bytes) gets is =
       ifs TellsBytes (is_to_server tale link) _ _ (writes_tells link for bytes tale is) (record { unread = is.unread; heard = is.heard })
   told_tells tale (entry.Exec link) gets is =
@@ -352,7 +339,7 @@ module _ (setup : Setup) (plan : Plan) where
   told_tells tale (entry.Closed link) gets is = losing_keeps setup plan TellsBytes keeps link tale is
   told_tells tale _ gets is = is
 
-  pub step_tells : (tale : Tale) (e : Entry) → GetsBytes e → TellsBytes tale → TellsBytes (tale_step setup plan tale e)
+  pub step_tells : (tale : Tale) (e : Entry) → GetsBytes tale e → TellsBytes tale → TellsBytes (tale_step setup plan tale e)
   step_tells tale e gets is = step_keeps setup plan TellsBytes keeps tale e (told_tells tale e gets is)
 
   pub first_tells : TellsBytes first_tale
