@@ -2,4 +2,3 @@ pub mod Sessions
 pub mod Answers
 pub mod Works
 pub mod Desks
-pub mod Ranks

@@ -24,6 +24,10 @@ abbrev pub put_in : List Session → Session → List Session
 put_in [] s = []
 put_in (row ∷ rows) s = if is_in s.hostgroup row then s ∷ rows else row ∷ put_in rows s
 
+-- a transaction is open in it
+abbrev pub is_open : Session → Bool
+is_open s = s.pin.tx
+
 -- What happens to a session.
 
 -- a link carries it

@@ -6,6 +6,7 @@ use Rattle.client_session.specs.Setups.{Setup, User}
 use Rattle.core_service.specs.declared.service.Service.{Service}
 use Rattle.core_service.specs.declared.service.UserAt.{UserAt}
 use Rattle.handshake.specs.Spelling.{IsText}
+use Rattle.hostgroups.specs.declared.row.ServerRow.{ServerRow}
 use Rattle.mx_base.specs.declared.names.Hostgroup.{Hostgroup}
 use Rattle.mx_config.specs.declared.config.Config.{Config}
 use Rattle.mx_config.specs.declared.config.UserRow.{UserRow}
@@ -42,11 +43,16 @@ abbrev pub home_by : List UserRow → (user : List ℕ) → Hostgroup
 home_by rows user =
     option_map_or (λ (row : UserRow). row.default_hostgroup) (find (λ (row : UserRow). bytes_eq row.name user) rows) (record { 0 = 0 })
 
+-- those that servers are in, row by row
+abbrev pub hostgroups_of : List ServerRow → List Hostgroup
+hostgroups_of rows = map (λ (row : ServerRow). row.hostgroup) rows
+
 pub record ServesBy (config : Config) (service : Service) : Type 0 where
   pub listen : service.listen ≡ config.proxy.listen
   pub admin_listen : service.admin_listen ≡ config.proxy.admin_listen
   pub setup : service.setup ≡ setup_of config
   pub default_schema : service.default_schema ≡ config.proxy.default_schema
   pub homes : (user : List ℕ) → home_in service.users user ≡ home_by config.users user
+  pub hostgroups : service.hostgroups ≡ hostgroups_of config.servers
   pub rules : IsInOrder config.rules (rows_of service.rules)
   pub patterns : All IsCompiled (rules_of service.rules)

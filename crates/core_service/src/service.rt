@@ -1,7 +1,7 @@
 // What the core serves by.
 ghost use Rattle.std.specs.Prelude.{◌≡◌, ◌≤◌, ℕ, All, IfOk, List, length};
 ghost use Rattle.client_session.specs.Setups.{most_message};
-ghost use Rattle.core_service.specs.Serves.{AreTexts, ServesBy, home_by, home_in, setup_of, user_of, users_of};
+ghost use Rattle.core_service.specs.Serves.{AreTexts, ServesBy, home_by, home_in, hostgroups_of, setup_of, user_of, users_of};
 ghost use Rattle.handshake.specs.Spelling.{IsText};
 ghost use Rattle.mx_config.specs.Lawful.{IsLawful};
 ghost use Rattle.query_rules.specs.Building.{IsCompiled, IsInOrder};
@@ -9,7 +9,7 @@ ghost use Rattle.query_rules.specs.Passing.{rows_of, rules_of};
 
 use client_session::{Setup, User};
 use hostgroups::ServerRow;
-use mx_base::{Address, Bytes, Hostgroup, OutOfMemory};
+use mx_base::{Address, Bytes, Hostgroup, Items, OutOfMemory};
 use mx_config::{Config, UserRow};
 use query_rules::{RuleFault, Rules};
 use std::alloc::Global;
@@ -32,6 +32,8 @@ pub struct Service {
     pub rules: Rules,
     /// The schema of a client that names none.
     pub default_schema: Bytes,
+    /// The hostgroups of the table of servers, row by row.
+    pub hostgroups: Items<Hostgroup>,
     /// The place of each hostgroup by its first row in the table of servers, by its number.
     pub ranks: Vec<Option<u32>>,
     pub wait_ms: u64,
@@ -105,6 +107,16 @@ fn most_of(rows: &[ServerRow]) -> u16 {
     most
 }
 
+fn hostgroups_of(alloc: Global, rows: &[ServerRow]) -> Result<Items<Hostgroup>, OutOfMemory>
+    ensures { IfOk result (λ hostgroups. hostgroups ≡ hostgroups_of rows.now) }
+{
+    let mut hostgroups = Items::new(alloc);
+    for row in rows {
+        hostgroups.push(row.hostgroup)?;
+    }
+    Ok(hostgroups)
+}
+
 fn ranks_of(alloc: Global, rows: &[ServerRow]) -> Result<Vec<Option<u32>>, OutOfMemory> {
     let mut ranks = vec![in alloc; None; usize::from(most_of(rows)) + 1]?;
     let mut rank = 0u32;
@@ -144,6 +156,7 @@ impl Service {
             users: homes_of(alloc, config.users.as_slice())?,
             rules: rules_of(alloc, config)?,
             default_schema: Bytes::from_slice(alloc, config.proxy.default_schema.as_slice())?,
+            hostgroups: hostgroups_of(alloc, config.servers.as_slice())?,
             ranks: ranks_of(alloc, config.servers.as_slice())?,
             wait_ms: config.proxy.wait_ms,
             idle_ms: config.proxy.idle_ms,

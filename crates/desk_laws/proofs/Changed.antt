@@ -1,6 +1,7 @@
 -- A desk of which one session changed.
 use Rattle.std.specs.Prelude.{◌≡◌, ◌<◌, ℕ, suc, ◌^◌, Bool, true, false, List, [], Option, Some, None}
 use Rattle.std.proofs.Common.{refl, ap, sym, ◌∙◌, arith, subst}
+use Rattle.std.proofs.lemmas.Option.{none-some}
 use Rattle.pin_classifier.specs.declared.class.Class.{Class}
 use Rattle.session_state.specs.Classes.{Neither, effect_of, schema_by, settings_by}
 use Rattle.session_state.specs.declared.place.Place.{Place}
@@ -72,7 +73,11 @@ first_sessions setup c = record {
 }
 
 pub first_messages : (setup : Setup) (c : ClientNo) (from : ℕ) → AreToCome (first_view setup) c from
-first_messages setup c from = record { unsent = λ ordinal after. refl; unanswered = λ ordinal after. refl }
+first_messages setup c from = record {
+  unsent = λ ordinal after. refl;
+  unanswered = λ ordinal after. refl;
+  due = λ n due its there. absurd (none-some due there);
+}
 
 -- What a reset may not take back.
 pub outlasts_so : (reads : Reads) (form : Form) (command : Command) → IsForm reads form command → outlasts form ≡ (class_of reads command).outlasts_reset

@@ -1,4 +1,5 @@
 mod Names
+pub mod Dues
 mod Rows
 mod Same
 mod Clear
@@ -8,5 +9,4 @@ mod Changed
 mod Moves
 mod Hears
 mod Leaves
-mod Ranking
 mod Working

@@ -2,17 +2,19 @@
 use Rattle.std.specs.Prelude.{◌≡◌, ◌⊎◌, ◌<◌, ◌≤◌, ℕ, suc, Bool, true, false, nat_eq, List, Option, Some, None}
 use Rattle.std.proofs.Common.{refl, sym, ◌∙◌, arith, subst, inl, inr}
 use Rattle.session_state.specs.declared.place.Place.{Place}
-use Rattle.private_model.specs.Names.{ClientNo, Hostgroup, SessionName}
+use Rattle.private_model.specs.Commands.{Reply}
+use Rattle.private_model.specs.Names.{ClientNo, Hostgroup, LinkId, SessionName}
 use Rattle.private_model.specs.Story.{BecameDue, Broke, Capture, Dropped, End, Freed, Gone, Happening, Heard, Left, LoggedIn, Mirrored, Own, Prep, Question, Ran, Sent, Statement, Sync, Unprepared, is_client, is_name, message_of}
-use Rattle.private_model.specs.View.{Answered, Asked, Quiet, Setup, Stage, View, view_step}
+use Rattle.private_model.specs.View.{Answered, Asked, Quiet, Setup, Stage, View, due_of, present, view_heard, view_step}
 use Rattle.client_seat.specs.declared.phase.Phase.{Phase}
 use Rattle.client_seat.specs.declared.phase.Phase.TheVariants as phase
 use Rattle.client_desk.specs.declared.desk.Desk.{Desk}
 use Rattle.client_desk.specs.declared.session.Session.{Session}
 use Rattle.client_desk.specs.declared.work.Work.{Work}
-use Rattle.desk_laws.specs.Spares.{IsOver, Spares, SparesQuestion, SparesStage, SparesAnswered, SparesAsked, SparesToCome, answered_for, asked_for, is_of, named, touches}
-use Rattle.desk_laws.specs.Stands.{AreSessions, AreToCome, IsDesk, IsPlaced, IsWorkOr, name_at}
+use Rattle.desk_laws.specs.Spares.{IsOver, Spares, SparesQuestion, SparesStage, SparesAnswered, SparesAsked, SparesSent, SparesToCome, answered_for, asked_for, is_of, named, touches}
+use Rattle.desk_laws.specs.Stands.{AreDueEarlier, AreSessions, AreToCome, IsDesk, IsPlaced, IsWorkOr, name_at}
 use Rattle.desk_laws.proofs.Clear.{Clear, ClearAnswered, ClearAsked, ClearDue, ClearMessage, ClearMoved, ClearOr, ClearPlace, IsClear, clear_same, due_same, message_same, place_same}
+use Rattle.desk_laws.proofs.Dues.{due_of_other, due_sent}
 use Rattle.desk_laws.proofs.Names.{client_of, of_other_client, of_other_message, of_other_ordinal, of_past}
 use Rattle.desk_laws.proofs.Same.{sessions_stay, work_stays}
 
@@ -284,8 +286,17 @@ module _ (view : View) (c : ClientNo) (from ordinal : ℕ) (after : from < suc o
   to_come_answered (Asked question) spares = tt
   to_come_answered (Answered question) spares = to_come_asked question spares
 
+  to_come_sent : (question : Question) → SparesSent view c from question → ClearAsked c ordinal question
+  to_come_sent (Statement n due) (inl other) = to_come_asked (Statement n due) (inl other)
+  to_come_sent (Statement n due) (inr its) = to_come_asked (Statement n due) (inr its.0)
+  to_come_sent (Prep n key text) spares = tt
+  to_come_sent (Sync n command) spares = tt
+  to_come_sent (Own command) spares = tt
+  to_come_sent (End n) spares = tt
+  to_come_sent (Capture n) spares = tt
+
   to_come_clear : (e : Happening) → SparesToCome view c from e → ClearMessage view c ordinal e
-  to_come_clear (Sent link question) spares = to_come_asked question spares
+  to_come_clear (Sent link question) spares = to_come_sent question spares
   to_come_clear (Heard link reply) spares = to_come_answered (view.links link).stage spares
   to_come_clear (LoggedIn link server account) spares = tt
   to_come_clear (BecameDue client hostgroup other key command multiplex) spares = tt
@@ -298,9 +309,44 @@ module _ (view : View) (c : ClientNo) (from ordinal : ℕ) (after : from < suc o
   to_come_clear Broke spares = tt
   to_come_clear (Mirrored client job) spares = tt
 
+module _ (setup : Setup) (view : View) (c : ClientNo) (from : ℕ) (are : AreDueEarlier view.dues view.carriers c from) where
+  abbrev Earlier : View → Type 0
+  Earlier after = AreDueEarlier after.dues after.carriers c from
+
+  due_asked : (link : LinkId) (question : Question) → SparesSent view c from question → Earlier (view_step setup view (Sent link question))
+  due_asked link (Statement n due) (inl other) = due_sent view.dues view.carriers c from are n due link (inl other)
+  due_asked link (Statement n due) (inr its) = due_sent view.dues view.carriers c from are n due link (inr its.1)
+  due_asked link (Prep n key text) spares = are
+  due_asked link (Sync n command) spares = are
+  due_asked link (Own command) spares = are
+  due_asked link (End n) spares = are
+  due_asked link (Capture n) spares = are
+
+  due_heard : (link : LinkId) (reply : Reply) (stage : Stage) → Earlier (view_heard setup view link reply stage)
+  due_heard link reply Quiet = are
+  due_heard link reply (Asked question) = are
+  due_heard link reply (Answered question) = are
+
+  due_stays : (e : Happening) → SparesToCome view c from e → Earlier (view_step setup view e)
+  due_stays (BecameDue client hostgroup ordinal key command multiplex) apart =
+      let n : SessionName = present view client hostgroup in
+      due_of_other view.dues view.carriers c from are n (due_of view n ordinal key command multiplex) apart
+  due_stays (Sent link question) spares = due_asked link question spares
+  due_stays (Heard link reply) spares = due_heard link reply (view.links link).stage
+  due_stays (LoggedIn link server account) spares = are
+  due_stays (Ran link) spares = are
+  due_stays (Freed link) spares = are
+  due_stays (Unprepared link number) spares = are
+  due_stays (Dropped link) spares = are
+  due_stays (Gone link) spares = are
+  due_stays (Left client) spares = are
+  due_stays Broke spares = are
+  due_stays (Mirrored client job) spares = are
+
 pub to_come_stays : (setup : Setup) (view : View) (c : ClientNo) (from : ℕ) (e : Happening) → AreToCome view c from → SparesToCome view c from e
     → AreToCome (view_step setup view e) c from
 to_come_stays setup view c from e are spares = record {
   unsent = λ ordinal after. (message_same setup view c ordinal e (to_come_clear view c from ordinal after e spares)).carrier ∙ are.unsent ordinal after;
   unanswered = λ ordinal after. (message_same setup view c ordinal e (to_come_clear view c from ordinal after e spares)).reply ∙ are.unanswered ordinal after;
+  due = due_stays setup view c from are.due e spares;
 }

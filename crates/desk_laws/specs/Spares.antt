@@ -69,7 +69,7 @@ abbrev pub IsElsewhere : Hostgroup → Option Work → Type 0
 IsElsewhere h None = Unit {0}
 IsElsewhere h (Some work) = is_hostgroup work.hostgroup h ≡ false
 
--- A message that is to come isn't what a happening sends or answers.
+-- A message that is to come isn't what a happening makes due, sends or answers; and what it sends is due.
 
 abbrev pub SparesAsked : ClientNo → (from : ℕ) → Question → Type 0
 SparesAsked c from (Statement n due) = (is_client c n.client ≡ false) ⊎ (due.ordinal < from)
@@ -79,7 +79,12 @@ abbrev pub SparesAnswered : ClientNo → (from : ℕ) → Stage → Type 0
 SparesAnswered c from (Answered question) = SparesAsked c from question
 SparesAnswered c from _ = Unit {0}
 
+abbrev pub SparesSent : View → ClientNo → (from : ℕ) → Question → Type 0
+SparesSent view c from (Statement n due) = (is_client c n.client ≡ false) ⊎ ((due.ordinal < from) × (view.dues n ≡ Some due))
+SparesSent view c from _ = Unit {0}
+
 abbrev pub SparesToCome : View → ClientNo → (from : ℕ) → Happening → Type 0
-SparesToCome view c from (Sent link question) = SparesAsked c from question
+SparesToCome view c from (BecameDue client hostgroup ordinal key command multiplex) = is_client c client ≡ false
+SparesToCome view c from (Sent link question) = SparesSent view c from question
 SparesToCome view c from (Heard link reply) = SparesAnswered c from (view.links link).stage
 SparesToCome view c from _ = Unit {0}

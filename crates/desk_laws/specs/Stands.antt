@@ -7,7 +7,7 @@ use Rattle.server_rule.specs.Classes.{Reads}
 use Rattle.private_model.specs.Commands as commands
 use Rattle.private_model.specs.Commands.{Command, Reply, is_marked}
 use Rattle.private_model.specs.Names.{ClientNo, Hostgroup, MessageName, SessionName}
-use Rattle.private_model.specs.Story.{Due, Question, Statement}
+use Rattle.private_model.specs.Story.{Due, Question, Statement, message_of}
 use Rattle.private_model.specs.View.{Held, View, first_held, present}
 use Rattle.log_story.specs.Plan.{text_payload}
 use Rattle.link_state.specs.declared.asking.Form.{Form}
@@ -141,10 +141,22 @@ abbrev pub HasRowFor : List Session → Option Work → Type 0
 HasRowFor rows None = Unit {0}
 HasRowFor rows (Some work) = HasRow rows work.hostgroup
 
--- Messages from this one on are neither sent nor answered.
+-- What is due in a session is an earlier message, which wasn't sent, and is due in no other.
+
+pub record IsDueEarlier (dues : SessionName → Option Due) (carriers : MessageName → Option LinkId) (from : ℕ) (n : SessionName) (due : Due) : Type 0 where
+  pub some : 0 < due.ordinal
+  pub earlier : due.ordinal < from
+  pub unsent : carriers (message_of n due) ≡ None
+  pub alone : (other : SessionName) (also : Due) → other.client ≡ n.client → dues other ≡ Some also → also.ordinal ≡ due.ordinal → other ≡ n
+
+abbrev pub AreDueEarlier : (SessionName → Option Due) → (MessageName → Option LinkId) → ClientNo → (from : ℕ) → Type 0
+AreDueEarlier dues carriers c from = (n : SessionName) (due : Due) → n.client ≡ c → dues n ≡ Some due → IsDueEarlier dues carriers from n due
+
+-- Messages from this one on are neither sent nor answered, nor due.
 pub record AreToCome (view : View) (c : ClientNo) (from : ℕ) : Type 0 where
   pub unsent : (ordinal : ℕ) → from < suc ordinal → view.carriers (message_at c ordinal) ≡ None
   pub unanswered : (ordinal : ℕ) → from < suc ordinal → view.replies (message_at c ordinal) ≡ None
+  pub due : AreDueEarlier view.dues view.carriers c from
 
 -- All of a client: where it stands is known while it is served.
 

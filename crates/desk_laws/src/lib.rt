@@ -13,6 +13,6 @@ pub use others::{coming_stays, others_stay, parted_stays, strangers_stay};
 pub use questions::{due_stands, lent_stands, outlasts_as_said, sent_stands};
 pub use sessions::{
     anew_stands, first_stands, freed_stands, gone_stands, homes_have_rows, left_stands,
-    parted_stands, present_stands, transactions_stand,
+    parted_stands, present_stands,
 };
 pub use works::{given_up_stands, new_stands, seats_stand, taken_stands};

@@ -1,5 +1,5 @@
 // Sessions begin, and their links are given back or lost.
-ghost use Rattle.std.specs.Prelude.{◌≡◌, ◌<◌, ◌^◌, ℕ, suc, find, List, Option, Some, []};
+ghost use Rattle.std.specs.Prelude.{◌≡◌, ◌<◌, ◌^◌, ℕ, suc, Some, []};
 ghost use Rattle.private_model.specs.Names.{ClientNo, Hostgroup, LinkId};
 ghost use Rattle.private_model.specs.Story.{Freed, Gone, Left};
 ghost use Rattle.private_model.specs.View.{Setup, View, first_view, present, view_step};
@@ -12,8 +12,6 @@ ghost use Rattle.client_desk.specs.Desks.{freed, gone, left, name_of, session_of
 ghost use Rattle.client_desk.specs.Sessions.{parted_of};
 ghost use Rattle.client_desk.specs.declared.desk.Desk.{Desk};
 ghost use Rattle.client_desk.specs.declared.session.Parted.{Parted};
-ghost use Rattle.client_desk.specs.Ranks.{transaction_in};
-ghost use Rattle.desk_laws.specs.Ranked.{AreRanks};
 ghost use Rattle.desk_laws.specs.Spares.{IsElsewhere};
 ghost use Rattle.desk_laws.specs.Stands.{AreSessions, AreToCome, HasRow, IsDesk, IsParted, IsPlaced, held_of};
 
@@ -72,11 +70,4 @@ pub fn anew_stands()
 pub fn parted_stands()
     ensures { (setup : Setup) (view : View) (c : ClientNo) (desk : Desk) → IsDesk setup.reads view c desk → (h : Hostgroup) (p : Parted)
         → parted_of (session_of desk h) ≡ Some p → IsParted (view_step setup view (Left c)) c p }
-{}
-
-/// The hostgroup of its open transaction is the first of these that has one, where the ranks are their places.
-pub fn transactions_stand()
-    ensures { (reads : Reads) (view : View) (c : ClientNo) (desk : Desk) → IsDesk reads view c desk → (hostgroups : List Hostgroup)
-        (ranks : List (Option ℕ)) → AreRanks hostgroups ranks
-        → transaction_in ranks desk.sessions ≡ find (λ h. (view.held (present view c h)).pin.tx) hostgroups }
 {}
