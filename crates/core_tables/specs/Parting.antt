@@ -1,5 +1,5 @@
 -- What tables become where statements are given up, clients leave, and links are given back, lost and forgotten.
-use Rattle.std.specs.Prelude.{◌≡◌, ℕ, Bool, true, false, ◌||◌, nat_eq, if◌then◌else◌, is_some, List, [], ◌∷◌, Option, Some, None}
+use Rattle.std.specs.Prelude.{◌≡◌, ℕ, Bool, true, false, not, ◌&&◌, ◌||◌, nat_eq, if◌then◌else◌, is_some, List, [], ◌∷◌, Option, Some, None}
 use Rattle.std.specs.Option.{option_and_then, option_map, option_map_or, option_or}
 use Rattle.mx_base.specs.declared.names.ClientNo.{ClientNo}
 use Rattle.mx_base.specs.declared.names.Hostgroup.{Hostgroup}
@@ -7,7 +7,10 @@ use Rattle.mx_base.specs.declared.names.LinkId.{LinkId}
 use Rattle.session_state.specs.Pins.{no_pin}
 use Rattle.session_state.specs.declared.names.SessionName.{SessionName}
 use Rattle.client_seat.specs.declared.seat.Seat.{Seat}
-use Rattle.client_desk.specs.Desks.{carried_of, freed, gave_up, gone, left}
+use Rattle.private_model.specs.Story.{is_name}
+use Rattle.client_desk.specs.Desks.{carried_of, freed, gave_up, gone, left, name_of}
+use Rattle.client_desk.specs.declared.desk.Desk.{Desk}
+use Rattle.client_desk.specs.declared.work.Work.{Work}
 use Rattle.client_desk.specs.declared.session.Session.{Session}
 use Rattle.link_state.specs.declared.state.Carried.{Carried}
 use Rattle.link_state.specs.declared.state.Carried.TheVariants.{Nobody, Lent, Joined}
@@ -128,9 +131,17 @@ no_session = record { present = true; pin = no_pin; id = Some 0; lasting = false
 abbrev pub at_desk : SessionName → Option Client → links.Session
 at_desk n row = option_map_or (λ (client : Client). carried_of client.desk n.hostgroup) row no_session
 
+-- the router answered itself what the link was lent for: its client has no such statement to send any more
+
+abbrev pub waits_in : SessionName → Desk → Work → Bool
+waits_in n desk work = not work.sent && is_name n (name_of desk work.hostgroup)
+
+abbrev pub is_given_up : SessionName → Option Client → Bool
+is_given_up n row = not (option_map_or (λ (client : Client). option_map_or (waits_in n client.desk) client.desk.work false) row false)
+
 abbrev pub is_done_for : Tabled → Server → Option SessionName → Bool
 is_done_for t server None = false
-is_done_for t server (Some n) = is_done server.row (at_desk n (t.clients n.client)) false
+is_done_for t server (Some n) = is_done server.row (at_desk n (t.clients n.client)) (is_given_up n (t.clients n.client))
 
 abbrev pub is_done_in : LinkId → Tabled → Bool
 is_done_in l t = option_map_or (λ server. is_done_for t server (name_in server.row.link.state.carries)) (t.links l) false

@@ -213,12 +213,13 @@ passes_for (purposes.Capture name) row form t = with_session name t (may_capture
 abbrev pub is_ready : Row → Bool
 is_ready row = not row.lost && (not row.link.spoilt && is_quiet row.link.state.stage)
 
--- what goes on needs no test, nor does a QUIT
+-- what goes on needs no test, nor does a QUIT; a STMT_CLOSE and a STMT_RESET go where nothing stands
 abbrev pub passes_next : Option Begins → Row → Tabled → Bool
 passes_next None row t = true
 passes_next (Some begins.Quits) row t = true
 passes_next (Some (begins.Asks asking)) row t = is_ready row && passes_for asking.purpose row asking.form t
-passes_next _ row t = false
+passes_next (Some (begins.Closes number)) row t = is_ready row
+passes_next (Some (begins.Resets number)) row t = is_ready row
 
 abbrev pub passes : LinkId → Tabled → Bool
 passes l t = option_map_or (λ (server : Server). passes_next server.row.link.next server.row t) (t.links l) false

@@ -1,5 +1,5 @@
 -- What a client's message that came up makes of the client, as it is taken up.
-use Rattle.std.specs.Prelude.{◌≡◌, ℕ, Bool, false, true, IsSome, List, Option, Some, None}
+use Rattle.std.specs.Prelude.{◌≡◌, ℕ, Bool, false, true, IfSome, IsSome, List, Option, Some, None}
 use Rattle.std.specs.Option.{option_and_then}
 use Rattle.mx_base.specs.declared.names.ClientNo.{ClientNo}
 use Rattle.mx_base.specs.declared.names.Hostgroup.{Hostgroup}
@@ -13,6 +13,7 @@ use Rattle.link_state.specs.declared.wish.Command as links
 use Rattle.link_state.specs.declared.wish.Command.TheVariants.{Plain, Prepare, Execute}
 use Rattle.client_side.specs.declared.stage.Stage.TheVariants.{Commands}
 use Rattle.client_seat.specs.Answers.{grown, replied}
+use Rattle.client_seat.specs.Numbers.{AreNoted}
 use Rattle.client_seat.specs.Requests.{Asked, Runs, Says, asked_in}
 use Rattle.client_seat.specs.Seats.{ended}
 use Rattle.client_seat.specs.Takings.{taken, taken_to}
@@ -120,9 +121,20 @@ abbrev pub IsUpOr : Option Client → Type 0
 IsUpOr None = ⊥
 IsUpOr (Some client) = IsUpAt client
 
+-- What it has prepared then, by its message, of which the router may have refused that it goes to a server.
+
+abbrev pub AreNotedOf : (refused : Bool) → Client → ClientStatements → Type 0
+AreNotedOf refused client statements =
+    IfSome (found_of client) (λ (message : Framed). AreNoted refused message.payload client.desk.seat.statements statements)
+
+abbrev pub AreNotedIn : (refused : Bool) → Option Client → ClientStatements → Type 0
+AreNotedIn refused None statements = Unit {0}
+AreNotedIn refused (Some client) statements = AreNotedOf refused client statements
+
 -- what becomes of a client that has prepared these then
-pub record IsTaken (by : ClientStatements → Client → Client) (c : ClientNo) (old new : Tabled) : Type 0 where
+pub record IsTaken (refused : Bool) (by : ClientStatements → Client → Client) (c : ClientNo) (old new : Tabled) : Type 0 where
   pub statements : ClientStatements
+  pub noted : AreNotedIn refused (old.clients c) statements
   pub same : IsSame new (client_changed c (by statements) old)
 
 -- what its message asks for, with this text in place of its own
@@ -135,13 +147,14 @@ pub record IsSentAs (flag : ℕ) (text : Option (List ℕ)) (work : (packets : L
   pub command : Command
   pub asked : asked_of old text ≡ Some (Says command)
   pub is : new ≡ goes flag (work (spelling 0 (text_payload command))) new.desk.seat.statements old
+  pub noted : AreNotedOf false old new.desk.seat.statements
 
 pub record IsDue (flag : ℕ) (text : Option (List ℕ)) (work : (packets : List ℕ) → Work) (c : ClientNo) (old new : Tabled) : Type 0 where
   pub row : Client
   pub there : old.clients c ≡ Some row
   pub command : Command
   pub asked : asked_of row text ≡ Some (Says command)
-  pub taken : IsTaken (goes flag (work (spelling 0 (text_payload command)))) c old new
+  pub taken : IsTaken false (goes flag (work (spelling 0 (text_payload command)))) c old new
 
 -- an execute goes to a server: a statement of it is due, which is this one by its arguments
 pub record IsRunAs (flag : ℕ) (work : Args → Work) (old new : Client) : Type 0 where
@@ -149,6 +162,7 @@ pub record IsRunAs (flag : ℕ) (work : Args → Work) (old new : Client) : Type
   pub args : Args
   pub asked : asked_of old None ≡ Some (Runs key args)
   pub is : new ≡ goes flag (work args) new.desk.seat.statements old
+  pub noted : AreNotedOf false old new.desk.seat.statements
 
 pub record IsRunDue (flag : ℕ) (work : Args → Work) (c : ClientNo) (old new : Tabled) : Type 0 where
   pub row : Client
@@ -156,4 +170,4 @@ pub record IsRunDue (flag : ℕ) (work : Args → Work) (c : ClientNo) (old new 
   pub key : ℕ
   pub args : Args
   pub asked : asked_of row None ≡ Some (Runs key args)
-  pub taken : IsTaken (goes flag (work args)) c old new
+  pub taken : IsTaken false (goes flag (work args)) c old new

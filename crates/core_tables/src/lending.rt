@@ -404,7 +404,8 @@ impl Tables {
             Some(Begins::Asks(asking)) => {
                 is_ready(row) && self.passes_for(asking.purpose, row, &asking.form)
             }
-            _ => false,
+            Some(Begins::Closes(_)) => is_ready(row),
+            Some(Begins::Resets(_)) => is_ready(row),
         }
     }
 

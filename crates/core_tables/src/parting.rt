@@ -4,10 +4,11 @@ ghost use Rattle.std.specs.HashMap.{get};
 ghost use Rattle.std.specs.Option.{option_copied, option_map};
 ghost use Rattle.mx_base.specs.declared.names.LinkId.{LinkId};
 ghost use Rattle.core_tables.specs.Parting.{IsRowChanged, at_desk, changed_at, freed_in, freed_of, freed_row, freed_server, given_row, given_up, gone_row};
-ghost use Rattle.core_tables.specs.Parting.{is_done_for, is_done_in, kept_at, kept_by, left_in, lost_in, lost_row, name_in, present_at, present_in, parted_row, unlinked, with_kept};
+ghost use Rattle.core_tables.specs.Parting.{is_done_for, is_done_in, is_given_up, kept_at, kept_by, left_in, lost_in, lost_row, name_in, present_at, present_in, parted_row, unlinked, with_kept};
 ghost use Rattle.core_tables.specs.Tables.{IsSame, tables_of};
 
 use crate::client::Client;
+use crate::lending::is_name;
 use crate::server::Server;
 use crate::tables::Tables;
 use client_desk::Session;
@@ -139,6 +140,19 @@ fn free_in(links: &mut HashMap<u64, Server>, link: LinkId)
     }
 }
 
+// The router answered itself what a link was lent for: its client has no such statement to send any more.
+fn is_given_up(name: SessionName, client: Option<&Client>) -> bool
+    ensures { result ≡ is_given_up name (option_copied client.entry) }
+{
+    let Some(client) = client else {
+        return true;
+    };
+    match &client.desk.work {
+        Some(work) => !(!work.sent && is_name(name, client.desk.name(work.hostgroup))),
+        None => true,
+    }
+}
+
 impl Tables {
     /// The router answers a client's statement in work itself, by this payload.
     #[tactic(auto, unfolding(crate::specs::Tables::tables_of))]
@@ -201,8 +215,10 @@ impl Tables {
     {
         match name_in(server.row.link.state.carries) {
             Some(name) => {
-                let session = at_desk(name, self.clients.get(&name.client.0));
-                server.row.is_done(session, false)
+                let client = self.clients.get(&name.client.0);
+                server
+                    .row
+                    .is_done(at_desk(name, client), is_given_up(name, client))
             }
             None => false,
         }

@@ -1,7 +1,7 @@
 // A client's message that came up is taken up.
 ghost use Rattle.std.specs.Prelude.{◌≡◌, ℕ, true, IfOk, None, OnOk, Some};
 ghost use Rattle.core_tables.specs.Tables.{tables_of};
-ghost use Rattle.core_tables.specs.Taking.{IsDue, IsRunAs, IsRunDue, IsSentAs, IsTaken, IsUpAt, IsUpOr, answers, asked_of, passes, text_work, with_args, with_packets};
+ghost use Rattle.core_tables.specs.Taking.{AreNotedOf, IsDue, IsRunAs, IsRunDue, IsSentAs, IsTaken, IsUpAt, IsUpOr, answers, asked_of, passes, text_work, with_args, with_packets};
 ghost use Rattle.client_seat.specs.Requests.{Runs, Says};
 ghost use Rattle.private_model.specs.Commands as commands;
 ghost use Rattle.std.specs.Option.{option_copied};
@@ -19,7 +19,8 @@ impl Client {
     // Its message is behind, and goes to no server.
     fn pass(&mut self, alloc: Global, flag: u16) -> Result<(), OutOfMemory>
         requires { IsUpAt self.old }
-        ensures { OnOk result (self.new ≡ passes flag self.new.desk.seat.statements self.old) }
+        ensures is { OnOk result (self.new ≡ passes flag self.new.desk.seat.statements self.old) }
+        ensures noted { OnOk result (AreNotedOf true self.old self.new.desk.seat.statements) }
     {
         self.desk.seat.take(alloc, flag)?;
         self.went = None;
@@ -29,7 +30,8 @@ impl Client {
     // The router answers it, in these packets.
     fn answer(&mut self, alloc: Global, flag: u16, packets: &[u8]) -> Result<(), OutOfMemory>
         requires { IsUpAt self.old }
-        ensures { OnOk result (self.new ≡ answers flag packets.now self.new.desk.seat.statements self.old) }
+        ensures is { OnOk result (self.new ≡ answers flag packets.now self.new.desk.seat.statements self.old) }
+        ensures noted { OnOk result (AreNotedOf true self.old self.new.desk.seat.statements) }
     {
         self.pass(alloc, flag)?;
         self.desk.seat.reply_piece(packets)?;
@@ -96,7 +98,7 @@ impl Tables {
     #[tactic(auto, unfolding(crate::specs::Tables::tables_of))]
     pub fn pass(&mut self, client: ClientNo, flag: u16) -> Result<(), OutOfMemory>
         requires { IsUpOr ((tables_of self.old).clients client) }
-        ensures { OnOk result (IsTaken (passes flag) client (tables_of self.old) (tables_of self.new)) }
+        ensures { OnOk result (IsTaken true (passes flag) client (tables_of self.old) (tables_of self.new)) }
     {
         match self.clients.get_mut(&client.0) {
             Some(row) => row.pass(self.alloc, flag),
@@ -108,7 +110,7 @@ impl Tables {
     #[tactic(auto, unfolding(crate::specs::Tables::tables_of))]
     pub fn answer(&mut self, client: ClientNo, flag: u16, packets: &[u8]) -> Result<(), OutOfMemory>
         requires { IsUpOr ((tables_of self.old).clients client) }
-        ensures { OnOk result (IsTaken (answers flag packets.now) client (tables_of self.old) (tables_of self.new)) }
+        ensures { OnOk result (IsTaken true (answers flag packets.now) client (tables_of self.old) (tables_of self.new)) }
     {
         match self.clients.get_mut(&client.0) {
             Some(row) => row.answer(self.alloc, flag, packets),

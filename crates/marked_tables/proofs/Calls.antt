@@ -83,18 +83,18 @@ changed_goes old t m c by marks spares same =
     goes_by _ old t m (client_changed c by (tables_of old.tables)) marks same
     (λ link clear. client_quiet (tables_of old.tables) c by link (spares link) clear) (client_rows (tables_of old.tables) c _)
 
-pub taken_goes : (old : MarkedTables) (t : Tables) (m : Marked) (c : ClientNo) (by : ClientStatements → Client → Client)
+pub taken_goes : (refused : Bool) (old : MarkedTables) (t : Tables) (m : Marked) (c : ClientNo) (by : ClientStatements → Client → Client)
     → MarksBut (IsClearAt (tables_of old.tables) c) old.changed m
     → ((statements : ClientStatements) (link : LinkId) → Spares link (by statements))
-    → IsTaken by c (tables_of old.tables) (tables_of t) → GoesOn old (record { tables = t; changed = m })
-taken_goes old t m c by marks spares taken = changed_goes old t m c (by taken.statements) marks (spares taken.statements) taken.same
+    → IsTaken refused by c (tables_of old.tables) (tables_of t) → GoesOn old (record { tables = t; changed = m })
+taken_goes refused old t m c by marks spares taken = changed_goes old t m c (by taken.statements) marks (spares taken.statements) taken.same
 
 pub due_goes : (old : MarkedTables) (t : Tables) (m : Marked) (c : ClientNo) (flag : ℕ) (text : Option (List ℕ)) (work : (packets : List ℕ) → Work)
     → MarksBut (IsClearAt (tables_of old.tables) c) old.changed m → IsDue flag text work c (tables_of old.tables) (tables_of t)
     → GoesOn old (record { tables = t; changed = m })
 due_goes old t m c flag text work marks due =
     let one : Work = work (spelling 0 (text_payload due.command)) in
-    taken_goes old t m c (goes flag one) marks (λ statements link. goes_spares flag one statements link) due.taken
+    taken_goes false old t m c (goes flag one) marks (λ statements link. goes_spares flag one statements link) due.taken
 
 pub told_goes : (old : MarkedTables) (t : Tables) (m : Marked) (c : ClientNo) (payload : List ℕ)
     → MarksBut (IsClearAt (tables_of old.tables) c) old.changed m → IsTold c payload (tables_of old.tables) (tables_of t)
@@ -106,7 +106,7 @@ told_goes old t m c payload marks told =
 left_taken_goes : (old : MarkedTables) (t : Tables) (m : Marked) (c : ClientNo) (seat : Seat → Seat) (by : ClientStatements → Client → Client)
     → MarksBut (IsClearAt (tables_of old.tables) c) old.changed m → ((s : Seat) → (seat s).link ≡ s.link)
     → ((statements : ClientStatements) (link : LinkId) → Spares link (by statements))
-    → IsTaken by c (left_in c seat (tables_of old.tables)) (tables_of t) → GoesOn old (record { tables = t; changed = m })
+    → IsTaken true by c (left_in c seat (tables_of old.tables)) (tables_of t) → GoesOn old (record { tables = t; changed = m })
 left_taken_goes old t m c seat by marks same spares taken =
     let left : Tabled = left_in c seat (tables_of old.tables) in
     goes_by _ old t m (client_changed c (by taken.statements) left) marks taken.same

@@ -1,5 +1,5 @@
 -- What is prepared: links with which that has nothing to do.
-use Rattle.std.specs.Prelude.{◌≡◌, ℕ, List, Option, Some, None}
+use Rattle.std.specs.Prelude.{◌≡◌, ℕ, List, Option, Some, None, false}
 use Rattle.std.proofs.Common.{refl, subst}
 use Rattle.mx_base.specs.declared.names.ClientNo.{ClientNo}
 use Rattle.mx_base.specs.declared.names.Hostgroup.{Hostgroup}
@@ -39,7 +39,7 @@ pub run_goes : (old : MarkedTables) (t : Tables) (m : Marked) (c : ClientNo) (fl
     → GoesOn old (record { tables = t; changed = m })
 run_goes old t m c flag work marks due =
     let one : Work = work due.args in
-    taken_goes old t m c (goes flag one) marks (λ statements link. goes_spares flag one statements link) due.taken
+    taken_goes false old t m c (goes flag one) marks (λ statements link. goes_spares flag one statements link) due.taken
 
 -- A text is to be prepared.
 

@@ -15,7 +15,7 @@ impl MarkedTables {
     /// A client's message is behind, and goes to no server. Rules are tried first by this flag from now on.
     pub fn pass(&mut self, client: ClientNo, flag: u16) -> Result<(), OutOfMemory>
         requires { IsUpOr ((tables_of self.old.tables).clients client) }
-        ensures is { OnOk result (IsTaken (passes flag) client
+        ensures is { OnOk result (IsTaken true (passes flag) client
             (tables_of self.old.tables) (tables_of self.new.tables)) }
         ensures goes { OnOk result (GoesOn self.old self.new) }
     {
@@ -26,7 +26,7 @@ impl MarkedTables {
     /// The router answers it itself, in these packets, whose sequence ids go on from the message's.
     pub fn answer(&mut self, client: ClientNo, flag: u16, packets: &[u8]) -> Result<(), OutOfMemory>
         requires { IsUpOr ((tables_of self.old.tables).clients client) }
-        ensures is { OnOk result (IsTaken (answers flag packets.now) client
+        ensures is { OnOk result (IsTaken true (answers flag packets.now) client
             (tables_of self.old.tables) (tables_of self.new.tables)) }
         ensures goes { OnOk result (GoesOn self.old self.new) }
     {

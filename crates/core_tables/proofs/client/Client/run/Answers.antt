@@ -15,4 +15,4 @@ returns-in_ok-due-in-Some-Run-clause-runs c = λ is.
     (subst (λ (r : Option Request). IfSome (found_of c.args.self.now)
     (λ (message : Framed). IsAsked (asked_in c.args.self.now.desk.seat.statements message.payload None) r))
     c.in-Some-Run.is c.in_ok-args.ensures.asked)
-    c.in_ok-args.ensures.is _ (first_of (cc, grind (arith, common_steps)))
+    c.in_ok-args.ensures.is c.in_ok-args.ensures.noted _ (first_of (cc, grind (arith, common_steps)))

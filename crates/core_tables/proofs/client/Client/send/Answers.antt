@@ -17,4 +17,4 @@ returns-in_ok-due-in-Some-Text-clause-sent c = λ is.
     (subst (λ (r : Option Request). IfSome (found_of c.args.self.now)
     (λ (message : Framed). IsAsked (asked_in c.args.self.now.desk.seat.statements message.payload (option_copied c.args.text)) r))
     c.in-Some-Text.is c.in_ok-packets.ensures.asked)
-    c.in_ok-packets.ensures.is (λ bytes. refl) _ (first_of (cc, grind (arith, common_steps)))
+    c.in_ok-packets.ensures.is c.in_ok-packets.ensures.noted (λ bytes. refl) _ (first_of (cc, grind (arith, common_steps)))

@@ -1,10 +1,10 @@
+use Rattle.std.specs.Prelude.{true}
 use Rattle.std.specs.Option.{is_some}
 use Rattle.std.proofs.Common.{ap, refl, subst, sym}
-use Rattle.std.proofs.lemmas.Result.{on_ok_weaker}
 use Rattle.core_tables.specs.Tables.{tables_of}
 use Rattle.core_tables.specs.Taking.{IsUpOr, passes}
 use Rattle.core_tables.specs.declared.client.Client.{Client}
-use Rattle.core_tables.proofs.Passing.{taken_so}
+use Rattle.core_tables.proofs.Passing.{on_both, taken_so}
 use Rattle.core_tables.proofs.tables.Tables.pass.Goals as goal
 
 pub returns-in-Some : goal.returns-in-Some
@@ -12,9 +12,9 @@ returns-in-Some c =
     let new : Client = c.pass.new.self in
     let found = sym c.in-Some.ensures.value in
     let updates = (c.get_mut.follows.holds new).3 (ap is_some found) in
-    on_ok_weaker c.pass.result
-    (λ is. taken_so c.args.self.now (record c.args.self.now { clients = c.get_mut.follows.lender new }) c.args.client (passes c.args.flag)
-    c.in-Some.row.now new new.desk.seat.statements found is (λ k. updates.0 k) (λ k. refl) (λ k. refl)) c.pass.ensures
+    on_both c.pass.result
+    (λ is noted. taken_so true c.args.self.now (record c.args.self.now { clients = c.get_mut.follows.lender new }) c.args.client (passes c.args.flag)
+    c.in-Some.row.now new new.desk.seat.statements found is noted (λ k. updates.0 k) (λ k. refl) (λ k. refl)) c.pass.ensures.is c.pass.ensures.noted
 
 pub returns-in-None : goal.returns-in-None
 unfolding tables_of
