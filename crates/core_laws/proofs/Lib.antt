@@ -6,3 +6,4 @@ pub mod OfWriting
 pub mod OfEntry
 pub mod OfClients
 pub mod OfLinks
+pub mod OfPrepared

@@ -1,6 +1,5 @@
 pub mod Going
 pub mod Saying
-pub mod Plain
 pub mod Remaining
 pub mod Silence
 pub mod Speaking
@@ -23,4 +22,3 @@ pub mod Spoken
 pub mod Onward
 pub mod Linked
 pub mod Safely
-pub mod Texts

@@ -20,3 +20,4 @@ pub mod Whole
 pub mod Ended
 pub mod Entering
 pub mod Reading
+pub mod Preparing

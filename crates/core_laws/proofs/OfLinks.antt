@@ -1,5 +1,6 @@
 pub mod Uncalled
 pub mod Desks
+pub mod Begins
 pub mod Opens
 pub mod Writes
 pub mod Composed

@@ -6,12 +6,15 @@ pub mod Standing
 pub mod Reading
 pub mod Same
 pub mod Homes
+pub mod Ahead
+pub mod Named
 pub mod Carrying
 pub mod Moving
 pub mod Giving
 pub mod Counting
 pub mod Forgetting
 pub mod Redesking
+pub mod Awaiting
 pub mod Testing
 pub mod Freeing
 pub mod Losing

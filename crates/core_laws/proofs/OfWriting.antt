@@ -13,6 +13,7 @@ pub mod Sending
 pub mod Nexts
 pub mod Handing
 pub mod Texts
+pub mod Preps
 pub mod Backs
 pub mod Marks
 pub mod Openings

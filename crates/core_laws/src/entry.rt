@@ -23,5 +23,5 @@ pub use kinds::{
     links_are_given_back, marks_rest, other_links_rest, quiet_entries_rest, writes_to_clients_rest,
 };
 pub use loops::messages_are_taken;
-pub use safe::{core_is_private, safe_goes_on, safe_is_private, texts_are_no_runs};
-pub use says::{all_say_so, closes_come_first, links_say, no_run_stands};
+pub use safe::{core_is_private, safe_goes_on, safe_is_private};
+pub use says::{all_say_so, closes_come_first, links_say};

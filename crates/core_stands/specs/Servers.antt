@@ -10,7 +10,8 @@ use Rattle.private_model.specs.Names.{LinkId, SessionName}
 use Rattle.private_model.specs.Story as story
 use Rattle.private_model.specs.Story.{Due, message_of}
 use Rattle.private_model.specs.View as view
-use Rattle.private_model.specs.View.{Link}
+use Rattle.private_model.specs.View.{Link, View}
+use Rattle.tale_world.specs.Tests.{is_told_key}
 use Rattle.log_story.specs.Plan as plan
 use Rattle.log_story.specs.Plan.{step_payload, text_payload}
 use Rattle.log_story.specs.Servers.{reply_id}
@@ -80,13 +81,23 @@ pub record IsNextStatement (g : Ground) (t : Tabled) (row : Row) (link : Link) (
   pub plain : is_preparing asking.form ≡ false
   pub taken_up : IsTakenUp g n ordinal
 
+-- The text of what is due is prepared first: the link was told its place, and stays so until that begins.
+
+abbrev pub keyed_text : Ground → Due → List ℕ
+keyed_text g due = (g.setup.keys due.key).text
+
+pub record IsNextPrep (g : Ground) (row : Row) (link : Link) (asking : Asking) (n : SessionName) (ordinal : ℕ) : Type 0 where
+  pub said : (due : Due) → (view_on g).dues n ≡ Some due → due.ordinal ≡ ordinal → IsReadied g.setup.reads g.codes row link asking (story.Prep n due.key (keyed_text g due))
+  pub told : (due : Due) → (view_on g).dues n ≡ Some due → due.ordinal ≡ ordinal → is_told_key g.setup due.key (keyed_text g due) link.told ≡ true
+  pub taken_up : IsTakenUp g n ordinal
+
 pub record IsNextStep (g : Ground) (row : Row) (link : Link) (asking : Asking) (question : Command → story.Question) : Type 0 where
   pub command : Command
   pub said : IsReadied g.setup.reads g.codes row link asking (question command)
 
 abbrev pub IsNextFor : Purpose → Ground → Tabled → Row → Link → Asking → Type 0
 IsNextFor (purposes.Statement n ordinal key) g t row link asking = IsNextStatement g t row link asking n ordinal
-IsNextFor (purposes.Prep n ordinal key) g t row link asking = ⊥
+IsNextFor (purposes.Prep n ordinal key) g t row link asking = IsNextPrep g row link asking n ordinal
 IsNextFor (purposes.Sync n) g t row link asking = IsNextStep g row link asking (story.Sync n)
 IsNextFor purposes.Own g t row link asking = IsNextStep g row link asking story.Own
 IsNextFor (purposes.End n) g t row link asking = IsReadied g.setup.reads g.codes row link asking (story.End n)
@@ -95,8 +106,10 @@ IsNextFor (purposes.Capture n) g t row link asking = IsReadied g.setup.reads g.c
 abbrev pub IsNextOf : Option Begins → Ground → Tabled → Row → Link → Type 0
 IsNextOf None g t row link = Unit {0}
 IsNextOf (Some (begins.Asks asking)) g t row link = IsTagged row.link.writing (tag_for asking.purpose) × IsNextFor asking.purpose g t row link asking
-IsNextOf (Some (begins.Closes number)) g t row link = ⊥
-IsNextOf (Some (begins.Resets number)) g t row link = ⊥
+IsNextOf (Some (begins.Closes number)) g t row link =
+    IsTagged row.link.writing tags.Own × IsNext row.link.writing (spelt (step_payload (plan.Closes number)))
+IsNextOf (Some (begins.Resets number)) g t row link =
+    IsTagged row.link.writing tags.Own × IsNext row.link.writing (spelt (step_payload (plan.Resets number)))
 IsNextOf (Some begins.Quits) g t row link = IsTagged row.link.writing tags.Own × IsNext row.link.writing (spelt (text_payload commands.Quit))
 
 -- A statement that stands there is its client's work, where that didn't leave the session and the link is sound; and what came of the reply
@@ -134,10 +147,14 @@ IsPartedAt Quiet g = Unit {0}
 IsPartedAt (Asked asking) g = IsPartedFor asking.purpose g
 IsPartedAt (Answered asking) g = IsPartedFor asking.purpose g
 
--- a link is lent until the statement runs that was sent there first
-abbrev pub is_lent : Carried → Bool
-is_lent (Lent n) = true
-is_lent _ = false
+-- A link is lent until the statement runs that was sent there first. Before that is sent, and behind the preparation of its text, it is due.
+
+abbrev pub OfLent : Carried → (SessionName → Type 0) → Type 0
+OfLent (Lent n) P = P n
+OfLent _ P = Unit {0}
+
+abbrev pub IsAhead : View → SessionName → Type 0
+IsAhead view n = is_some (view.dues n) ≡ true
 
 abbrev pub is_statement : Purpose → Bool
 is_statement (purposes.Statement n ordinal key) = true
@@ -164,7 +181,7 @@ pub record IsServer (g : Ground) (t : Tabled) (l : LinkId) (server : Row) : Type
   pub found_rows : server.identity.found_rows ≡ (g.plan.logins l).found_rows
   pub standing : IsStandingAt (link_in g.setup g.tale l).stage g l
   pub next : IsNextOf server.link.next g t server (link_in g.setup g.tale l)
-  pub lent : is_lent server.link.state.carries ≡ true → is_stating server.link.state.stage ≡ true
+  pub lent : server.lost ≡ false → server.left ≡ None → is_stating server.link.state.stage ≡ false → OfLent server.link.state.carries (IsAhead (view_on g))
   pub parted : server.link.spoilt ≡ false → server.lost ≡ false → is_some server.left ≡ true → IsPartedAt server.link.state.stage g
   pub replying : server.link.spoilt ≡ false → server.lost ≡ false → server.left ≡ None → IsReplyingAt server.link.state.stage g t l server
 

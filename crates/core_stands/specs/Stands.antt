@@ -1,13 +1,25 @@
 -- How the core's tables stand for a tale.
-use Rattle.std.specs.Prelude.{◌≡◌, ℕ, Bool, true, false, All, is_some, List, Option, Some, None}
+use Rattle.std.specs.Prelude.{◌≡◌, ◌<◌, ◌-◌, ℕ, Bool, true, false, All, is_some, take, List, Option, Some, None}
 use Rattle.mx_base.specs.declared.names.Hostgroup.{Hostgroup}
 use Rattle.client_session.specs.Setups.{Setup as Service}
+use Rattle.private_model.specs.Commands.{Command, Prepare, Run}
 use Rattle.private_model.specs.Lawful.{IsLawful}
 use Rattle.private_model.specs.Names.{ClientNo, LinkId, SessionName}
-use Rattle.private_model.specs.Story.{is_link_id}
+use Rattle.private_model.specs.Story.{Due, Key, Story, is_link_id, message_of}
+use Rattle.private_model.specs.View.{Setup}
+use Rattle.server_rule.specs.Classes.{core}
+use Rattle.session_vars.specs.declared.change.SlotValue.{SlotValue}
+use Rattle.log_story.specs.Executes.{prepared_by}
+use Rattle.log_story.specs.Owed.{messages}
+use Rattle.log_story.specs.Plan.{Plan, Route}
 use Rattle.log_story.specs.Tale as tales
 use Rattle.log_story.specs.Tale.{is_to_server}
 use Rattle.row_laws.specs.Whose.{name_in}
+use Rattle.run_laws.specs.Becoming.{AllBecame}
+use Rattle.run_laws.specs.Reads.{HasArgs}
+use Rattle.client_seat.specs.Numbers.{Numbered, number_in}
+use Rattle.client_seat.specs.Seats.{is_ended}
+use Rattle.client_seat.specs.Stands.{IsNumbered}
 use Rattle.client_desk.specs.Desks.{session_of}
 use Rattle.client_desk.specs.declared.desk.Desk.{Desk}
 use Rattle.step_laws.specs.Seats.{AreCounted, IsSeated, numbers}
@@ -17,7 +29,7 @@ use Rattle.core_tables.specs.Tables.{Tabled}
 use Rattle.core_tables.specs.declared.client.Client.{Client}
 use Rattle.core_tables.specs.declared.server.Server.{Server}
 use Rattle.core_stands.specs.Clients.{IsClientOr}
-use Rattle.core_stands.specs.Grounds.{AreOver, Ground}
+use Rattle.core_stands.specs.Grounds.{AreOver, Ground, known_on, view_on}
 use Rattle.core_stands.specs.Servers.{IsServerOr}
 
 -- Clients, and their links, which are no links to servers and no two clients'.
@@ -55,6 +67,44 @@ pub record AreHomes (g : Ground) (t : Tabled) : Type 0 where
       → (row : Client) × (t.clients n.client ≡ Some row) × ((session_of row.desk n.hostgroup).home ≡ Some l)
       × ((session_of row.desk n.hostgroup).life ≡ n.life)
 
+-- What a client that goes on has prepared stands so by its numbers, and none was given that is greater than the last: of its messages but for the
+-- last, and of that once it is answered.
+
+pub record IsPrepared (g : Ground) (client : tales.Client) (row : Client) : Type 0 where
+  pub each : (number : ℕ) (one : Numbered) → number_in row.desk.seat.statements number ≡ Some one
+      → IsNumbered (known_on g) client (λ (key : ℕ). key) number one
+  pub unused : (number : ℕ) → row.desk.seat.statements.last < number
+      → prepared_by (view_on g) g.plan client number 1 (take (client.taken - 1) (messages g.plan client)) ≡ None
+  pub kept : row.desk.seat.answered ≡ true → (number : ℕ) → row.desk.seat.statements.last < number
+      → prepared_by (view_on g) g.plan client number 1 (take client.taken (messages g.plan client)) ≡ None
+
+abbrev pub ArePrepared : Ground → Tabled → Type 0
+ArePrepared g t =
+    (client : tales.Client) → IsSeated g.tale client → (row : Client) → t.clients client.number ≡ Some row
+    → is_ended row.desk.seat.phase ≡ false → IsPrepared g client row
+
+-- What became due goes by the route of its message, and only what is prepared gets a number of its client's: a text, by the route's key and where
+-- its client stands; or an execute of what is prepared by its key, with whole arguments.
+
+abbrev pub IsTextAt : Key → (text schema : List ℕ) → (settings : List SlotValue) → Type 0
+IsTextAt key text schema settings =
+    (text ≡ key.text) × ((schema ≡ key.place.schema) × (core settings ≡ core key.place.settings))
+
+abbrev pub IsKeyedFor : Setup → Route → Due → Command → Type 0
+IsKeyedFor setup route due (Prepare text) = (route.key ≡ due.key) × (setup.keys due.key ≡ record { text = text; place = due.place })
+IsKeyedFor setup route due (Run text schema settings args) = (route.number ≡ 0) × IsTextAt (setup.keys due.key) text schema settings
+IsKeyedFor setup route due _ = route.number ≡ 0
+
+pub record IsDuly (setup : Setup) (plan : Plan) (n : SessionName) (due : Due) : Type 0 where
+  pub route : Route
+  pub routed : plan.routes (message_of n due) ≡ Some route
+  pub keyed : IsKeyedFor setup route due due.command
+  pub whole : HasArgs due.command
+
+-- each, as it became due
+abbrev pub AreDuly : Setup → Plan → Story → Type 0
+AreDuly setup plan story = AllBecame setup (IsDuly setup plan) story
+
 -- By what the router serves: how clients log in, and how many bytes for a client wait while its messages do.
 pub record Stands (service : Service) (g : Ground) (t : Tabled) : Type 0 where
   pub service_is : g.plan.service ≡ service
@@ -63,6 +113,8 @@ pub record Stands (service : Service) (g : Ground) (t : Tabled) : Type 0 where
   pub servers : (l : LinkId) → IsServerOr g t l (t.links l)
   pub homes : AreHomes g t
   pub lawful : IsLawful g.setup g.tale.story
+  pub prepared : ArePrepared g t
+  pub duly : AreDuly g.setup g.plan g.tale.story
 
 -- Between two entries no link is to be given back, and of no client a message is up but of those who have room again.
 

@@ -30,6 +30,9 @@ use Rattle.core_stands.specs.Stands.{AreClients, AreHomes, IsAt, IsHome, IsKnown
 use Rattle.core_laws.specs.parting.Frames.{IsGlanced, IsStated, Keeps, KeepsNext, KeepsNextFor, KeepsOr, client_at, glance}
 use Rattle.core_laws.proofs.OfArrival.Finding.{client-true, none-some, numbers-by, of-some, only-passes, same-some, seated-by}
 use Rattle.core_laws.proofs.OfArrival.Grounding.{Aside, GoOn, regrounded, servers-so}
+use Rattle.core_laws.proofs.OfPrepared.Mapping.{HasMore, told_prepared}
+use Rattle.core_laws.proofs.OfPrepared.Rows.{KeepsPrepared, RowOf, row_itself, row_kept, rows_same}
+use Rattle.client_seat.specs.Seats.{is_ended}
 
 -- Rows that are put.
 
@@ -107,6 +110,7 @@ pub record IsTold (g : Ground) (by : Aside) (t now : Tabled) (f : tales.Client �
   pub number : (x : tales.Client) → (f x).number ≡ x.number
   pub link : (x : tales.Client) → (f x).link ≡ x.link
   pub taken : (x : tales.Client) → (f x).taken ≡ x.taken
+  pub more : (x : tales.Client) → HasMore g.plan x (f x)
   pub ends : (n : ClientNo) → g.over n ≡ true → by.over n ≡ true
   pub kept : (n : ClientNo) → is_some (now.clients n) ≡ is_some (t.clients n)
   pub numbers : (l : LinkId) → now.numbers l ≡ t.numbers l
@@ -179,6 +183,9 @@ stands-told g by t f told service was each = record {
   servers = λ l. servers-so by g t (go-on g by t t f told) told.ends l (t.links l) (was.servers l);
   homes = record { carried = was.homes.carried; home = was.homes.home };
   lawful = was.lawful;
+  prepared = told_prepared g (regrounded by g).tale by.over by.fresh t t f told.clients told.number told.taken told.more was.clients was.prepared
+      (rows_same t t (λ c. refl));
+  duly = was.duly;
 }
 
 -- The seat of one is another.
@@ -191,12 +198,14 @@ pub record IsChange (g : Ground) (by : Aside) (t now : Tabled) (c : ClientNo) (f
   pub number : (x : tales.Client) → (f x).number ≡ x.number
   pub link : (x : tales.Client) → (f x).link ≡ x.link
   pub taken : (x : tales.Client) → (f x).taken ≡ x.taken
+  pub more : (x : tales.Client) → HasMore g.plan x (f x)
   pub ends : (n : ClientNo) → g.over n ≡ true → by.over n ≡ true
   pub there : t.clients c ≡ Some row
   pub changed : now.clients c ≡ Some (reseat seat row)
   pub others : (other : ClientNo) → is_client c other ≡ false → now.clients other ≡ t.clients other
   pub numbers : (l : LinkId) → now.numbers l ≡ t.numbers l
   pub links : (l : LinkId) → now.links l ≡ t.links l
+  pub keeps : is_ended seat.phase ≡ false → KeepsPrepared row.desk.seat seat
 
 -- a row with the sessions of another
 pub record IsWith (t : Tabled) (c : ClientNo) (row other : Client) : Type 0 where
@@ -220,6 +229,7 @@ module _ (g : Ground) (by : Aside) (t now : Tabled) (c : ClientNo) (f : tales.Cl
     number = change.number;
     link = change.link;
     taken = change.taken;
+    more = change.more;
     ends = change.ends;
     kept = λ n. kept-by n (is_client c n) refl;
     numbers = change.numbers;
@@ -275,6 +285,14 @@ module _ (g : Ground) (by : Aside) (t now : Tabled) (c : ClientNo) (f : tales.Cl
       }))
   read-by same n false is = inl (ap (option_map glance) (change.others n is))
 
+  row-before : (n : ClientNo) (r : Client) → now.clients n ≡ Some r → is_ended r.desk.seat.phase ≡ false → (b : Bool) → is_client c n ≡ b → RowOf t n r
+  row-before n r there going true is =
+      let same = client-true c n is in
+      let r_is : reseat seat row ≡ r = same-some (now.clients n) (reseat seat row) r (ap now.clients (sym same) ∙ change.changed) there in
+      row_kept t n row r (ap t.clients (sym same) ∙ change.there)
+      (subst (λ (x : Client). KeepsPrepared row.desk.seat x.desk.seat) r_is (change.keeps (ap (λ (x : Client). is_ended x.desk.seat.phase) r_is ∙ going)))
+  row-before n r there going false is = row_itself t n r (sym (change.others n is) ∙ there) going
+
   pub stands-by : InWork → RowsStay → (service : Service) → Stands service g t → (glance (reseat seat row) ≡ glance row) ⊎ (row.desk.work ≡ None)
       → All IsStood g.tale.clients → Stands service after now
   stands-by in_work stay service was same each = record {
@@ -286,6 +304,9 @@ module _ (g : Ground) (by : Aside) (t now : Tabled) (c : ClientNo) (f : tales.Cl
         (servers-read in_work g t now (λ n. read-by same n (is_client c n) refl) stay l (t.links l) (was.servers l)));
     homes = are-homes was.homes;
     lawful = was.lawful;
+    prepared = told_prepared g after.tale by.over by.fresh t now f change.clients change.number change.taken change.more was.clients was.prepared
+        (λ n r there going. row-before n r there going (is_client c n) refl);
+    duly = was.duly;
   }
 
   -- the client itself, and the others

@@ -1,7 +1,7 @@
 -- A client comes.
-use Rattle.std.specs.Prelude.{◌≡◌, ◌⊎◌, ◌<◌, ◌+◌, ℕ, suc, Bool, true, false, All, cond, is_some, length, map, slice_index_or, if◌then◌else◌, List, [], ◌∷◌, ◌++◌, Option, Some, None}
+use Rattle.std.specs.Prelude.{◌≡◌, ◌⊎◌, ◌<◌, ◌+◌, ℕ, suc, Bool, true, false, All, cond, is_some, length, map, slice_index_or, if◌then◌else◌, List, [], ◌∷◌, ◌++◌, Option, Some, None, filter}
 use Rattle.std.specs.Option.{option_map}
-use Rattle.std.proofs.Common.{◌∙◌, refl, sym, ap, subst, arith, inl, inr, length-append}
+use Rattle.std.proofs.Common.{◌∙◌, refl, sym, ap, subst, arith, inl, inr, length-append, append-nil}
 use Rattle.std.proofs.Math.Seq.{get_or-append_seam}
 use Rattle.std.proofs.lemmas.Bool.{ne_eqb}
 use Rattle.std.proofs.lemmas.List.Elements.{All-cons, All-nil, All-push, All-weaker, filter-append}
@@ -17,7 +17,7 @@ use Rattle.private_model.specs.View.{Setup}
 use Rattle.log_story.specs.Plan.{Plan}
 use Rattle.log_story.specs.Tale as tales
 use Rattle.log_story.specs.Tale.{Tale}
-use Rattle.step_laws.specs.Seats.{AreCounted, IsSeated, numbers}
+use Rattle.step_laws.specs.Seats.{AreCounted, IsSeated, numbers, seats as seats_of}
 use Rattle.step_laws.specs.Steps.{told_then}
 use Rattle.client_session.specs.Setups.{Setup as Service}
 use Rattle.client_seat.specs.declared.seat.Seat.{Seat}
@@ -30,7 +30,7 @@ use Rattle.core_tables.specs.declared.server.Server.{Server}
 use Rattle.core_stands.specs.Clients.{IsClient, IsClientOr}
 use Rattle.core_stands.specs.Grounds.{Ground}
 use Rattle.core_stands.specs.Servers.{IsServerOr}
-use Rattle.core_stands.specs.Stands.{AreClients, AreHomes, IsAt, IsHome, IsKnown, Stands}
+use Rattle.core_stands.specs.Stands.{AreClients, AreHomes, IsAt, IsHome, IsKnown, Stands, ArePrepared, IsPrepared}
 use Rattle.core_laws.specs.parting.Frames.{IsGlanced, glance}
 use Rattle.core_laws.specs.parting.Partings.{IsCounted}
 use Rattle.core_laws.specs.arrival.Comes.{IsComing, newest}
@@ -39,6 +39,9 @@ use Rattle.core_laws.proofs.OfArrival.Finding.{client-same, client-true, false-t
 use Rattle.core_laws.proofs.OfArrival.Forgetting.{home-links}
 use Rattle.core_laws.proofs.OfArrival.Grounding.{Aside, GoOn, regrounded, servers-so}
 use Rattle.core_laws.proofs.OfArrival.Liking.{IsAsBefore, client-before}
+use Rattle.client_seat.specs.Numbers.{number_in}
+use Rattle.client_seat.specs.Seats.{is_ended}
+use Rattle.core_laws.proofs.OfPrepared.Rows.{prepared_by_row, row_itself}
 
 -- Numbers go up to how many there are.
 
@@ -232,8 +235,38 @@ module _ (counts : CountsOn) (seats : AreSeated) (in_work : InWork) (stay : Rows
         (old.0, still-there n.client old.0 (is_client c n.client) refl old.1, old.2, old.3);
   }
 
-  pub comes-so : IsClient after new row → Stands service after now
-  comes-so own = record {
+  -- what is prepared: nothing of it
+
+  its-prepared : ((number : ℕ) → number_in seat.statements number ≡ None) → IsPrepared after new row
+  its-prepared none = record {
+    each = λ number one at. none-some (number_in seat.statements number) one (none number) at;
+    unused = λ number greater. refl;
+    kept = λ answered number greater. refl;
+  }
+
+  sat-before : (x : tales.Client) → is_client c x.number ≡ false → IsSeated after.tale x → IsSeated g.tale x
+  sat-before x apart seated =
+      sym (append-nil (filter (λ (y : tales.Client). is_client y.number x.number) g.tale.clients))
+      ∙ (λ i. filter (λ (y : tales.Client). is_client y.number x.number) g.tale.clients ++ cond (sym apart i) (new ∷ []) [])
+      ∙ sym (filter-append (λ (y : tales.Client). is_client y.number x.number) g.tale.clients (new ∷ [])) ∙ seated
+
+  prepared-so : (is_ended seat.phase ≡ false → (number : ℕ) → number_in seat.statements number ≡ None) → ArePrepared after now
+  prepared-so none x seated r there going = by (is_client c x.number) refl where
+    by : (b : Bool) → is_client c x.number ≡ b → IsPrepared after x r
+    by false apart =
+        prepared_by_row g after.tale over g.fresh t now was.clients (λ m. refl) was.prepared x (sat-before x apart seated) r
+        (row_itself t x.number r (sym (row-stays x.number apart) ∙ there) going)
+    by true it =
+        let both : new ∷ [] ≡ x ∷ [] =
+        sym (known-new c (same_number c.0)).seated ∙ ap (seats_of after.tale) (client-true c x.number it) ∙ seated in
+        let one : new ≡ x = cc in
+        let made : row ≡ r = same-some (now.clients x.number) row r (row-new x.number it) there in
+        subst (λ (y : tales.Client). IsPrepared after y r) one
+        (subst (IsPrepared after new) made (its-prepared (none (ap (λ (z : Client). is_ended z.desk.seat.phase) made ∙ going))))
+
+  pub comes-so : (is_ended seat.phase ≡ false → (number : ℕ) → number_in seat.statements number ≡ None) → IsClient after new row
+      → Stands service after now
+  comes-so none own = record {
     service_is = was.service_is;
     room_is = was.room_is;
     clients = clients-so own;
@@ -242,4 +275,6 @@ module _ (counts : CountsOn) (seats : AreSeated) (in_work : InWork) (stay : Rows
         (servers-read in_work g t now (λ n. read-so n (is_client c n) refl) stay l (t.links l) (was.servers l)));
     homes = homes-so;
     lawful = was.lawful;
+    prepared = prepared-so none;
+    duly = was.duly;
   }

@@ -164,6 +164,8 @@ module _ (in_work : InWork) (stay : RowsStay) (service : Service) (g : Ground) (
         (servers-read in_work g t now (λ n. read-so n (is_client c n) refl) stay l (t.links l) (was.servers l));
     homes = homes-so;
     lawful = was.lawful;
+    prepared = λ x seated r at going. was.prepared x seated r (was-there x.number r (is_client c x.number) refl at) going;
+    duly = was.duly;
   }
 
 abbrev Alike : Type 0

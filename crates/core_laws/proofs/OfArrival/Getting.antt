@@ -31,6 +31,7 @@ use Rattle.core_laws.proofs.OfArrival.Finding.{at-known, false-true, link-same, 
 use Rattle.core_laws.proofs.OfArrival.Grounding.{Aside, regrounded}
 use Rattle.core_laws.proofs.OfArrival.Liking.{IsLike, client-before, going-like, over-like, owing-like}
 use Rattle.core_laws.proofs.OfArrival.Speaking.{lost-so}
+use Rattle.core_laws.proofs.OfPrepared.Mapping.{gets_more}
 
 pub written-tale : (g : Ground) (link : LinkId) (tag : Tag) (bytes : List ℕ) → is_to_server g.tale link ≡ false
     → told g.setup g.plan g.tale (Wrote link tag bytes) ≡ record g.tale { clients = map (client_gets link (length bytes)) g.tale.clients }
@@ -161,12 +162,14 @@ module _ (in_work : InWork) (stay : RowsStay) (service : Service) (g : Ground) (
     number = gets-number link (length bytes);
     link = gets-link link (length bytes);
     taken = gets-taken link (length bytes);
+    more = gets_more g.plan link (length bytes);
     ends = λ n is. is;
     there = there;
     changed = changed-so (wrote (length bytes)) c t now row there same;
     others = λ other apart. same.clients other ∙ put-other c other _ t apart;
     numbers = same.numbers;
     links = same.links;
+    keeps = λ on. record { going = on; statements = refl; answered = refl };
   }
 
   other-so : (c : ClientNo) (client x : tales.Client) → IsKnown g c client → client.link ≡ link → IsAt g t x → is_client c x.number ≡ false
@@ -205,4 +208,4 @@ pub ungot-so : (service : Service) (g : Ground) (t : Tabled) (link : LinkId) (ta
 ungot-so service g t link tag bytes was aside none =
     subst (λ (tale : Tale). Stands service (on g tale) t) (sym (written-tale g link tag bytes aside))
     (lost-so service g t link (client_gets link (length bytes)) (gets-number link (length bytes)) (gets-link link (length bytes))
-    (gets-taken link (length bytes)) (gets-not link (length bytes)) was none)
+    (gets-taken link (length bytes)) (gets_more g.plan link (length bytes)) (gets-not link (length bytes)) was none)

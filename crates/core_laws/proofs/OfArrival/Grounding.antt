@@ -75,7 +75,7 @@ module _ (by : Aside) (g : Ground) (t : Tabled) (on : GoOn g.tale (regrounded by
 
   next-for : (purpose : Purpose) (row : Row) (link : Link) (asking : Asking) → IsNextFor purpose g t row link asking → IsNextFor purpose after t row link asking
   next-for (purposes.Statement n ordinal key) row link asking is = next-statement n ordinal row link asking is
-  next-for (purposes.Prep n ordinal key) row link asking is = is
+  next-for (purposes.Prep n ordinal key) row link asking is = record { said = is.said; told = is.told; taken_up = taken-so n ordinal is.taken_up }
   next-for (purposes.Sync n) row link asking is = record { command = is.command; said = is.said }
   next-for purposes.Own row link asking is = record { command = is.command; said = is.said }
   next-for (purposes.End n) row link asking is = is

@@ -25,6 +25,10 @@ use Rattle.core_laws.proofs.OfArrival.Finding.{at-known, client-same, false-true
 use Rattle.core_laws.proofs.OfArrival.Grounding.{Aside, regrounded}
 use Rattle.core_laws.proofs.OfArrival.Liking.{client-before, going-like}
 use Rattle.core_laws.proofs.OfArrival.Messaging.{Nexts, Outcome, Stood, looking, says-so, unfresh}
+use Rattle.core_laws.proofs.OfPrepared.Mapping.{has_same}
+use Rattle.core_laws.proofs.OfPrepared.Rows.{KeepsPrepared}
+use Rattle.core_laws.proofs.OfPrepared.Turning.{turn_keeps}
+use Rattle.std.proofs.lemmas.Option.{same_Some}
 
 module _ (in_work : InWork) (stay : RowsStay) (goes : Goes) (waits : Waits_so) (lets : Enters) (nexts : Nexts) (g : Ground) (t now : Tabled)
     (default : List ℕ) (client : tales.Client) (row : Client) (was : Stands g.plan.service g t) (look : IsLook g t default client row)
@@ -54,18 +58,33 @@ module _ (in_work : InWork) (stay : RowsStay) (goes : Goes) (waits : Waits_so) (
   unfreshed : (unfresh g c) c ≡ false
   unfreshed = ap (λ (b : Bool). not b && g.fresh c) (client-same c c refl)
 
+  -- whatever it says, what it prepared stays
+  keeps-so : (new : Seat) → now.clients c ≡ Some (reseat new row) → KeepsPrepared seat new
+  keeps-so new there =
+      let turned_row : reseat new row ≡ reseat (turn g.plan.service default seat) row =
+      same_Some _ _ (sym there ∙ changed-so (turn g.plan.service default) c t now row look.there same) in
+      let is : turn g.plan.service default seat ≡ new = sym (ap (λ (r : Client). r.desk.seat) turned_row) in
+      let kept = turn_keeps g.plan.service default seat in
+      record {
+        going = look.going;
+        statements = ap (λ (s : Seat). s.statements) (sym is) ∙ kept.0;
+        answered = ap (λ (s : Seat). s.answered) (sym is) ∙ kept.1;
+      }
+
   change : (new : Seat) → now.clients c ≡ Some (reseat new row) → IsChange g by t now c (λ (x : tales.Client). x) row new
   change new there = record {
     clients = sym (map-itself g.tale.clients);
     number = λ x. refl;
     link = λ x. refl;
     taken = λ x. refl;
+    more = λ x. has_same g.plan x;
     ends = λ n is. is;
     there = look.there;
     changed = there;
     others = λ other apart. same.clients other ∙ put-other c other _ t apart;
     numbers = same.numbers;
     links = same.links;
+    keeps = λ on. keeps-so new there;
   }
 
   other-so : (x : tales.Client) → IsAt g t x → is_client c x.number ≡ false → IsClientOr after x (t.clients x.number)

@@ -2,7 +2,7 @@
 use Rattle.std.specs.Prelude.{◌≡◌, ◌≤◌, ℕ, zero, suc, Bool, true, false, ◌||◌, nat_le, if◌then◌else◌, List, [], ◌∷◌, ◌++◌, Some, None}
 use Rattle.std.specs.Option.{option_and_then, option_map}
 use Rattle.std.proofs.Common.{◌∙◌, refl, sym, ap, subst, arith, append-nil}
-use Rattle.std.proofs.lemmas.Bool.{le-leb}
+use Rattle.std.proofs.lemmas.Bool.{le-leb, true≢false}
 use Rattle.mx_base.specs.declared.names.LinkId.{LinkId}
 use Rattle.mx_base.specs.declared.names.Port.{Port}
 use Rattle.mx_base.specs.declared.names.Port.TheVariants.{Traffic, Admin}
@@ -33,6 +33,7 @@ use Rattle.core_laws.proofs.OfArrival.Changing.{InWork, RowsStay}
 use Rattle.core_laws.proofs.OfArrival.Coming.{AreSeated, CountsOn, comes-so}
 use Rattle.core_laws.proofs.OfArrival.Finding.{none-some}
 use Rattle.core_laws.proofs.OfArrival.Grounding.{Aside, regrounded}
+use Rattle.client_seat.specs.Numbers.{number_in}
 
 -- nothing was read yet
 nothing-read : (limit : ℕ) → opening limit [] ≡ Waits false
@@ -121,9 +122,10 @@ module _ (g : Ground) (by : Aside) (link : LinkId) (salt : List ℕ) (statements
 
 pub come-so : CountsOn → AreSeated → InWork → RowsStay → (service : Service) (g : Ground) (t now : Tabled) (port : Port) (link : LinkId) (salt : List ℕ)
     (statements : ClientStatements) (note : ClientNote) → Stands service g t → IsComing g link salt
+    → ((number : ℕ) → number_in statements number ≡ None)
     → IsSame now (came (newest g link salt).number link (new_seat link (newest g link salt).number salt service statements) note t)
     → Stands service (accepted port link salt g) now
-come-so counts seats in_work stay service g t now port link salt statements note was comes same =
+come-so counts seats in_work stay service g t now port link salt statements note was comes none same =
     let by : Aside = record {
       moment = suc g.tale.moment;
       clients = g.tale.clients ++ newest g link salt ∷ [];
@@ -132,7 +134,7 @@ come-so counts seats in_work stay service g t now port link salt statements note
     } in
     let own = served-so g by link salt statements note comes.unseen comes.unseen.going in
     comes-so counts seats in_work stay service g t now port link salt (new_seat link (newest g link salt).number salt service statements) note g.over was comes same
-    (λ x apart. refl) (λ n is. is)
+    (λ x apart. refl) (λ n is. is) (λ on. none)
     (subst (λ (s : Service). IsClient (regrounded by g) (newest g link salt) (newcomer (new_seat link (newest g link salt).number salt s statements) note)) was.service_is own)
 
 or-true : (a b : Bool) → b ≡ true → a || b ≡ true
@@ -161,5 +163,6 @@ away-comes-so counts seats in_work stay service g t now port link salt statement
     } in
     comes-so counts seats in_work stay service g t now port link salt (turned_away link c salt port statements) note ended was comes same
     (λ x apart. ap (λ (b : Bool). b || g.over x.number) apart) (λ n is. or-true (is_client c n) (g.over n) is)
+    (λ on. absurd (true≢false on))
     (away-so g by link salt statements note comes.unseen port (ap (λ (b : Bool). b || g.over c) (same_number c.0))
     (word-now g c (away_word port (suc g.tale.moment)) word refl))

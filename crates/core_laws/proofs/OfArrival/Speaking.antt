@@ -36,6 +36,7 @@ use Rattle.core_laws.proofs.OfArrival.Changing.{InWork, IsChange, RowsStay, chan
 use Rattle.core_laws.proofs.OfArrival.Finding.{at-known, client-same, false-true, isnt-true, link-same, link-true, none-some, one-link}
 use Rattle.core_laws.proofs.OfArrival.Grounding.{Aside, regrounded}
 use Rattle.core_laws.proofs.OfArrival.Liking.{IsLike, client-before, going-like, so-far-like}
+use Rattle.core_laws.proofs.OfPrepared.Mapping.{HasMore, hears_more}
 
 -- What the entry makes of the tale.
 
@@ -201,12 +202,14 @@ module _ (in_work : InWork) (stay : RowsStay) (hears : Hears) (service : Service
     number = hears-number link bytes;
     link = hears-link link bytes;
     taken = hears-taken link bytes;
+    more = hears_more g.plan link bytes;
     ends = λ n is. is;
     there = there;
     changed = changed-so (got bytes) c t now row there same ∙ ap (λ (s : Seat). Some (reseat s row)) (got-so bytes row.desk.seat unended);
     others = λ other apart. same.clients other ∙ put-other c other _ t apart;
     numbers = same.numbers;
     links = same.links;
+    keeps = λ on. record { going = unended; statements = refl; answered = refl };
   }
 
   other-so : (c : ClientNo) (client x : tales.Client) → Stands service g t → IsKnown g c client → client.link ≡ link → IsAt g t x → is_client c x.number ≡ false
@@ -248,7 +251,7 @@ module _ (in_work : InWork) (stay : RowsStay) (hears : Hears) (service : Service
 
 module _ (service : Service) (g : Ground) (t : Tabled) (link : LinkId) (f : tales.Client → tales.Client)
     (number : (x : tales.Client) → (f x).number ≡ x.number) (linked : (x : tales.Client) → (f x).link ≡ x.link)
-    (took : (x : tales.Client) → (f x).taken ≡ x.taken)
+    (took : (x : tales.Client) → (f x).taken ≡ x.taken) (further : (x : tales.Client) → HasMore g.plan x (f x))
     (apart : (x : tales.Client) → is_link_id x.link link ≡ false → f x ≡ x) where
   abbrev lost_by : Aside
   lost_by = record { moment = g.tale.moment; clients = map f g.tale.clients; over = g.over; fresh = g.fresh }
@@ -271,11 +274,12 @@ module _ (service : Service) (g : Ground) (t : Tabled) (link : LinkId) (f : tale
 
   pub lost-so : Stands service g t → t.numbers link ≡ None → Stands service (regrounded lost_by g) t
   lost-so was none =
-      stands-told g lost_by t f (record { clients = refl; number = number; link = linked; taken = took; ends = λ n is. is; kept = λ n. refl; numbers = λ l. refl }) service was
+      stands-told g lost_by t f (record { clients = refl; number = number; link = linked; taken = took; more = further; ends = λ n is. is; kept = λ n. refl; numbers = λ l. refl }) service was
       (λ k d below. let x = slice_index_or g.tale.clients k d in lost-by x none (was.clients.each k d below) (is_link_id x.link link) refl)
 
 pub unheard-so : (service : Service) (g : Ground) (t : Tabled) (link : LinkId) (bytes : List ℕ) → Stands service g t → is_to_server g.tale link ≡ false
     → t.numbers link ≡ None → Stands service (on g (told g.setup g.plan g.tale (Got link bytes))) t
 unheard-so service g t link bytes was aside none =
     subst (λ (tale : Tale). Stands service (on g tale) t) (sym (heard-tale g link bytes aside))
-    (lost-so service g t link (client_hears link bytes) (hears-number link bytes) (hears-link link bytes) (hears-taken link bytes) (hears-not link bytes) was none)
+    (lost-so service g t link (client_hears link bytes) (hears-number link bytes) (hears-link link bytes) (hears-taken link bytes) (hears_more g.plan link bytes)
+    (hears-not link bytes) was none)

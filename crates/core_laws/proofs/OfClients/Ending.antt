@@ -31,6 +31,7 @@ use Rattle.core_laws.proofs.OfArrival.Messaging.{looking, unfresh}
 use Rattle.core_laws.proofs.OfEntry.Parting.{ends_grow, row_within}
 use Rattle.core_laws.specs.entry.Dues.{Continues}
 use Rattle.core_laws.proofs.OfClients.Facts.{its_row, unended}
+use Rattle.core_laws.proofs.OfPrepared.Mapping.{has_same}
 
 -- what it was owed is a front of what it is owed then
 module _ (service : Service) (g : Ground) (t : Tabled) (client : tales.Client) (row : Client) (stands : Stands service g t)
@@ -143,6 +144,7 @@ module _ (service : Service) (g : Ground) (t : Tabled) (c : ClientNo) (was : Sta
         number = λ x. refl;
         link = λ x. refl;
         taken = λ x. refl;
+        more = λ x. has_same g.plan x;
         ends = λ n is. is;
         kept = λ n. refl;
         numbers = λ l. refl;

@@ -41,5 +41,4 @@ module _ (service : Service) (default : List ℕ) (g : Ground) (mid : Tabled) (f
     let_in = record { account = is.let_in.account; place = is.let_in.place };
     going = is.going;
     unrouted = is.unrouted;
-    runless = λ none. none;
   }

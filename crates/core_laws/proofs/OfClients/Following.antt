@@ -39,7 +39,6 @@ use Rattle.core_laws.proofs.OfEntry.Looping.{taking_begins}
 use Rattle.core_laws.specs.entry.Calms.{EndNow}
 use Rattle.core_laws.specs.entry.Entries.{AreCalmToo, AreSpared, TellsOf, behind}
 use Rattle.core_laws.specs.entry.Freeing.{all_freed}
-use Rattle.core_laws.specs.entry.Safe.{has_runs}
 use Rattle.core_laws.proofs.OfClients.Ending.{ends_so, gone_looked, leaves_so}
 use Rattle.core_laws.proofs.OfClients.Facts.{has_lives}
 use Rattle.core_laws.proofs.OfClients.Homing as homing
@@ -91,19 +90,6 @@ one_over false false e is = refl
 leave_clients : (cs : List ClientNo) (tale : Tale) → (leave cs tale).clients ≡ tale.clients
 leave_clients [] tale = refl
 leave_clients (c ∷ cs) tale = leave_clients cs (tell (Left c) tale)
-
-leave_runs : (cs : List ClientNo) (tale : Tale) → has_runs (leave cs tale).story ≡ has_runs tale.story
-leave_runs [] tale = refl
-leave_runs (c ∷ cs) tale = leave_runs cs (tell (Left c) tale)
-
-free_runs : (b : Bool) (l : LinkId) (tale : Tale) → has_runs (if b then tell (Freed l) tale else tale).story ≡ has_runs tale.story
-free_runs true l tale = refl
-free_runs false l tale = refl
-
-pub freed_runs : (setup : Setup) (plan : Plan) (links : List LinkId) (tale : Tale) → has_runs (freed_in setup plan links tale).story ≡ has_runs tale.story
-freed_runs setup plan [] tale = refl
-freed_runs setup plan (l ∷ links) tale =
-    freed_runs setup plan links (freed_if_done setup plan tale l) ∙ free_runs (is_done_at setup plan tale l) l tale
 
 none_left_to : (a b : Bool) → b ≡ false → (not a && b) ≡ false
 none_left_to true b none = refl
@@ -162,7 +148,6 @@ module _ (laws : Laws) (service : Service) (default : List ℕ) (g : Ground) (t 
     let_in = record { account = is.let_in.account; place = is.let_in.place };
     going = is.going;
     unrouted = is.unrouted;
-    runless = λ none. none;
   }
 
   turned : StandsBehind halt service client freed taken at_first c so.turned
@@ -185,7 +170,6 @@ module _ (laws : Laws) (service : Service) (default : List ℕ) (g : Ground) (t 
     pub number : last.number ≡ c
     pub count : last.taken ≡ taken
     pub all : all_taken g.setup g.plan client freed ≡ tale
-    pub runless : has_runs freed.story ≡ false → has_runs tale.story ≡ false
     pub whole : Stands service (parted_on tale) so.parted
     pub calm : over c ≡ false → IsIdle g.setup g.plan (leave ends tale) last
 
@@ -231,7 +215,6 @@ module _ (laws : Laws) (service : Service) (default : List ℕ) (g : Ground) (t 
       number = s.taking.number;
       count = s.count;
       all = s.all;
-      runless = s.runless;
       whole =
           subst (λ (by : ClientNo → Bool). Stands service (record g { tale = leave ends s.tale; over = by }) so.parted) (sym (over_still none))
           (subst (λ (cs : List ClientNo). Stands service (on g (leave cs s.tale)) so.parted) (sym (none_ends (ends_by halt parting) none))
@@ -249,7 +232,6 @@ module _ (laws : Laws) (service : Service) (default : List ℕ) (g : Ground) (t 
       number = s.taking.number;
       count = s.count;
       all = s.all;
-      runless = s.runless;
       whole =
           subst (λ (by : ClientNo → Bool). Stands service (record g { tale = leave ends s.tale; over = by }) so.parted) (sym (over_then one))
           (subst (λ (cs : List ClientNo). Stands service (record g { tale = leave cs s.tale; over = λ (x : ClientNo). is_client c x || g.over x }) so.parted)
@@ -300,7 +282,6 @@ module _ (laws : Laws) (service : Service) (default : List ℕ) (g : Ground) (t 
         number = s.number;
         count = s.count;
         all = s.all;
-        runless = s.runless;
         whole =
             subst (λ (by : ClientNo → Bool). Stands service (record g { tale = leave ends s.tale; over = by }) so.parted) (sym (over_then one))
             (subst (λ (cs : List ClientNo). Stands service (record g { tale = leave cs s.tale; over = λ (x : ClientNo). is_client c x || g.over x }) so.parted)
@@ -371,8 +352,5 @@ module _ (laws : Laws) (service : Service) (default : List ℕ) (g : Ground) (t 
   pub followed : IsFollowed service g e client freed taken over room now
   followed = record {
     rests = laws.one service g t now roomy room e over client ends freed rests is.of_one theirs is.tells is.spared stands_behind overs rooms calm_behind;
-    runless = λ none.
-        ap (λ (x : Tale). has_runs x.story) step_is ∙ freed_runs g.setup g.plan links last
-        ∙ ap (λ (x : Tale). has_runs x.story) (sym last_is) ∙ leave_runs ends out.tale ∙ out.runless none;
     counts = λ x seated_there its. ap (λ (y : tales.Client). y.taken) (its_last x seated_there its) ∙ out.count;
   }

@@ -28,7 +28,6 @@ use Rattle.core_laws.proofs.OfEntry.Looping.{taking_begins}
 use Rattle.core_laws.proofs.OfEntry.Uneventful.{all_spared}
 use Rattle.core_laws.specs.entry.Entries.{AreCalmToo, AreSpared, TellsOf, behind}
 use Rattle.core_laws.specs.entry.Kinds.{IsStill}
-use Rattle.core_laws.specs.entry.Safe.{has_runs}
 use Rattle.core_laws.specs.clients.Chosen.{IsLookedFor, IsStanding, IsTurning, PlanHas, StandsBehind}
 use Rattle.core_laws.specs.clients.Speaks.{IsSpeech, SpeaksSo, goes_on, spoke_more, spoken}
 use Rattle.core_laws.specs.clients.Turns.{Choice, Ends, Halt, Quits, Rests as Resting, Waits}
@@ -93,7 +92,6 @@ module _ (service : Service) (default : List ℕ) (g : Ground) (t now : Tabled) 
     let_in = record { account = is.let_in.account; place = is.let_in.place };
     going = is.speaks.going;
     unrouted = is.unrouted;
-    runless = λ none. none;
   }
 
   pub chosen : PlanHas choices halt g.plan (counted heard).moment (name_of said (suc said.taken))

@@ -5,16 +5,18 @@ use Rattle.std.proofs.lemmas.Option.{none-some}
 use Rattle.packet_frame.specs.Packets.{Framed, spellings}
 use Rattle.client_session.specs.Setups.{Setup as Service}
 use Rattle.private_model.specs.Commands.{Account, Command}
-use Rattle.private_model.specs.Names.{ClientNo}
+use Rattle.private_model.specs.Names.{ClientNo, Hostgroup, MessageName}
 use Rattle.private_model.specs.Story.{Left, is_client}
+use Rattle.private_model.specs.View.{Setup, present}
 use Rattle.log_story.specs.Clients.{taken_by, taken_up, waits_for_capture}
 use Rattle.log_story.specs.Owed.{messages, name_of}
 use Rattle.log_story.specs.Plan.{Route, word_at}
 use Rattle.log_story.specs.Tale as tales
 use Rattle.log_story.specs.Tale.{Tale, tell, with_client}
 use Rattle.stmt_map.specs.declared.client.ClientStatements.{ClientStatements}
+use Rattle.client_desk.specs.Desks.{session_of}
 use Rattle.client_desk.specs.declared.work.Work.{Work}
-use Rattle.desk_laws.specs.Stands.{IsRequest, IsPlaced}
+use Rattle.desk_laws.specs.Stands.{IsDesk, IsRequest, IsPlaced, held_of, message_at}
 use Rattle.client_seat.specs.Requests.{Says, text_in}
 use Rattle.client_seat.specs.Seats.{is_ended}
 use Rattle.client_seat.specs.Stands.{IsHeardIn}
@@ -26,6 +28,7 @@ use Rattle.client_seat.specs.declared.seat.Seat.{Seat}
 use Rattle.step_laws.proofs.Taking.{idle_takes, next_takes, once_seats, past_idle, seated_next}
 use Rattle.step_laws.specs.Seats.{IsSeated}
 use Rattle.step_laws.specs.Taken.{IsIdle, all_taken, next_made, next_of}
+use Rattle.router_promises.specs.Takings.{Taking, taking_then, takings_of}
 use Rattle.core_tables.specs.Arrivals.{looked, seated, turn}
 use Rattle.core_tables.specs.Parting.{left_in}
 use Rattle.core_tables.specs.Tables.{IsSame, Tabled, client_changed}
@@ -43,13 +46,15 @@ use Rattle.core_laws.specs.taking.Takes.{IsSent, IsUpOf, is_reset, own_of, route
 use Rattle.core_laws.proofs.OfTaking.Standing.{took_answered, took_reset, took_sent}
 use Rattle.core_laws.proofs.OfEntry.Looping.{taking_ends, taking_goes_on, taking_looks}
 use Rattle.core_laws.specs.entry.Loops.{IsTaking}
-use Rattle.core_laws.specs.entry.Safe.{has_runs, is_run}
-use Rattle.core_laws.proofs.OfClients.Facts.{few_so, has_lives, its_row, unended, waits_so}
+use Rattle.core_laws.proofs.OfClients.Facts.{few_so, has_lives, held_is, its_row, unended, waits_so}
 use Rattle.core_laws.proofs.OfClients.Waiting.{looked_waiting}
 use Rattle.core_laws.specs.clients.Chosen.{IsChosen, IsGone, IsHaltIn, IsLookedFor, IsStanding, IsTurning, PlanHas, StandsBehind}
-use Rattle.core_laws.specs.clients.Found.{AreFoundAt, IsFoundAt, IsFoundIn, user_in}
+use Rattle.core_laws.specs.clients.Found.{AreFoundAt, IsAmong, IsFound, IsFoundIn, IsLastAmong, desk_up, user_in}
 use Rattle.core_laws.specs.clients.Turns.{AnswersBy, Answers, Choice, ComesUp, EndsThere, Ends, Goes, GoesBy, Halt, HaltsSo, IsLookedAt, IsTurn, MakesAnswer, count_by, is_quitting}
 use Rattle.core_laws.specs.clients.Turns.{MayLeave, Quits, QuitsThere, Rests, RestsThere, Turns, Waits, WaitsThere}
+use Rattle.private_model.specs.View.{due_of, present}
+use Rattle.client_seat.specs.Numbers.{AreNoted}
+use Rattle.core_laws.proofs.OfTaking.Joining.{keyed_so, whole_so}
 
 -- The laws by which it goes.
 
@@ -65,12 +70,14 @@ pub record Laws : Type 0 where
   pub owns : (service : Service) (g : Ground) (t other : Tabled) (client : tales.Client) (row : Client) → Stands service g t
       → (is : IsUpOf g t client row) (flag : ℕ) (payloads : List (List ℕ)) (packets : List ℕ) (statements : ClientStatements)
       → route_of g client ≡ None → own_of g client ≡ Some payloads → packets ≡ spellings row.desk.seat.first payloads
-      → is_reset is.up.message ≡ false → IsSame other (client_changed client.number (answers flag packets statements) t)
+      → is_reset is.up.message ≡ false → AreNoted true is.up.message.payload row.desk.seat.statements statements
+      → IsSame other (client_changed client.number (answers flag packets statements) t)
       → Stands service (on g (took g client is.up.message)) other
   pub resets : (service : Service) (g : Ground) (t other : Tabled) (client : tales.Client) (row : Client) → Stands service g t
       → (is : IsUpOf g t client row) (flag : ℕ) (payloads : List (List ℕ)) (packets : List ℕ) (statements : ClientStatements)
       → route_of g client ≡ None → own_of g client ≡ Some payloads → packets ≡ spellings row.desk.seat.first payloads
       → is_reset is.up.message ≡ true → HasLives (view_on g) client.number
+      → AreNoted true is.up.message.payload row.desk.seat.statements statements
       → IsSame other (begins_anew client.number flag packets statements t) → Stands service (on g (took g client is.up.message)) other
   pub quitting : (service : Service) (g : Ground) (t other : Tabled) (client : tales.Client) (row : Client) → Stands service g t
       → (is : IsUpOf g t client row) (flag : ℕ) (statements : ClientStatements) → route_of g client ≡ None → own_of g client ≡ None
@@ -79,7 +86,8 @@ pub record Laws : Type 0 where
       → Stands service (ending client.number (on g (tell (Left client.number) (took g client is.up.message)))) other
   pub dues : (service : Service) (g : Ground) (t other : Tabled) (client : tales.Client) (row : Client) → Stands service g t
       → (is : IsUpOf g t client row) (flag : ℕ) (route : Route) (command : Command) (work : Work) (statements : ClientStatements)
-      → IsSent g client is.up.message route command work → IsSame other (client_changed client.number (goes flag work statements) t)
+      → IsSent g client is.up.message route command work → AreNoted false is.up.message.payload row.desk.seat.statements statements
+      → IsSame other (client_changed client.number (goes flag work statements) t)
       → Stands service (on g (took g client is.up.message)) other
   pub leaves : (service : Service) (g : Ground) (t : Tabled) (client : tales.Client) (row : Client) (by : Seat → Seat) → Stands service g t
       → IsSeated g.tale client → t.clients client.number ≡ Some row
@@ -88,8 +96,6 @@ pub record Laws : Type 0 where
       → IsEnding (on g (tell (Left client.number) g.tale)) client (by row.desk.seat)
       → Stands service (ending client.number (on g (tell (Left client.number) g.tale))) (left_in client.number by t)
   pub same : (service : Service) (g : Ground) (t other : Tabled) → Stands service g t → IsSame other t → Stands service g other
-  pub texts : (payload : List ℕ) (text : Option (List ℕ)) (command : Command) → text_in payload text ≡ Some (Says command)
-      → is_run command ≡ false
 
 -- How many were taken up.
 
@@ -159,7 +165,6 @@ module _ (laws : Laws) (service : Service) (default : List ℕ) (first client : 
           taking = taking_looks service first client from g t is.taking now stands;
           idle = idle;
           all = taking_ends service first client from g t is.taking idle;
-          runless = is.runless;
           unlooked = unlooked;
         };
         looked = its_looked;
@@ -177,7 +182,6 @@ module _ (laws : Laws) (service : Service) (default : List ℕ) (first client : 
           taking = taking_looks service first client from g t is.taking now rested.stands;
           idle = rested.idle;
           all = taking_ends service first client from g t is.taking rested.idle;
-          runless = is.runless;
           unlooked = unlooked;
         };
         looked = its_looked;
@@ -214,7 +218,6 @@ module _ (laws : Laws) (service : Service) (default : List ℕ) (first client : 
         seated = is.taking.seated;
         number = is.taking.number;
         all = taking_ends service first client from g t is.taking parts.rested;
-        runless = is.runless;
         unlooked = λ other e. e;
       }
 
@@ -251,10 +254,20 @@ module _ (laws : Laws) (service : Service) (default : List ℕ) (first client : 
     is_found : up.message ≡ came.up.message
     is_found = let both : Some up.message ≡ Some came.up.message = sym up.found ∙ came.up.found in cc
 
-    up_found : IsFoundIn service default up.row up.message (g.setup.accounts c).user (slice_get (messages g.plan client) client.taken)
+    stood : IsDesk g.setup.reads (view_on g) c (desk_up service default up.row)
+    unfolding came is_up
+    stood = (its_row service seen between client there came.stands is.taking.seated is_up.there).desk
+
+    stood_held : (h : Hostgroup) → (view_on g).held (present (view_on g) c h) ≡ held_of (session_of (desk_up service default up.row) h)
+    unfolding came is_up
+    stood_held = held_is service seen between client there came.stands is.taking.seated is_up.there
+
+    up_found : IsFoundIn c (desk_up service default up.row) up.message (g.setup.accounts c).user (view_on g) (slice_get (messages g.plan client) client.taken)
     up_found = record {
       message_is = came.up.next.next ∙ ap (λ (m : Framed). Some m) (sym is_found);
       login = ap user_in came.up.serves ∙ ap (λ (account : Account). account.user) (sym (is.let_in.account came.up.account came.up.served.known));
+      place = subst (λ (at : Phase). IsPlaced at (view_on g) c (desk_up service default up.row).seat.place) came.up.serves stood.place;
+      held = stood_held;
     }
 
     looking : IsTaking service first from seen between client
@@ -268,9 +281,26 @@ module _ (laws : Laws) (service : Service) (default : List ℕ) (first client : 
     abbrev taken_then : Tale
     taken_then = took seen client came.up.message
 
-    turned_so : (now : Tabled) → Stands service (on seen taken_then) now → (has_runs from.story ≡ false → has_runs taken_then.story ≡ false)
-        → taken_then.moment ≡ g.tale.moment → IsOn service default first from g client now taken_then
-    turned_so now stands runless moment = record {
+    -- that is its taking
+
+    abbrev taking : Taking
+    taking = record { client = client; message = came.up.message; tale = g.tale }
+
+    takes : (most : ℕ) → takings_of (suc most) g.setup g.plan client g.tale ≡ taking ∷ takings_of most g.setup g.plan (next_of client) taken_then
+    takes most = λ i.
+        taking_then client g.tale (came.up.next.next i) (next_is i)
+        (λ other. takings_of most g.setup g.plan (next_of client) (with_client (next_of client) other))
+
+    takes_first : (most : ℕ) → IsAmong (takings_of (suc most) g.setup g.plan client g.tale) (name_of client (suc client.taken)) taking
+    takes_first most = record { place = 0; there = ap (λ (all : List Taking). slice_get all 0) (takes most); named = refl }
+
+    takes_none : {A : Type 0} → length (messages g.plan client) ≤ client.taken → A
+    takes_none past =
+        absurd (none-some (taken_by g.setup g.plan client (suc client.taken) came.up.message (route_of g client) g.tale)
+        (sym (past_idle g.setup g.plan client g.tale past) ∙ next_is))
+
+    turned_so : (now : Tabled) → Stands service (on seen taken_then) now → taken_then.moment ≡ g.tale.moment → IsOn service default first from g client now taken_then
+    turned_so now stands moment = record {
       turning = record {
         taking = taking_goes_on service first client from seen between looking now
             (taken_by g.setup g.plan client (suc client.taken) came.up.message (route_of g client) g.tale) next_is stands;
@@ -278,7 +308,6 @@ module _ (laws : Laws) (service : Service) (default : List ℕ) (first client : 
         let_in = record { account = is.let_in.account; place = is.let_in.place };
         going = is.going;
         unrouted = is.unrouted;
-        runless = runless;
       };
       moment = moment;
     }
@@ -288,28 +317,26 @@ module _ (laws : Laws) (service : Service) (default : List ℕ) (first client : 
 
     answered_by : (b : Bool) → is_reset came.up.message ≡ b → (payloads : List (List ℕ)) (flag : ℕ) (packets : List ℕ) (statements : ClientStatements)
         → packets ≡ spellings (turn service default up.row.desk.seat).first payloads → (now : Tabled)
-        → MakesAnswer b c flag packets statements up.row between now
+        → AreNoted true came.up.message.payload there.desk.seat.statements statements → MakesAnswer b c flag packets statements up.row between now
         → route_of g client ≡ None → own_of g client ≡ Some payloads → IsOn service default first from g client now taken_then
     unfolding came is_up
-    answered_by false e payloads flag packets statements spelt now makes unrouted own =
+    answered_by false e payloads flag packets statements spelt now noted makes unrouted own =
         let tale_is : taken_then ≡ with_client (next_of client) g.tale = took_answered seen client came.up.message unrouted e in
-        turned_so now (laws.owns service seen between now client there came.stands is_up flag payloads packets statements unrouted own spelt e makes)
-        (λ none. ap (λ (x : Tale). has_runs x.story) tale_is ∙ is.runless none) (ap (λ (x : Tale). x.moment) tale_is)
-    answered_by true e payloads flag packets statements spelt now makes unrouted own =
+        turned_so now (laws.owns service seen between now client there came.stands is_up flag payloads packets statements unrouted own spelt e noted makes)
+        (ap (λ (x : Tale). x.moment) tale_is)
+    answered_by true e payloads flag packets statements spelt now noted makes unrouted own =
         let tale_is : taken_then ≡ with_client (next_of client) (tell (Left c) g.tale) = took_reset seen client came.up.message unrouted e in
         turned_so now
-        (laws.resets service seen between now client there came.stands is_up flag payloads packets statements unrouted own spelt e (lives_here makes.0) makes.1)
-        (λ none. ap (λ (x : Tale). has_runs x.story) tale_is ∙ is.runless none) (ap (λ (x : Tale). x.moment) tale_is)
+        (laws.resets service seen between now client there came.stands is_up flag payloads packets statements unrouted own spelt e (lives_here makes.0) noted makes.1)
+        (ap (λ (x : Tale). x.moment) tale_is)
 
     goes_by : (route : Route) (command : Command) (flag : ℕ) (work : Work) (statements : ClientStatements) (now : Tabled)
-        → IsSent seen client came.up.message route command work
+        → IsSent seen client came.up.message route command work → AreNoted false came.up.message.payload there.desk.seat.statements statements
         → IsSame now (client_changed c (goes flag work statements) between) → IsOn service default first from g client now taken_then
     unfolding came is_up
-    goes_by route command flag work statements now sends same =
+    goes_by route command flag work statements now sends noted same =
         let tale_is = took_sent seen client came.up.message route command work sends in
-        turned_so now (laws.dues service seen between now client there came.stands is_up flag route command work statements sends same)
-        (λ none. ap (λ (x : Tale). has_runs x.story) tale_is
-        ∙ ap (λ (b : Bool). b || has_runs g.tale.story) (laws.texts came.up.message.payload route.text command sends.asked) ∙ is.runless none)
+        turned_so now (laws.dues service seen between now client there came.stands is_up flag route command work statements sends noted same)
         (ap (λ (x : Tale). x.moment) tale_is)
 
     -- it quits
@@ -366,7 +393,6 @@ module _ (laws : Laws) (service : Service) (default : List ℕ) (first client : 
       seated = quit_seated;
       number = is.taking.number;
       all = quit_all is.taking.most is.taking.enough is.taking.to_come (quit_idle last.unrouted last.unanswered e);
-      runless = λ none. ap (λ (x : Tale). has_runs x.story) (took_answered seen client came.up.message last.unrouted e) ∙ is.runless none;
       unlooked = unlooked;
     }
 
@@ -379,6 +405,8 @@ module _ (laws : Laws) (service : Service) (default : List ℕ) (first client : 
       let message : Framed = (came turn.between turn.up).up.message in (
         taken_then turn.between turn.up,
         answered_by turn.between turn.up (is_reset message) refl payloads turn.flag turn.packets turn.statements turn.spelt now
+            (subst (λ (m : Framed). AreNoted true m.payload (there turn.between turn.up).desk.seat.statements turn.statements)
+            (is_found turn.between turn.up) turn.noted)
             (subst (λ (m : Framed). MakesAnswer (is_reset m) c turn.flag turn.packets turn.statements turn.up.row turn.between now)
             (is_found turn.between turn.up) turn.makes)
             chosen.unrouted chosen.answered,
@@ -398,9 +426,15 @@ module _ (laws : Laws) (service : Service) (default : List ℕ) (first client : 
             (came turn.between turn.up).up.counts (turn.request g.setup.reads is.classes);
         kind = turn.kind;
         hostgroup = turn.hostgroup;
+        keyed = keyed_so g.setup route
+            (due_of (view_on seen) (present (view_on seen) client.number turn.work.hostgroup) (suc client.taken) route.key turn.command route.multiplex)
+            turn.command ((turn.request g.setup.reads is.classes).kind ∙ turn.kind) turn.unnumbered;
+        whole = whole_so turn.command ((turn.request g.setup.reads is.classes).kind ∙ turn.kind);
       } in (
         taken_then turn.between turn.up,
-        goes_by turn.between turn.up route turn.command turn.flag turn.work turn.statements now sends turn.same,
+        goes_by turn.between turn.up route turn.command turn.flag turn.work turn.statements now sends
+            (subst (λ (m : Framed). AreNoted false m.payload (there turn.between turn.up).desk.seat.statements turn.statements)
+            (is_found turn.between turn.up) turn.noted) turn.same,
       )
 
   pub one_turn : (choice : Choice) (now : Tabled) → IsTurn choice service default c t now
@@ -409,10 +443,33 @@ module _ (laws : Laws) (service : Service) (default : List ℕ) (first client : 
   one_turn (Goes route) now turn chosen = goes_turn route now turn chosen
   one_turn (Answers payloads) now turn chosen = answers_turn payloads now turn chosen
 
-  pub turn_found : (choice : Choice) (now : Tabled) → (turn : IsTurn choice service default c t now)
-      → IsFoundAt choice service default c t now turn (g.setup.accounts c).user (slice_get (messages g.plan client) client.taken)
-  turn_found (Goes route) now turn = up_found turn.between turn.up
-  turn_found (Answers payloads) now turn = up_found turn.between turn.up
+  pub turn_found : (choice : Choice) (now : Tabled) → (turn : IsTurn choice service default c t now) → (most : ℕ)
+      → IsFound choice service default c t now turn g.setup (takings_of (suc most) g.setup g.plan client g.tale)
+      (slice_get (messages g.plan client) client.taken) client.taken
+  turn_found (Goes route) now turn most =
+      record { taking = taking turn.between turn.up; among = takes_first turn.between turn.up most; at = up_found turn.between turn.up }
+  turn_found (Answers payloads) now turn most =
+      record { taking = taking turn.between turn.up; among = takes_first turn.between turn.up most; at = up_found turn.between turn.up }
+
+  pub turn_takes : (choice : Choice) (now : Tabled) → (turn : IsTurn choice service default c t now)
+      → (chosen : IsChosen choice g.plan g.tale.moment (name_of client (suc client.taken))) → (most : ℕ)
+      → (first_one : Taking) × (takings_of (suc most) g.setup g.plan client g.tale
+      ≡ first_one ∷ takings_of most g.setup g.plan (next_of client) (one_turn choice now turn chosen).0)
+  unfolding one_turn goes_turn answers_turn
+  turn_takes (Goes route) now turn chosen most = (taking turn.between turn.up, takes turn.between turn.up most)
+  turn_takes (Answers payloads) now turn chosen most = (taking turn.between turn.up, takes turn.between turn.up most)
+
+  pub turn_none : {A : Type 0} (choice : Choice) (now : Tabled) → IsTurn choice service default c t now → length (messages g.plan client) ≤ client.taken → A
+  turn_none (Goes route) now turn past = takes_none turn.between turn.up past
+  turn_none (Answers payloads) now turn past = takes_none turn.between turn.up past
+
+  pub last_found : (halt : Halt) (now : Tabled) → HaltsSo halt service default c t now → (most : ℕ) → length (messages g.plan client) ≤ most + client.taken
+      → IsLastAmong halt (takings_of most g.setup g.plan client g.tale) (name_of client (suc client.taken))
+  last_found Waits now there most enough = tt
+  last_found Rests now there most enough = tt
+  last_found Ends now there most enough = tt
+  last_found Quits now there zero enough = takes_none there.between there.up (omega (arith, enough))
+  last_found Quits now there (suc most) enough = (taking there.between there.up, takes_first there.between there.up most)
 
   quits_turn : (now : Tabled) → QuitsThere service default c t now
       → IsHaltIn Quits g.plan g.tale.moment (name_of client (suc client.taken)) → IsGone service first from (suc client.taken) g c now
@@ -447,7 +504,6 @@ module _ (laws : Laws) (service : Service) (default : List ℕ) (first client : 
       taking = s.taking;
       idle = s.idle;
       all = s.all;
-      runless = s.runless;
       unlooked = λ other e. s.unlooked other (unlooked other e);
     }
 
@@ -461,7 +517,6 @@ module _ (laws : Laws) (service : Service) (default : List ℕ) (first client : 
       seated = s.seated;
       number = s.number;
       all = s.all;
-      runless = s.runless;
       unlooked = λ other e. s.unlooked other (unlooked other e);
     }
 
@@ -490,25 +545,55 @@ turns_so laws service default first client from g t now (choice ∷ others) halt
 
 -- The messages that it took up are those that came up.
 
+among_later : (first : Taking) (takings : List Taking) (name : MessageName) (taking : Taking) → IsAmong takings name taking → IsAmong (first ∷ takings) name taking
+among_later first takings name up among = record { place = suc among.place; there = among.there; named = among.named }
+
+last_later : (halt : Halt) (first : Taking) (takings : List Taking) (name : MessageName) → IsLastAmong halt takings name
+    → IsLastAmong halt (first ∷ takings) name
+last_later Waits first takings name last = tt
+last_later Rests first takings name last = tt
+last_later Ends first takings name last = tt
+last_later Quits first takings name last = (last.0, among_later first takings name last.0 last.1)
+
+found_later : (one : Taking) (takings : List Taking) (choices : List Choice) (halt : Halt) (service : Service) (default : List ℕ) (c : ClientNo) (old new : Tabled)
+    (turns : Turns choices halt service default c old new) (setup : Setup) (messages : List Framed) (k : ℕ)
+    → AreFoundAt choices halt service default c old new turns setup takings messages k
+    → AreFoundAt choices halt service default c old new turns setup (one ∷ takings) messages k
+found_later one takings [] halt service default c old new turns setup messages k found = last_later halt one takings (message_at c (suc k)) found
+found_later one takings (choice ∷ others) halt service default c old new turns setup messages k found = (
+  record { taking = found.0.taking; among = among_later one takings (message_at c (suc k)) found.0.taking found.0.among; at = found.0.at },
+  found_later one takings others halt service default c turns.0 new turns.2 setup messages (suc k) found.1,
+)
+
 turns_found_in : (laws : Laws) (service : Service) (default : List ℕ) (first client : tales.Client) (from : Tale) (g : Ground) (t now : Tabled)
     (choices : List Choice) (halt : Halt) → IsTurning service default first from g t client
     → PlanHas choices halt g.plan g.tale.moment (name_of client (suc client.taken))
-    → (turns : Turns choices halt service default client.number t now)
-    → AreFoundAt choices halt service default client.number t now turns (g.setup.accounts client.number).user (messages g.plan client) client.taken
-turns_found_in laws service default first client from g t now [] halt is has turns = tt
-turns_found_in laws service default first client from g t now (choice ∷ others) halt is has turns =
-    let made = one_turn laws service default first client from g t is choice turns.0 turns.1 has.0 in (
-      turn_found laws service default first client from g t is choice turns.0 turns.1,
-      turns_found_in laws service default first (next_of client) from (on (looked_at client.number g) made.0) turns.0 now others halt made.1.turning
+    → (turns : Turns choices halt service default client.number t now) → (most : ℕ) → length (messages g.plan client) ≤ most + client.taken
+    → AreFoundAt choices halt service default client.number t now turns g.setup (takings_of most g.setup g.plan client g.tale) (messages g.plan client)
+    client.taken
+turns_found_in laws service default first client from g t now [] halt is has turns most enough =
+    last_found laws service default first client from g t is halt now turns most enough
+turns_found_in laws service default first client from g t now (choice ∷ others) halt is has turns zero enough =
+    turn_none laws service default first client from g t is choice turns.0 turns.1 (omega (arith, enough))
+turns_found_in laws service default first client from g t now (choice ∷ others) halt is has turns (suc most) enough =
+    let made = one_turn laws service default first client from g t is choice turns.0 turns.1 has.0 in
+    let takes = turn_takes laws service default first client from g t is choice turns.0 turns.1 has.0 most in (
+      turn_found laws service default first client from g t is choice turns.0 turns.1 most,
+      subst (λ (takings : List Taking). AreFoundAt others halt service default client.number turns.0 now turns.2 g.setup takings (messages g.plan client) (suc client.taken))
+          (sym takes.1)
+          (found_later takes.0 (takings_of most g.setup g.plan (next_of client) made.0) others halt service default client.number turns.0 now turns.2 g.setup
+          (messages g.plan client) (suc client.taken)
+          (turns_found_in laws service default first (next_of client) from (on (looked_at client.number g) made.0) turns.0 now others halt made.1.turning
           (subst (λ (moment : ℕ). PlanHas others halt g.plan moment (name_of (next_of client) (suc (suc client.taken)))) (sym made.1.moment) has.1)
-          turns.2,
+          turns.2 most (omega (arith, enough)))),
     )
 
 pub turns_found : (laws : Laws) (service : Service) (default : List ℕ) (first client : tales.Client) (from : Tale) (g : Ground) (t now : Tabled)
     (choices : List Choice) (halt : Halt) (c : ClientNo) → client.number ≡ c → IsTurning service default first from g t client
     → PlanHas choices halt g.plan g.tale.moment (name_of client (suc client.taken)) → (turns : Turns choices halt service default c t now)
-    → AreFoundAt choices halt service default c t now turns (g.setup.accounts c).user (messages g.plan client) client.taken
-turns_found laws service default first client from g t now choices halt c same is has turns =
+    → (most : ℕ) → length (messages g.plan client) ≤ most + client.taken
+    → AreFoundAt choices halt service default c t now turns g.setup (takings_of most g.setup g.plan client g.tale) (messages g.plan client) client.taken
+turns_found laws service default first client from g t now choices halt c same is has turns most enough =
     subst (λ (n : ClientNo). (by : Turns choices halt service default n t now)
-    → AreFoundAt choices halt service default n t now by (g.setup.accounts n).user (messages g.plan client) client.taken) same
-    (λ by. turns_found_in laws service default first client from g t now choices halt is has by) turns
+    → AreFoundAt choices halt service default n t now by g.setup (takings_of most g.setup g.plan client g.tale) (messages g.plan client) client.taken) same
+    (λ by. turns_found_in laws service default first client from g t now choices halt is has by most enough) turns

@@ -30,6 +30,7 @@ use Rattle.core_laws.proofs.OfArrival.Liking.{client-before, going-like}
 use Rattle.core_laws.proofs.OfArrival.Messaging.{looking, unfresh}
 use Rattle.core_laws.proofs.OfClients.Facts.{its_going, its_row, unended}
 use Rattle.core_laws.specs.clients.Turns.{waits_at}
+use Rattle.core_laws.proofs.OfPrepared.Mapping.{has_same}
 
 module _ (service : Service) (g : Ground) (t : Tabled) (c : ClientNo) (row : Client) (account : Account) (was : Stands service g t)
     (there : t.clients c ≡ Some row) (serves : row.desk.seat.phase ≡ phase.Serving account) where
@@ -78,6 +79,7 @@ module _ (service : Service) (g : Ground) (t : Tabled) (c : ClientNo) (row : Cli
         number = λ x. refl;
         link = λ x. refl;
         taken = λ x. refl;
+        more = λ x. has_same g.plan x;
         ends = λ n is. is;
         kept = λ n. refl;
         numbers = λ l. refl;

@@ -12,7 +12,8 @@ use Rattle.log_story.specs.Said.{ClosesFirst, SaysFrom, SaysSo}
 use Rattle.log_story.specs.Tale.{Tale, first_tale}
 use Rattle.log_story.specs.Telling.{story_of, tale_step}
 use Rattle.tale_world.specs.Tested.{IsTestedFrom, Passes, has_broken}
-use Rattle.core_laws.specs.entry.Safe.{IsSafe, has_runs}
+use Rattle.core_laws.specs.entry.Safe.{IsSafe}
+use Rattle.run_laws.specs.Tells.{TellsBytes}
 
 module _ (setup : Setup) (plan : Plan) where
   abbrev pub after : Tale → Log → Tale
@@ -33,13 +34,13 @@ module _ (setup : Setup) (plan : Plan) where
   tale_more log e = fold-append (tale_step setup plan) first_tale log (e ∷ [])
 
   pub safe_more : (log : Log) (e : Entry) → IsSafe setup plan log → Passes setup plan (tale_of setup plan log) e
-      → has_broken (story_of setup plan (log ++ e ∷ [])) ≡ false → has_runs (story_of setup plan (log ++ e ∷ [])) ≡ false
+      → has_broken (story_of setup plan (log ++ e ∷ [])) ≡ false → TellsBytes (tale_of setup plan (log ++ e ∷ []))
       → ClosesFirst setup (tale_of setup plan log) e → SaysSo setup plan (tale_of setup plan (log ++ e ∷ []))
       → WritesDue setup plan (log ++ e ∷ []) → IsSafe setup plan (log ++ e ∷ [])
-  safe_more log e safe passes unbroken runless closes so due = record {
+  safe_more log e safe passes unbroken tells closes so due = record {
     tested = tested_more first_tale log e safe.tested passes;
     unbroken = unbroken;
-    runless = runless;
+    told = tells;
     said = says_more first_tale log e safe.said closes (subst (SaysSo setup plan) (tale_more log e) so);
     written = moment-more (WritesDue setup plan) log e safe.written due;
   }

@@ -52,17 +52,18 @@ module _ (service : Service) (default : List ℕ) (log : Log) (e : Entry) (t now
   one_more = let size : length (with_entry log e) ≡ length log + length (e ∷ []) = length-append log (e ∷ []) in omega (arith, size)
 
   module _ (setup : Setup) (codes : Codes) (plan : Plan) (of : IsOf new (length (with_entry log e)) plan)
-      (fits : Fits setup codes plan default (tale_of setup plan (with_entry log e))) where
+      (fits : Fits new.keys setup codes plan default (tale_of setup plan (with_entry log e))) where
     on : GoesOn service setup codes plan log e core.decided new t now roomy room
     on = goes setup codes plan of fits
 
     of_then : IsOf core.decided (length log) plan
     of_then = of_before core.decided new (length log) plan more (subst (λ (n : ℕ). IsOf new n plan) one_more of)
 
-    fits_then : Fits setup codes plan default (tale_of setup plan log)
+    fits_then : Fits core.decided.keys setup codes plan default (tale_of setup plan log)
     fits_then = record {
       classes = fits.classes;
-      apart = fits.apart;
+      named = fits.named;
+      keyed = λ k key was. fits.keyed k key (more.keys k key was);
       who = all_before setup plan default (tale_of setup plan log) (tale_of setup plan (with_entry log e)) on.heard fits.who;
       single = fits.single;
     }

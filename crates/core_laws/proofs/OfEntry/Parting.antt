@@ -4,13 +4,10 @@ use Rattle.std.proofs.Common.{refl, sym, ap, ◌∙◌, subst, append-nil, arith
 use Rattle.std.proofs.lemmas.Bool.{false≢true, true≢false}
 use Rattle.std.proofs.lemmas.List.{length-take}
 use Rattle.mx_wire.specs.declared.entry.Entry.{Entry}
-use Rattle.packet_frame.specs.Packets.{Framed, Split, next_id, split}
+use Rattle.packet_frame.specs.Packets.{Framed, next_id}
 use Rattle.client_seat.proofs.Owing.{due_from, step, told_by}
 use Rattle.client_seat.specs.Seats.{is_ended}
-use Rattle.client_seat.specs.Stands.{IsHeardIn, Known, answer_by, answer_to, due_so_far}
-use Rattle.client_seat.specs.declared.phase.Phase.{Phase}
-use Rattle.client_seat.specs.declared.phase.Phase.TheVariants as phase
-use Rattle.client_seat.specs.declared.seat.Seat.{Seat}
+use Rattle.client_seat.specs.Stands.{Known, answer_by, answer_to, due_so_far}
 use Rattle.client_session.specs.Answers.{Talk, front, front_in, greeted, opening_of}
 use Rattle.client_side.specs.Login.{Fails, Opening, Says, Waits, switched_of}
 use Rattle.private_model.specs.Commands.{Reply}
@@ -23,6 +20,7 @@ use Rattle.core_stands.specs.Clients.{IsClient, IsOver, IsPhase}
 use Rattle.core_stands.specs.Grounds.{Ground, known_on, view_on}
 use Rattle.core_laws.proofs.OfEntry.Replies.{answers_on}
 use Rattle.core_laws.proofs.OfEntry.Growing.{answers_front, due_grows, due_grows_until, front_behind, front_itself, front_longer, greeted_more, no_messages, none_taken, same_talk}
+use Rattle.core_laws.proofs.OfPrepared.Keeping.{heard_within}
 use Rattle.core_laws.specs.entry.Dues.{Continues, EndsSaying, IsGrown, IsLeft, IsSaidLast, IsToldAll, StaysOver, due_by, due_on, waits_still, written_by}
 
 -- As it ends.
@@ -189,17 +187,6 @@ module _ (old new : Ground) (e : Entry) (client : Client) (is : IsLeft old new e
   }
 
 -- What of that the row of a client says.
-
-heard_within : (at : Phase) (plan : Plan) (client : Client) (seat : Seat) → is_ended at ≡ false → IsHeardIn at plan client seat
-    → client.taken ≤ length (messages plan client)
-heard_within phase.Ended plan client seat going is = absurd (true≢false going)
-heard_within phase.LoggingIn plan client seat going is = omega (arith, is.untaken)
-heard_within (phase.Serving login) plan client seat going is =
-    let all : messages plan client ≡ is.gone ++ (split plan.service.limit 0 seat.client.framer.kept).messages =
-    ap (λ (s : Split). s.messages) is.rest in
-    let size : length (messages plan client) ≡ length is.gone + length (split plan.service.limit 0 seat.client.framer.kept).messages =
-    ap length all ∙ length-append is.gone (split plan.service.limit 0 seat.client.framer.kept).messages in
-    omega (arith, size, is.size)
 
 going_phase : (g : Ground) (client : Client) (row : code.Client) (ended : Bool) → IsPhase ended g client row → g.over client.number ≡ false → ended ≡ false
 going_phase g client row false is going = refl

@@ -23,22 +23,22 @@ use Rattle.core_laws.specs.entry.Dues.{AnswersStay}
 
 -- the message whose statement stands there
 
-abbrev asked_by : Question → Option MessageName
+abbrev pub asked_by : Question → Option MessageName
 asked_by (Statement n due) = Some (message_of n due)
 asked_by _ = None
 
-abbrev message_on : Stage → Option MessageName
+abbrev pub message_on : Stage → Option MessageName
 message_on Quiet = None
 message_on (Asked question) = asked_by question
 message_on (Answered question) = asked_by question
 
-record IsCarried (carriers : MessageName → Option LinkId) (replies : MessageName → Option Reply) (l : LinkId) (m : MessageName) : Type 0 where
-  carrier : carriers m ≡ Some l
-  unanswered : replies m ≡ None
+pub record IsCarried (carriers : MessageName → Option LinkId) (replies : MessageName → Option Reply) (l : LinkId) (m : MessageName) : Type 0 where
+  pub carrier : carriers m ≡ Some l
+  pub unanswered : replies m ≡ None
 
-record AreOnce (view : View) : Type 0 where
-  standing : (l : LinkId) (m : MessageName) → message_on (view.links l).stage ≡ Some m → IsCarried view.carriers view.replies l m
-  unsent : (m : MessageName) → view.carriers m ≡ None → view.replies m ≡ None
+pub record AreOnce (view : View) : Type 0 where
+  pub standing : (l : LinkId) (m : MessageName) → message_on (view.links l).stage ≡ Some m → IsCarried view.carriers view.replies l m
+  pub unsent : (m : MessageName) → view.carriers m ≡ None → view.replies m ≡ None
 
 none_there : (m : MessageName) (there : Option MessageName) → None ≡ Some m → there ≡ Some m
 none_there m there none = absurd (none-some m none)
@@ -218,7 +218,7 @@ module _ (setup : Setup) (view : View) (once : AreOnce view) where
   happens_keeps (Mirrored client job) m old there = there
 
 module _ (setup : Setup) where
-  story_once : (story : Story) → IsLawful setup story → AreOnce (view_after setup story)
+  pub story_once : (story : Story) → IsLawful setup story → AreOnce (view_after setup story)
   story_once [] lawful = record { standing = λ l m on. absurd (none-some m on); unsent = λ m none. refl }
   story_once (e ∷ past) lawful = happens_once setup (view_after setup past) (story_once past lawful.0) e lawful.1
 

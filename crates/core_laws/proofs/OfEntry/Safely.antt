@@ -17,6 +17,8 @@ use Rattle.log_story.specs.Plan.{Plan, is_by_now}
 use Rattle.log_story.specs.Said.{IsSaidLog, SaysFrom, SaysSo}
 use Rattle.log_story.specs.Tale.{Client, Tale, first_tale, is_to_server}
 use Rattle.log_story.specs.Telling.{tale_step}
+use Rattle.run_laws.proofs.Telling.{first_tells, step_tells}
+use Rattle.run_laws.specs.Tells.{TellsBytes}
 use Rattle.step_laws.specs.Seats.{IsSeated}
 use Rattle.tale_world.specs.Decided.{Decided, first_decided}
 use Rattle.tale_world.specs.Tested.{has_broken, is_broken}
@@ -29,7 +31,7 @@ use Rattle.core_laws.proofs.OfEntry.Speaking.{all_say}
 use Rattle.core_laws.proofs.OfEntry.Writing.{row_writes, writes_due}
 use Rattle.core_laws.specs.entry.Cores.{IsSafely, with_entry}
 use Rattle.core_laws.specs.entry.Dues.{AreSilent, AreWrittenTo, IsWrittenBy, IsWrittenTo, WritesTo, due_on, written_by}
-use Rattle.core_laws.specs.entry.Safe.{IsSafe, has_runs}
+use Rattle.core_laws.specs.entry.Safe.{IsSafe}
 use Rattle.core_laws.specs.entry.Speaks.{IsSilentOrSpoken}
 use Rattle.core_laws.specs.entry.Tells.{IsCore, ground}
 
@@ -84,16 +86,19 @@ module _ (service : Service) (setup : Setup) (codes : Codes) (plan : Plan) (d : 
   same : tale_of setup plan (with_entry log e) ≡ stepped
   same = tale_more setup plan log e
 
+  tells : TellsBytes stepped
+  tells = step_tells setup plan (tale_of setup plan log) e safely.gets safe.told
+
   so : SaysSo setup plan stepped
   so =
       all_say service was t e (says_last setup plan log safe.said) (subst (λ (tale : Tale). Stands service (on new tale) t) same stands)
-      (subst (λ (tale : Tale). has_runs tale.story ≡ false) same safely.runless)
+      tells.heard
       (subst (λ (tale : Tale). (l : LinkId) → is_to_server tale l ≡ true → IsSilentOrSpoken setup plan (tale_of setup plan log) e tale t l) same
       safely.spoken)
 
   pub log_goes_on : IsSafe setup plan (with_entry log e)
   log_goes_on =
-      safe_more setup plan log e safe safely.passes (unbroken setup new.tale.story stands.lawful) safely.runless safely.closes
+      safe_more setup plan log e safe safely.passes (unbroken setup new.tale.story stands.lawful) (subst TellsBytes (sym same) tells) safely.closes
       (subst (SaysSo setup plan) (sym same) so) (writes_due new (with_entry log e) refl silent written)
 
 -- What an entry writes to clients.
@@ -125,7 +130,7 @@ first_safe : (setup : Setup) (plan : Plan) → IsSafe setup plan []
 first_safe setup plan = record {
   tested = tt;
   unbroken = refl;
-  runless = refl;
+  told = first_tells setup plan;
   said = λ l there. absurd (false≢true there);
   written = none_taken (WritesDue setup plan) (none_due setup plan);
 }

@@ -12,10 +12,11 @@ use Rattle.private_model.specs.Names.{LinkId}
 use Rattle.private_model.specs.Story.{command_of}
 use Rattle.private_model.specs.View as view
 use Rattle.private_model.specs.View.{Link, Setup, View}
-use Rattle.log_story.specs.Honest.{IsFront, IsStep, IsWritten, number_for}
+use Rattle.log_story.specs.Honest.{IsExecute, IsFront, IsStep, IsWritten, number_for}
 use Rattle.log_story.specs.Plan.{Asks, Closes, Plan, Resets, StepText, step_payload, text_payload}
 use Rattle.log_story.specs.Said.{Begins, IsNothing, IsQuestion, IsSaid, IsSaidBehind, IsStepText, SaysThere}
 use Rattle.log_story.specs.Tale.{Tale, Wire, view_of}
+use Rattle.run_laws.specs.Reads.{ReadsAsked, ReadsRun}
 use Rattle.link_laws.specs.Stands.{Codes}
 use Rattle.link_state.specs.Dones.{is_quiet}
 use Rattle.link_state.specs.declared.writing.Writing.{Writing}
@@ -27,13 +28,12 @@ use Rattle.row_laws.specs.Rows.{Enters, IsPartBy, IsRowIn, Serves, part_of}
 use Rattle.row_laws.specs.Written.{IsBegun, IsOver, IsSpelt, IsStepOf, IsWrittenBy, is_other, spelt_as}
 use Rattle.row_laws.proofs.Beginning.{law_quiet}
 use Rattle.row_laws.proofs.Seeing.{quiet_same}
-use Rattle.core_laws.specs.entry.Safe.{is_run}
-use Rattle.core_laws.specs.entry.Speaks.{is_run_at}
 
--- A command that is spelt so is written so, but for an execute.
-pub written_so : (command : Command) (number : Option ℕ) (said : List ℕ) → is_run command ≡ false → said ≡ spelt_as command number
+-- A command that is spelt so is written so, where an execute reads as it is spelt.
+pub written_so : (command : Command) (number : Option ℕ) (said : List ℕ) → ReadsRun command number → said ≡ spelt_as command number
     → IsWritten command number said
-written_so (Run text schema settings args) number said plain is = absurd (true≢false plain)
+written_so (Run text schema settings args) None said reads is = subst (λ (bytes : List ℕ). IsExecute None args bytes) (sym is) reads
+written_so (Run text schema settings args) (Some number) said reads is = subst (λ (bytes : List ℕ). IsExecute (Some number) args bytes) (sym is) reads
 written_so (Query text) number said plain is = is
 written_so (InitDb schema) number said plain is = is
 written_so (FieldList rest) number said plain is = is
@@ -43,11 +43,11 @@ written_so (Prepare text) number said plain is = is
 written_so Reset number said plain is = is
 written_so Quit number said plain is = is
 
-begins_so : (command : Command) (number : Option ℕ) (said written : List ℕ) → is_run command ≡ false → said ≡ spelt_as command number
+begins_so : (command : Command) (number : Option ℕ) (said written : List ℕ) → ReadsRun command number → said ≡ spelt_as command number
     → IsFront written said → Begins command number written
-begins_so command number said written plain is front = record {
+begins_so command number said written reads is front = record {
   more = front.rest;
-  all = subst (IsWritten command number) (sym front.is) (written_so command number said plain is);
+  all = subst (IsWritten command number) (sym front.is) (written_so command number said reads is);
 }
 
 front_of : (n : ℕ) (said written : List ℕ) → written ≡ take n said → IsFront written said
@@ -62,14 +62,14 @@ front_all written said is = record { rest = []; is = append-nil written ∙ is }
 -- What began, and of which these bytes are written.
 
 question_by : (stage : view.Stage) (step : Step) (quits : Bool) (link : Link) (said written : List ℕ) → IsSpelt stage step quits link said
-    → is_run_at stage ≡ false → IsFront written said → IsQuestion stage link.live written
-question_by view.Quiet step quits link said written is plain front = tt
-question_by (view.Asked question) step false link said written is plain front =
-    begins_so (command_of question) (number_for question link.live) said written plain is front
-question_by (view.Answered question) step false link said written is plain front =
-    begins_so (command_of question) (number_for question link.live) said written plain is front
-question_by (view.Asked question) step true link said written is plain front = absurd is
-question_by (view.Answered question) step true link said written is plain front = absurd is
+    → ReadsAsked stage link.live → IsFront written said → IsQuestion stage link.live written
+question_by view.Quiet step quits link said written is reads front = tt
+question_by (view.Asked question) step false link said written is reads front =
+    begins_so (command_of question) (number_for question link.live) said written reads is front
+question_by (view.Answered question) step false link said written is reads front =
+    begins_so (command_of question) (number_for question link.live) said written reads is front
+question_by (view.Asked question) step true link said written is reads front = absurd is
+question_by (view.Answered question) step true link said written is reads front = absurd is
 
 -- a step that stands there
 step_by : (stage : view.Stage) (step : Step) (quits : Bool) (link : Link) (text : Option StepText) (said written : List ℕ)
@@ -121,7 +121,7 @@ step_whole (Some (Closes n)) written is = front_all written (spelling 0 (step_pa
 step_whole (Some (Resets n)) written is = front_all written (spelling 0 (step_payload (Resets n))) is
 
 module _ (reads : Reads) (codes : Codes) (login : Login) (seen : View) (row : Row) (wire : Wire) (link : Link)
-    (stands : Serves reads codes login seen row wire link) (plain : is_run_at link.stage ≡ false) where
+    (stands : Serves reads codes login seen row wire link) (reads_so : ReadsAsked link.stage link.live) where
   quiet_law : is_quiet row.link.state.stage ≡ true → link.stage ≡ view.Quiet
   quiet_law quiet = law_quiet link.stage (sym (quiet_same reads codes row.link.state link stands.state) ∙ quiet)
 
@@ -141,7 +141,7 @@ module _ (reads : Reads) (codes : Codes) (login : Login) (seen : View) (row : Ro
       let spelt_if : (quits : Bool) → row.link.quits ≡ quits → IsSpelt link.stage row.link.step quits link w.bytes =
       λ quits is. subst (λ (b : Bool). IsSpelt link.stage row.link.step b link w.bytes) is going.spelt_so in
       record {
-        question = question_by link.stage row.link.step row.link.quits link w.bytes wire.written going.spelt_so plain front;
+        question = question_by link.stage row.link.step row.link.quits link w.bytes wire.written going.spelt_so reads_so front;
         step = step_by link.stage row.link.step row.link.quits link wire.step w.bytes wire.written going.spelt_so stands.step
             (λ other. quiet_law (stands.stepless other)) front;
         quit = λ quits. quit_by link.stage row.link.step link w.bytes wire.written (spelt_if true (sym stands.quits ∙ quits)) front;
@@ -162,14 +162,14 @@ entering_says : (login : Login) (row : Row) (wire : Wire) (link : Link) → Ente
 entering_says login row wire link stands fine = record { rest = row.link.login.own; is = ap said_of (sym (stands.going fine).goes) }
 
 part_says : (entered : Bool) (reads : Reads) (codes : Codes) (login : Login) (seen : View) (row : Row) (wire : Wire) (link : Link)
-    → IsPartBy entered reads codes login seen (part_of row) wire link → is_run_at link.stage ≡ false → (entered ≡ false → row.link.spoilt ≡ false)
+    → IsPartBy entered reads codes login seen (part_of row) wire link → ReadsAsked link.stage link.live → (entered ≡ false → row.link.spoilt ≡ false)
     → IsSaid entered login wire link
 part_says false reads codes login seen row wire link stands plain fine = entering_says login row wire link stands (fine refl)
 part_says true reads codes login seen row wire link stands plain fine = serving_says reads codes login seen row wire link stands plain
 
 -- by the row of the link
 pub row_says : (setup : Setup) (codes : Codes) (plan : Plan) (tale : Tale) (l : LinkId) (row : Row) → IsRowIn setup codes plan tale l row
-    → is_run_at ((view_of setup tale).links l).stage ≡ false → ((tale.wires l).entered ≡ false → row.link.spoilt ≡ false)
+    → ReadsAsked ((view_of setup tale).links l).stage ((view_of setup tale).links l).live → ((tale.wires l).entered ≡ false → row.link.spoilt ≡ false)
     → SaysThere setup plan tale l
 row_says setup codes plan tale l row stands plain fine =
     part_says (tale.wires l).entered setup.reads codes (plan.logins l) (view_of setup tale) row (tale.wires l) ((view_of setup tale).links l)

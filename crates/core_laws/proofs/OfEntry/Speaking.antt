@@ -16,6 +16,9 @@ use Rattle.log_story.specs.Said.{SaysSo, SaysThere}
 use Rattle.log_story.specs.Servers as servers
 use Rattle.log_story.specs.Tale.{Tale, Wire, is_to_server, view_of}
 use Rattle.log_story.specs.Telling.{tale_step}
+use Rattle.run_laws.proofs.Becoming.{became_so}
+use Rattle.run_laws.proofs.Readable.{readable}
+use Rattle.run_laws.specs.Reads.{AllHeard, HasItsArgs}
 use Rattle.link_laws.specs.Stands.{Codes}
 use Rattle.link_state.specs.Dones.{is_quiet}
 use Rattle.link_state.specs.declared.writing.Writing.{Writing}
@@ -36,11 +39,9 @@ use Rattle.core_tables.specs.Tables.{Tabled}
 use Rattle.core_tables.specs.declared.server.Server.{Server}
 use Rattle.core_stands.specs.Grounds.{Ground, on}
 use Rattle.core_stands.specs.Servers.{IsServer, IsServerBy}
-use Rattle.core_stands.specs.Stands.{Stands}
-use Rattle.core_laws.proofs.OfEntry.Plain.{no_run_stands}
+use Rattle.core_stands.specs.Stands.{IsDuly, Stands}
 use Rattle.core_laws.proofs.OfEntry.Saying.{row_says}
 use Rattle.core_laws.proofs.OfEntry.Silence.{says_still}
-use Rattle.core_laws.specs.entry.Safe.{has_runs}
 use Rattle.core_laws.specs.entry.Speaks.{IsSilentOrSpoken}
 
 -- the row of a link to a server stands for it
@@ -54,15 +55,16 @@ module _ (service : Service) (g : Ground) (t : Tabled) (e : Entry) where
   abbrev new : Tale
   new = tale_step g.setup g.plan g.tale e
 
-  pub all_say : SaysSo g.setup g.plan g.tale → Stands service (on g new) t → has_runs new.story ≡ false
+  pub all_say : SaysSo g.setup g.plan g.tale → Stands service (on g new) t → AllHeard new.story
       → ((l : LinkId) → is_to_server new l ≡ true → IsSilentOrSpoken g.setup g.plan g.tale e new t l) → SaysSo g.setup g.plan new
-  all_say so stands none each l to_server = by (each l to_server) where
+  all_say so stands heard each l to_server = by (each l to_server) where
     by : IsSilentOrSpoken g.setup g.plan g.tale e new t l → SaysThere g.setup g.plan new l
     by (inl silent) = says_still g.setup l g.plan g.tale e silent.1 (so l silent.0)
     by (inr spoken) =
         row_says g.setup g.codes g.plan new l spoken.server.row
         (server_there service (on g new) t l spoken.server stands to_server spoken.there).row
-        (no_run_stands g.setup new.story stands.lawful none l) spoken.well
+        (readable g.setup new.story stands.lawful
+        (became_so g.setup (IsDuly g.setup g.plan) HasItsArgs (λ n due is. is.whole) new.story stands.duly) heard l).asked spoken.well
 
 -- Before anything else begins, a STMT_CLOSE or a STMT_RESET is whole.
 

@@ -7,6 +7,7 @@ use Rattle.server_rule.specs.Classes.{Reads}
 use Rattle.server_side.specs.Account.{Account as Login}
 use Rattle.private_model.specs.Names.{LinkId, SessionName}
 use Rattle.private_model.specs.View.{Link, Setup, View}
+use Rattle.tale_world.specs.Tests.{is_told_key}
 use Rattle.log_story.specs.Plan.{Plan}
 use Rattle.log_story.specs.Tale.{Tale, Wire, view_of}
 use Rattle.link_state.specs.Asks.{joined_for}
@@ -35,10 +36,12 @@ use Rattle.row_laws.specs.Whose.{IsFor, IsOwn, name_in}
 use Rattle.row_laws.specs.Written.{IsWrittenBy}
 use Rattle.mx_base.specs.declared.tag.Tag.TheVariants as tags
 use Rattle.private_model.specs.Commands as commands
-use Rattle.private_model.specs.Story.{Capture, End, Own, Question, Statement, Story, Sync, command_of}
+use Rattle.private_model.specs.Story.{Capture, End, Own, Prep, Question, Statement, Story, Sync, command_of}
 use Rattle.private_model.specs.View.{view_after}
+use Rattle.session_state.specs.declared.place.Told.{Told}
 use Rattle.log_story.specs.Honest.{number_for}
-use Rattle.log_story.specs.Plan.{text_payload}
+use Rattle.log_story.specs.Plan as plan
+use Rattle.log_story.specs.Plan.{step_payload, text_payload}
 use Rattle.link_state.specs.Spells.{spelt}
 use Rattle.lent_link.specs.declared.link.Begins.TheVariants as begins
 use Rattle.reply_relay.specs.Cells.{CellRead}
@@ -47,7 +50,7 @@ use Rattle.row_laws.specs.Whose.{OfStatement}
 use Rattle.row_laws.specs.Written.{spelt_as}
 use Rattle.core_tables.specs.Tables.{Tabled}
 use Rattle.core_stands.specs.Grounds.{Ground, on, view_on}
-use Rattle.core_stands.specs.Servers.{IsFirst, IsNextFor, IsNextOf, IsTagged, is_lent, is_statement, is_stating, tag_for}
+use Rattle.core_stands.specs.Servers.{IsAhead, IsFirst, IsNextFor, IsNextOf, IsTagged, IsTakenUp, OfLent, is_statement, is_stating, tag_for, keyed_text}
 use Rattle.core_laws.proofs.OfHearing.Elsewhere.{AreFirst}
 use Rattle.core_laws.proofs.OfHearing.Kept.{AsksAt, with_story}
 
@@ -148,46 +151,47 @@ module _ (reads : Reads) (codes : Codes) (login : Login) (seen : View) (row : Ro
       clash : (kind : ReplyKind) → None ≡ Some kind → ⊥
       clash kind same = cc
 
--- A link is lent as long as a statement doesn't run there.
+-- What is due where a link is lent stays so, until a statement runs there.
 
-abbrev IsLending : LinkState → Type 0
-IsLending state = is_lent state.carries ≡ true → is_stating state.stage ≡ true
+module _ (seen : View) where
+  abbrev IsLending : LinkState → Type 0
+  IsLending state = is_stating state.stage ≡ false → OfLent state.carries (IsAhead seen)
 
-stating_joined : (asking : Asking) (carries : Carried) → (is_lent carries ≡ true → is_stating (Asked asking) ≡ true)
-    → is_lent (joined_for asking.purpose carries) ≡ true → false ≡ true
-stating_joined asking carries sound lent = by asking.purpose sound lent where
-  by : (purpose : Purpose) → (is_lent carries ≡ true → is_statement purpose ≡ true) → is_lent (joined_for purpose carries) ≡ true → false ≡ true
-  by (purposes.Statement n ordinal key) sound lent = lent
-  by (purposes.Prep n ordinal key) sound lent = sound lent
-  by (purposes.Sync n) sound lent = sound lent
-  by purposes.Own sound lent = sound lent
-  by (purposes.End n) sound lent = sound lent
-  by (purposes.Capture n) sound lent = sound lent
+  lent_joined : (asking : Asking) (carries : Carried) → (is_stating (Asked asking) ≡ false → OfLent carries (IsAhead seen))
+      → OfLent (joined_for asking.purpose carries) (IsAhead seen)
+  lent_joined asking carries sound = by asking.purpose sound where
+    by : (purpose : Purpose) → (is_statement purpose ≡ false → OfLent carries (IsAhead seen)) → OfLent (joined_for purpose carries) (IsAhead seen)
+    by (purposes.Statement n ordinal key) sound = tt
+    by (purposes.Prep n ordinal key) sound = sound refl
+    by (purposes.Sync n) sound = sound refl
+    by purposes.Own sound = sound refl
+    by (purposes.End n) sound = sound refl
+    by (purposes.Capture n) sound = sound refl
 
-lent_stage : (link : LentLink) (stage : Stage) → link.state.stage ≡ stage → IsLending link.state → IsLending (expecting_at stage link).state
-lent_stage link Quiet same sound = sound
-lent_stage link (Answered asking) same sound = sound
-lent_stage link (Asked asking) same sound = λ lent.
-    absurd (false≢true (stating_joined asking link.state.carries (λ is. ap is_stating (sym same) ∙ sound is)
-    (ap (λ (s : Stage). is_lent (ran_in s link.state).carries) (sym same) ∙ lent)))
+  lent_stage : (link : LentLink) (stage : Stage) → link.state.stage ≡ stage → IsLending link.state → IsLending (expecting_at stage link).state
+  lent_stage link Quiet same sound = sound
+  lent_stage link (Answered asking) same sound = sound
+  lent_stage link (Asked asking) same sound = λ unstated.
+      subst (λ (s : Stage). OfLent (ran_in s link.state).carries (IsAhead seen)) (sym same)
+      (lent_joined asking link.state.carries (λ is. sound (ap is_stating same ∙ is)))
 
-lent_step : (link : LentLink) (step : Step) → IsLending link.state → IsLending (expecting_by step link).state
-lent_step link (Resets number) sound = sound
-lent_step link Other sound = lent_stage link link.state.stage refl sound
-lent_step link (Closes number) sound = lent_stage link link.state.stage refl sound
+  lent_step : (link : LentLink) (step : Step) → IsLending link.state → IsLending (expecting_by step link).state
+  lent_step link (Resets number) sound = sound
+  lent_step link Other sound = lent_stage link link.state.stage refl sound
+  lent_step link (Closes number) sound = lent_stage link link.state.stage refl sound
 
-lent_if : (link : LentLink) (reading : Option Reading) → IsLending link.state → IsLending (expecting_if reading link).state
-lent_if link (Some r) sound = sound
-lent_if link None sound = lent_step link link.step sound
+  lent_if : (link : LentLink) (reading : Option Reading) → IsLending link.state → IsLending (expecting_if reading link).state
+  lent_if link (Some r) sound = sound
+  lent_if link None sound = lent_step link link.step sound
 
-pub lent_due : (link : LentLink) → IsLending link.state → IsLending (expecting link).state
-lent_due link sound = lent_if link link.reading sound
+  pub lent_due : (link : LentLink) → IsLending link.state → IsLending (expecting link).state
+  lent_due link sound = lent_if link link.reading sound
 
 -- What stands next there stays so.
 module _ (g : Ground) (story : Story) (wires : LinkId → Wire) (t other : Tabled) (old new : Row) (link now : Link)
     (first : AreFirst t other) (dues : (n : SessionName) → (view_after g.setup story).dues n ≡ (view_on g).dues n)
     (writing : new.link.writing ≡ old.link.writing) (from : new.link.first ≡ old.link.first) (multiplex : new.multiplex ≡ old.multiplex)
-    (cell : new.cell ≡ old.cell) (live : now.live ≡ link.live) where
+    (cell : new.cell ≡ old.cell) (live : now.live ≡ link.live) (same_told : now.told ≡ link.told) where
   abbrev told : Ground
   told = on g (with_story story wires g.tale)
 
@@ -200,27 +204,36 @@ module _ (g : Ground) (story : Story) (wires : LinkId → Wire) (t other : Table
     cell_so = subst (λ (c : Option CellRead). IsCellNext asking.form c) (sym cell) is.cell_so;
   }
 
+  taken_on : {n : SessionName} {ordinal : ℕ} → IsTakenUp g n ordinal → IsTakenUp told n ordinal
+  taken_on is = record { client = is.client; seated = is.seated; number = is.number; by_now = is.by_now }
+
   for_on : (asking : Asking) (purpose : Purpose) → IsNextFor purpose g t old link asking → IsNextFor purpose told other new now asking
   for_on asking (purposes.Statement n ordinal key) is = record {
     said = λ due there at. readied asking (Statement n due) (is.said due (sym (dues n) ∙ there) at);
     first = subst (λ (id : ℕ). IsFirst other n ordinal id) (sym from) (first n ordinal old.link.first is.first);
     text = λ due there at. is.text due (sym (dues n) ∙ there) at;
     plain = is.plain;
-    taken_up = record { client = is.taken_up.client; seated = is.taken_up.seated; number = is.taken_up.number; by_now = is.taken_up.by_now };
+    taken_up = taken_on is.taken_up;
   }
-  for_on asking (purposes.Prep n ordinal key) is = is
+  for_on asking (purposes.Prep n ordinal key) is = record {
+    said = λ due there at. readied asking (Prep n due.key (keyed_text g due)) (is.said due (sym (dues n) ∙ there) at);
+    told = λ due there at.
+        ap (λ (x : Told). is_told_key g.setup due.key (keyed_text g due) x) same_told ∙ is.told due (sym (dues n) ∙ there) at;
+    taken_up = taken_on is.taken_up;
+  }
   for_on asking (purposes.Sync n) is = record { command = is.command; said = readied asking (Sync n is.command) is.said }
   for_on asking purposes.Own is = record { command = is.command; said = readied asking (Own is.command) is.said }
   for_on asking (purposes.End n) is = readied asking (End n) is
   for_on asking (purposes.Capture n) is = readied asking (Capture n) is
 
+  own_on : (said : List ℕ) → IsTagged old.link.writing tags.Own × IsNext old.link.writing said → IsTagged new.link.writing tags.Own × IsNext new.link.writing said
+  own_on said is =
+      (subst (λ (w : Option Writing). IsTagged w tags.Own) (sym writing) is.0, subst (λ (w : Option Writing). IsNext w said) (sym writing) is.1)
+
   pub next_on : (next : Option Begins) → IsNextOf next g t old link → IsNextOf next told other new now
   next_on None is = tt
   next_on (Some (begins.Asks asking)) is =
       (subst (λ (w : Option Writing). IsTagged w (tag_for asking.purpose)) (sym writing) is.0, for_on asking asking.purpose is.1)
-  next_on (Some (begins.Closes number)) is = is
-  next_on (Some (begins.Resets number)) is = is
-  next_on (Some begins.Quits) is = (
-    subst (λ (w : Option Writing). IsTagged w tags.Own) (sym writing) is.0,
-    subst (λ (w : Option Writing). IsNext w (spelt (text_payload commands.Quit))) (sym writing) is.1,
-  )
+  next_on (Some (begins.Closes number)) is = own_on (spelt (step_payload (plan.Closes number))) is
+  next_on (Some (begins.Resets number)) is = own_on (spelt (step_payload (plan.Resets number))) is
+  next_on (Some begins.Quits) is = own_on (spelt (text_payload commands.Quit)) is

@@ -2,7 +2,6 @@
 use Rattle.std.specs.Prelude.{◌≡◌, ◌⊎◌, ◌<◌, ◌-◌, ℕ, suc, Bool, true, false, ◌||◌, nat_lt, is_some, if◌then◌else◌, List, [], ◌∷◌, ◌++◌, length, take, Option, Some, None}
 use Rattle.std.specs.Option.{option_map}
 use Rattle.std.proofs.Common.{refl, sym, ap, ◌∙◌, subst, inl, inr, arith}
-use Rattle.std.proofs.lemmas.Bool.{false≢true}
 use Rattle.std.proofs.lemmas.Option.{none-some}
 use Rattle.mx_base.specs.Fields.{AreBytes}
 use Rattle.mx_base.specs.declared.names.Hostgroup.{Hostgroup}
@@ -32,7 +31,6 @@ use Rattle.link_state.specs.States.{heard_in}
 use Rattle.link_state.specs.declared.asking.Asking.{Asking}
 use Rattle.link_state.specs.declared.asking.Purpose.{Purpose}
 use Rattle.link_state.specs.declared.asking.Purpose.TheVariants as purposes
-use Rattle.link_state.specs.declared.state.Stage.{Stage}
 use Rattle.link_state.specs.declared.state.Stage.TheVariants.{Answered}
 use Rattle.lent_link.specs.Hears.{expecting}
 use Rattle.lent_link.specs.Reads.{end_of as code_end}
@@ -80,6 +78,7 @@ use Rattle.core_laws.proofs.OfHearing.Clients.{IsSettled, moved_is}
 use Rattle.core_laws.proofs.OfHearing.Elsewhere.{AreShown, CarriedLaw, HomedLaw}
 use Rattle.core_laws.proofs.OfHearing.Expected.{expected}
 use Rattle.core_laws.proofs.OfHearing.Heard as read
+use Rattle.core_laws.proofs.OfParting.Ahead.{ahead_same}
 use Rattle.core_laws.proofs.OfHearing.Homing.{KeepsCarried, KeepsHomes}
 use Rattle.core_laws.proofs.OfHearing.Kept.{AsksAt, IsShown, with_story}
 use Rattle.core_laws.proofs.OfHearing.Laws.{DeskLaws, OthersStay}
@@ -87,7 +86,7 @@ use Rattle.core_laws.proofs.OfHearing.Numbered.{numbered_so}
 use Rattle.core_laws.proofs.OfHearing.Parted.{over_by, parted_at, spares_over}
 use Rattle.core_laws.proofs.OfHearing.Seated.{at_changed, at_nobody, at_same}
 use Rattle.core_laws.proofs.OfHearing.Spelled.{NumbersAreRead, pieces_are}
-use Rattle.core_laws.proofs.OfHearing.Standing.{StandsBut, clients_read, replying_so, server_is, shown_alone, standing_so, tale_form, told_so, untold_so}
+use Rattle.core_laws.proofs.OfHearing.Standing.{StandsBut, clients_read, near, replying_so, server_is, shown_alone, standing_so, tale_form, told_so, untold_so}
 use Rattle.core_laws.proofs.OfHearing.Telling as told
 use Rattle.core_laws.proofs.OfHearing.Whole.{IsStatementOf, aside_same, is_stated, names_same, plain_command, plain_payloads, statement_same, told_numbered}
 
@@ -212,8 +211,15 @@ module _ (laws : DeskLaws) (stay : OthersStay) (carried_law : CarriedLaw) (homed
         ap (λ (v : View). (v.links l).stage) heard_so
         ∙ ap (λ (k : Link). k.stage) (put_there (view_on read_on).links l (view.heard g.setup.reads question reply ((view_on read_on).links l)))
 
-    answered_clash : (stage : Stage) → stage ≡ Answered asking → is_stating stage ≡ true → ⊥
-    answered_clash stage same stating = false≢true (ap is_stating (sym same) ∙ stating)
+    left_kept : (left : Option LeftSession) → option_map (left_behind asking row.multiplex (code_end end) number) left ≡ None → left ≡ None
+    left_kept None is = refl
+    left_kept (Some left) is = absurd (none-some (left_behind asking row.multiplex (code_end end) number left) (sym is))
+
+    -- what is due where it is lent is so still
+    dues_now : (n : SessionName) → (view_on after).dues n ≡ seen.dues n
+    dues_now n =
+        ap (λ (v : View). v.dues n) heard_so
+        ∙ (near laws stay carried_law homed_law service g t stands l server there to_server kept fine heard_wire).dues n
 
     server_so : (other : Tabled) → IsRowIn g.setup g.codes g.plan (with_story (Heard l reply ∷ ran_tale.story) wires g.tale) l new → IsServer after other l new
     server_so other row_is = record {
@@ -223,14 +229,12 @@ module _ (laws : DeskLaws) (stay : OthersStay) (carried_law : CarriedLaw) (homed
       standing = subst (λ (stage : view.Stage). IsStandingAt stage after l) (sym quiet_now) tt;
       next = subst (λ (next : Option Begins). IsNextOf next after other new ((view_on after).links l))
           (sym (read.none_next laws stay carried_law homed_law service g t stands l server there to_server kept fine bytes are_bytes now entered r under_way)) tt;
-      lent = λ lent. absurd (answered_clash due.state.stage was.stage (lent_due row.link is_server.lent lent));
+      lent = λ here mine unstated.
+          ahead_same seen (view_on after) due.state.carries dues_now
+          (lent_due seen row.link (is_server.lent here (left_kept server.row.left mine)) (ap is_stating was.stage));
       parted = λ whole here left. tt;
       replying = λ whole here mine. tt;
     }
-
-    left_kept : (left : Option LeftSession) → option_map (left_behind asking row.multiplex (code_end end) number) left ≡ None → left ≡ None
-    left_kept None is = refl
-    left_kept (Some left) is = absurd (none-some (left_behind asking row.multiplex (code_end end) number left) (sym is))
 
     carried_on : KeepsCarried server (with_row new server)
     carried_on = record {

@@ -1,7 +1,6 @@
 -- Bytes are read in a login: the tables stand.
 use Rattle.std.specs.Prelude.{◌≡◌, ℕ, Bool, true, false, not, if◌then◌else◌, List, [], ◌∷◌, Option, Some, is_some}
 use Rattle.std.proofs.Common.{refl, sym, ap, ◌∙◌, subst}
-use Rattle.std.proofs.lemmas.Bool.{false≢true}
 use Rattle.client_session.specs.Setups.{Setup as Service}
 use Rattle.server_side.specs.Backend.{BackendState}
 use Rattle.server_side.specs.Hearing as hearing
@@ -31,7 +30,7 @@ use Rattle.core_tables.specs.Hearing.{told_by, told_to, with_row}
 use Rattle.core_tables.specs.Tables.{Tabled, link_changed}
 use Rattle.core_tables.specs.declared.server.Server.{Server}
 use Rattle.core_stands.specs.Grounds.{Ground, on, view_on}
-use Rattle.core_stands.specs.Servers.{IsNextOf, IsPartedAt, IsReplyingAt, IsServer, IsStandingAt, is_lent}
+use Rattle.core_stands.specs.Servers.{IsNextOf, IsPartedAt, IsReplyingAt, IsServer, IsStandingAt, IsAhead, OfLent}
 use Rattle.core_stands.specs.Stands.{AreClients, Stands}
 use Rattle.core_laws.proofs.OfParting.Apart.{put_apart}
 use Rattle.core_laws.proofs.OfHearing.Elsewhere.{CarriedLaw, HomedLaw, IsNear}
@@ -113,7 +112,7 @@ module _ (laws : DeskLaws) (stay : OthersStay) (carried_law : CarriedLaw) (homed
       found_rows = is.found_rows ∙ is_server.found_rows;
       standing = subst (λ (stage : view.Stage). IsStandingAt stage after l) (sym quiet) tt;
       next = subst (λ (next : Option Begins). IsNextOf next after row_table new ((view_on after).links l)) (sym (is.next ∙ was.next)) tt;
-      lent = λ lent. absurd (false≢true (ap (λ (state : LinkState). is_lent state.carries) (sym fresh_now) ∙ lent));
+      lent = λ whole mine unstated. subst (λ (state : LinkState). OfLent state.carries (IsAhead (view_on after))) (sym fresh_now) tt;
       parted = λ whole here left. subst (λ (state : LinkState). IsPartedAt state.stage after) (sym fresh_now) tt;
       replying = λ whole here mine. subst (λ (state : LinkState). IsReplyingAt state.stage after row_table l new) (sym fresh_now) tt;
     }

@@ -15,6 +15,8 @@ use Rattle.reply_track.specs.declared.reply.ReplyKind.{ReplyKind}
 use Rattle.client_session.specs.Setups.{Setup as Service}
 use Rattle.private_model.specs.Lawful.{IsLawful}
 use Rattle.private_model.specs.Names.{LinkId, SessionName}
+use Rattle.server_rule.specs.Classes.{Reads}
+use Rattle.private_model.specs.View as view
 use Rattle.private_model.specs.View.{Link, View, ran_by}
 use Rattle.log_story.specs.Servers.{reply_id, with_run}
 use Rattle.log_story.specs.Tale.{Tale, Wire, is_to_server, view_of, with_wire}
@@ -52,17 +54,24 @@ use Rattle.core_tables.specs.Tables.{Tabled, client_changed, link_changed}
 use Rattle.core_tables.specs.declared.client.Client.{Client}
 use Rattle.core_tables.specs.declared.server.Server.{Server}
 use Rattle.core_stands.specs.Grounds.{Ground, on, view_on}
-use Rattle.core_stands.specs.Servers.{IsNextOf, IsPartedAt, IsPartedFor, IsReplying, IsReplyingAt, IsReplyingFor, IsServer, IsTakenUp}
+use Rattle.core_stands.specs.Servers.{IsNextOf, IsPartedAt, IsPartedFor, IsReplying, IsReplyingAt, IsReplyingFor, IsServer, IsTakenUp, IsAhead, OfLent, is_stating}
 use Rattle.core_stands.specs.Stands.{Stands}
 use Rattle.core_laws.proofs.OfHearing.Behind.{awaited, lent_due, next_none, next_on}
 use Rattle.core_laws.proofs.OfHearing.Elsewhere.{CarriedLaw, HomedLaw}
 use Rattle.core_laws.proofs.OfHearing.Expected.{expected}
+use Rattle.core_laws.proofs.OfParting.Ahead.{ahead_same}
 use Rattle.core_laws.proofs.OfHearing.Homing.{KeepsCarried}
 use Rattle.core_laws.proofs.OfHearing.Kept.{AsksAt, with_story}
 use Rattle.core_laws.proofs.OfHearing.Laws.{DeskLaws, OthersStay}
 use Rattle.core_laws.proofs.OfHearing.Parted.{parted_at}
 use Rattle.core_laws.proofs.OfHearing.Standing.{StandsBut, near, part_so, quiet_so, replying_so, server_is, standing_read, tale_form}
 use Rattle.core_laws.proofs.OfHearing.Telling as told
+
+-- what a link was told stays so as its question runs
+told_ran : (reads : Reads) (link : Link) (stage : view.Stage) → (ran_by reads stage link).told ≡ link.told
+told_ran reads link view.Quiet = refl
+told_ran reads link (view.Asked question) = refl
+told_ran reads link (view.Answered question) = refl
 
 -- a choice between the same
 if_same : (b : Bool) (x : Tabled) → (if b then x else x) ≡ x
@@ -120,8 +129,19 @@ module _ (laws : DeskLaws) (stay : OthersStay) (carried_law : CarriedLaw) (homed
   by_form : (w : Wire) (new : Row) (said : News) (given : List ℕ) → P (with_story ran_tale.story (put_wire w) g.tale) new said given → P (with_wire l w ran_tale) new said given
   by_form w new said given is = subst (λ (T : Tale). P T new said given) (sym (tale_form g.tale l w (seen.links l).stage)) is
 
+  -- what is due where it is lent stays so
+  lent_now : (w : Wire) → row.lost ≡ false → row.left ≡ None → is_stating due.state.stage ≡ false
+      → OfLent due.state.carries (IsAhead (view_on (read_on w)))
+  lent_now w here mine unstated =
+      ahead_same seen (view_on (read_on w)) due.state.carries
+      (near laws stay carried_law homed_law service g t stands l server there to_server kept fine w).dues
+      (lent_due seen row.link (is_server.lent here mine) unstated)
+
   live_same : ran_link.live ≡ (seen.links l).live
   live_same = (ran_parts g.setup.reads (seen.links l)).live
+
+  told_same : ran_link.told ≡ (seen.links l).told
+  told_same = told_ran g.setup.reads (seen.links l) (seen.links l).stage
 
   -- whom it carries
   pub carries_due : name_in due.state.carries ≡ name_in server.row.link.state.carries
@@ -177,8 +197,9 @@ module _ (laws : DeskLaws) (stay : OthersStay) (carried_law : CarriedLaw) (homed
             (next_on g ran_tale.story (put_wire fed) t (link_changed l (with_row (record row { link = record due { spoilt = true } })) t) server.row
             (record row { link = record due { spoilt = true } }) (seen.links l) ((view_on (read_on fed)).links l) (λ n ordinal from is. is)
             (near laws stay carried_law homed_law service g t stands l server there to_server kept fine fed).dues
-            (expected row.link).writing (expected row.link).first refl refl (ap (λ (k : Link). k.live) ran_is ∙ live_same) server.row.link.next is_server.next);
-        lent = lent_due row.link is_server.lent;
+            (expected row.link).writing (expected row.link).first refl refl (ap (λ (k : Link). k.live) ran_is ∙ live_same)
+            (ap (λ (k : Link). k.told) ran_is ∙ told_same) server.row.link.next is_server.next);
+        lent = lent_now fed;
         parted = λ whole. absurd (true≢false whole);
         replying = λ whole. absurd (true≢false whole);
       })
@@ -232,7 +253,7 @@ module _ (laws : DeskLaws) (stay : OthersStay) (carried_law : CarriedLaw) (homed
         found_rows = is_server.found_rows;
         standing = standing_read laws stay carried_law homed_law service g t stands l server there to_server kept fine fed ran_is;
         next = subst (λ (next : Option Begins). IsNextOf next (read_on fed) other new ((view_on (read_on fed)).links l)) (sym (none_next r under_way)) tt;
-        lent = lent_due row.link is_server.lent;
+        lent = lent_now fed;
         parted = λ whole here left. parted_due fed due.state.stage refl (is_server.parted fine kept left);
         replying = λ whole here mine. replying mine;
       }
@@ -363,7 +384,7 @@ module _ (laws : DeskLaws) (stay : OthersStay) (carried_law : CarriedLaw) (homed
             standing = standing_read laws stay carried_law homed_law service g t stands l server there to_server kept fine reset_wire ran_is;
             next = subst (λ (next : Option Begins). IsNextOf next (read_on reset_wire) (link_changed l (with_row reset_row) t) reset_row ((view_on (read_on reset_wire)).links l))
                 (sym (none_next r under_way)) tt;
-            lent = lent_due row.link is_server.lent;
+            lent = lent_now reset_wire;
             parted = λ whole here left. parted_due reset_wire due.state.stage refl (is_server.parted fine kept left);
             replying = λ whole here mine. subst (λ (s : Stage). IsReplyingAt s (read_on reset_wire) (link_changed l (with_row reset_row) t) l reset_row) (sym quiet) tt;
           })

@@ -24,6 +24,7 @@ use Rattle.row_laws.specs.Whose.{IsUntouched, OfStatement, name_in}
 use Rattle.core_tables.specs.Tables.{Tabled}
 use Rattle.core_tables.specs.declared.client.Client.{Client}
 use Rattle.core_stands.specs.Grounds.{Ground, on, view_on}
+use Rattle.core_laws.proofs.OfParting.Ahead.{ahead_same}
 use Rattle.core_stands.specs.Servers.{IsFirst, IsNextFor, IsNextOf, IsPartedAt, IsPartedFor, IsReplying, IsReplyingAt, IsReplyingFor, IsServer, IsStanding, IsStandingAt, IsTakenUp}
 
 -- the tale with another story and other wires
@@ -69,7 +70,11 @@ module _ (g : Ground) (story : Story) (wires : LinkId → Wire) (t other : Table
     plain = is.plain;
     taken_up = taken_kept is.taken_up;
   }
-  for_kept link asking (purposes.Prep n ordinal key) is = is
+  for_kept link asking (purposes.Prep n ordinal key) is = record {
+    said = λ due there at. is.said due (sym (spared.dues n) ∙ there) at;
+    told = λ due there at. is.told due (sym (spared.dues n) ∙ there) at;
+    taken_up = taken_kept is.taken_up;
+  }
   for_kept link asking (purposes.Sync n) is = record { command = is.command; said = is.said }
   for_kept link asking purposes.Own is = record { command = is.command; said = is.said }
   for_kept link asking (purposes.End n) is = is
@@ -153,7 +158,7 @@ module _ (g : Ground) (story : Story) (wires : LinkId → Wire) (t other : Table
     found_rows = is.found_rows;
     standing = subst (λ (link : Link). IsStandingAt link.stage after l) (sym spared.link) (standing_kept ((view_on g).links l).stage is.standing);
     next = subst (λ (link : Link). IsNextOf row.link.next after other row link) (sym spared.link) (next_kept ((view_on g).links l) row.link.next is.next);
-    lent = is.lent;
+    lent = λ here mine unstated. ahead_same (view_on g) (view_on after) row.link.state.carries spared.dues (is.lent here mine unstated);
     parted = λ well kept left. parted_kept row.link.state.stage (is.parted well kept left);
     replying = λ well kept mine. replies_kept row.link.state.stage (shown well kept mine) (is.replying well kept mine);
   }

@@ -37,6 +37,7 @@ use Rattle.core_laws.proofs.OfHearing.Heard.{goes_so, reset_so, spoilt_so}
 use Rattle.core_laws.proofs.OfHearing.Laws.{DeskLaws, OthersStay}
 use Rattle.core_laws.proofs.OfHearing.Numbered.{numbered_so}
 use Rattle.core_laws.proofs.OfHearing.Spelled.{NumbersAreRead}
+use Rattle.core_laws.proofs.OfHearing.Preparing.{heard_told, says_duly, says_prepared}
 use Rattle.core_laws.proofs.OfHearing.Standing.{StandsBut, server_is}
 use Rattle.core_laws.proofs.OfHearing.Telling as told
 
@@ -125,4 +126,7 @@ module _ (laws : DeskLaws) (rows : RowLaws) (stay : OthersStay) (carried_law : C
         servers = but.servers;
         homes = but.homes;
         lawful = lawful;
+        prepared = says_prepared laws stay carried_law homed_law service g t stands l server there to_server kept fine bytes (heard_on l is.reading t)
+            (λ c found at. heard_told (link_changed l (with_row is.reading.row) t) c found is.reading.row is.reading.news is.reading.made at);
+        duly = says_duly g l bytes stands.duly;
       }) is.tables)

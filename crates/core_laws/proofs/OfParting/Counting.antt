@@ -3,7 +3,7 @@ use Rattle.std.specs.Prelude.{◌≡◌, ◌⊎◌, ◌<◌, ◌≤◌, ◌-◌,
 use Rattle.std.specs.Option.{option_map}
 use Rattle.std.proofs.Common.{refl, sym, ap, ◌∙◌, subst, arith, inl, inr}
 use Rattle.std.proofs.lemmas.Bool.{true≢false, false≢true}
-use Rattle.std.proofs.lemmas.Option.{none-some}
+use Rattle.std.proofs.lemmas.Option.{none-some, same_Some}
 use Rattle.mx_base.specs.declared.names.Hostgroup.{Hostgroup}
 use Rattle.packet_frame.specs.Packets.{Framed, spellings}
 use Rattle.client_session.specs.Setups.{Setup as Service}
@@ -39,6 +39,7 @@ use Rattle.core_stands.specs.Stands.{Stands}
 use Rattle.core_laws.specs.parting.Frames.{IsGlanced, IsNotInWork, Keeps, KeepsNext, KeepsNextFor, KeepsOr, client_at, glance}
 use Rattle.core_laws.specs.parting.Partings.{AreCounted, AreGivenUp, IsCounted, is_sound}
 use Rattle.core_laws.proofs.OfParting.Giving.{answers_so, apart_below, none_answered, taken_so, written_more}
+use Rattle.core_laws.proofs.OfPrepared.Rows.{RowOf, are_prepared, row_gives_up, row_seated, seat_mapped}
 use Rattle.core_laws.proofs.OfParting.Moving.{SameSessions, any_then, homes_kept, mapped, stands_moved}
 use Rattle.core_laws.proofs.OfParting.Owing.{Alike, answered_alike, bytes_alike, owing_alike, so_far_alike}
 use Rattle.core_laws.proofs.OfParting.Reading.{any_kept}
@@ -280,6 +281,19 @@ module _ (desks : DesksGiveUp) (owes : AnswersOwed) (service : Service) (g : Gro
   server_kept l None at = tt
   server_kept l (Some server) at = kept_row given t server.row (λ c some here. gives.aside c l server some at refl here)
 
+  given_row_of : (c : ClientNo) (row : Client) (p : Option (List ℕ)) → given c ≡ p → option_map (given_row (given c)) (t.clients c) ≡ Some row
+      → is_ended row.desk.seat.phase ≡ false → RowOf t c row
+  given_row_of c row None none there going =
+      let of = seat_mapped (given_row None) (λ r. refl) (t.clients c) row
+      (ap (λ (p : Option (List ℕ)). option_map (given_row p) (t.clients c)) (sym none) ∙ there) in
+      row_seated t c of.old row of.there of.seat going
+  given_row_of c row (Some payload) some there going =
+      let at = gives.in_work c payload some in
+      let made : given_row (Some payload) at.0 ≡ row =
+      same_Some (given_row (Some payload) at.0) row
+      (sym (ap (option_map (given_row (Some payload))) at.2.there) ∙ ap (λ (p : Option (List ℕ)). option_map (given_row p) (t.clients c)) (sym some) ∙ there) in
+      row_gives_up t c at.0 row at.1 (payload ∷ []) at.2.there at.2.in_work (ap (λ (r : Client). r.desk.seat) (sym made)) going
+
   pub counted_so : Stands service (on g (counted g.tale)) (given_up_in given t)
   counted_so = stands_moved g g.tale.story (suc g.tale.moment) g.over t (given_up_in given t) service is (record {
     rows = λ client seated was. client_counted desks owes g client (given client.number) (t.clients client.number)
@@ -291,4 +305,7 @@ module _ (desks : DesksGiveUp) (owes : AnswersOwed) (service : Service) (g : Gro
         (any_kept g t (given_up_in given t) l (t.links l) (is.servers l) (server_kept l (t.links l) refl));
     homes = homes_kept g (on g (counted g.tale)) t (given_up_in given t) (same_sessions given t) is.homes;
     lawful = is.lawful;
+    prepared = are_prepared g (counted g.tale) g.over g.fresh t (given_up_in given t) is.clients (λ m. refl) is.prepared (λ client seated. seated)
+        (λ c row there going. given_row_of c row (given c) refl there going);
+    duly = is.duly;
   })

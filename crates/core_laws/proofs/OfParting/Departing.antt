@@ -58,6 +58,7 @@ use Rattle.core_laws.proofs.OfParting.Forgetting.{carrier_serves, server_there}
 use Rattle.core_laws.proofs.OfParting.Freeing.{ComingStays, OthersStay}
 use Rattle.core_laws.proofs.OfParting.Grounds.{taken_after}
 use Rattle.core_laws.proofs.OfParting.Moving.{any_then, stands_moved}
+use Rattle.core_laws.proofs.OfPrepared.Rows.{KeepsPrepared, RowOf, are_prepared, row_itself, row_kept}
 use Rattle.core_laws.proofs.OfParting.Owing.{owing_alike}
 use Rattle.core_laws.proofs.OfParting.Parting.{kept_so, none_kept_at}
 use Rattle.core_laws.proofs.OfParting.Reading.{LinksStay, SessionsStay, any_kept, any_stays, next_kept, some_is}
@@ -248,7 +249,8 @@ module _ (links_stay : LinksStay) (untouched : SessionsStay) (others_stay : Othe
     at true same = ap is_some (itself_is d same) ∙ sym (ap is_some (ap t.clients (sym (client_of c d same)) ∙ there))
     at false apart = ap is_some (clients_is d apart)
 
-  module _ (now : IsClient later client (left_row by row)) where
+  module _ (now : IsClient later client (left_row by row))
+      (keeps : is_ended seat.phase ≡ false → KeepsPrepared row.desk.seat seat) where
     rows_then : (one : tales.Client) → IsSeated g.tale one → IsClientOr g one (t.clients one.number) → IsClientOr later one (other.clients one.number)
     rows_then one one_seated was = at (nat_eq c.0 one.number.0) refl where
       at : (b : Bool) → nat_eq c.0 one.number.0 ≡ b → IsClientOr later one (other.clients one.number)
@@ -326,7 +328,11 @@ module _ (links_stay : LinksStay) (untouched : SessionsStay) (others_stay : Othe
       plain = at.plain;
       taken_up = taken_after g (Left c ∷ g.tale.story) g.tale.moment over n ordinal at.taken_up;
     }
-    next_for server kept link asking (purposes.Prep n ordinal key) at = at
+    next_for server kept link asking (purposes.Prep n ordinal key) at = record {
+      said = at.said;
+      told = at.told;
+      taken_up = taken_after g (Left c ∷ g.tale.story) g.tale.moment over n ordinal at.taken_up;
+    }
     next_for server kept link asking (purposes.Sync n) at = record { command = at.command; said = at.said }
     next_for server kept link asking purposes.Own at = record { command = at.command; said = at.said }
     next_for server kept link asking (purposes.End n) at = at
@@ -379,7 +385,7 @@ module _ (links_stay : LinksStay) (untouched : SessionsStay) (others_stay : Othe
           row = rows_leave g.setup g.codes g.plan g.tale at r c k.n kept serves.entered k.home.carries k.of k.home.present k.known was.row;
           user = was.user;
           found_rows = was.found_rows;
-          lent = was.lent;
+          lent = λ whole mine unstated. absurd (none-some kept (sym mine));
           parted = λ sound whole some. parted_now at k r.link.state.stage (was.replying sound whole k.home.present) serves.own;
           standing = standing_at later at (stand_so g.setup (Left c ∷ g.tale.story) lawful);
           next = next_then k.server kept (link_in g.setup g.tale at) r.link.next
@@ -484,6 +490,14 @@ module _ (links_stay : LinksStay) (untouched : SessionsStay) (others_stay : Othe
             let old = is.homes.home at server n was_there carries mine kept in
             (old.0, clients_is n.client apart ∙ old.1, old.2, old.3)
 
+    row_before : (d : ClientNo) (r : Client) → other.clients d ≡ Some r → is_ended r.desk.seat.phase ≡ false → (b : Bool) → nat_eq c.0 d.0 ≡ b → RowOf t d r
+    row_before d r here going true same =
+        let one : left_row by row ≡ r = some_is (left_row by row) r (sym (itself_is d same) ∙ here) in
+        let kept = keeps (ap (λ (x : Client). is_ended x.desk.seat.phase) one ∙ going) in
+        row_kept t d row r (ap t.clients (sym (client_of c d same)) ∙ there)
+        (subst (λ (x : Client). KeepsPrepared row.desk.seat x.desk.seat) one kept)
+    row_before d r here going false apart = row_itself t d r (sym (clients_is d apart) ∙ here) going
+
     left_by : Stands service later other
     left_by = stands_moved g (Left c ∷ g.tale.story) g.tale.moment over t other service is (record {
       rows = rows_then;
@@ -492,6 +506,9 @@ module _ (links_stay : LinksStay) (untouched : SessionsStay) (others_stay : Othe
       servers = servers_then;
       homes = homes_then;
       lawful = lawful;
+      prepared = are_prepared g later.tale over g.fresh t other is.clients (λ m. refl) is.prepared (λ one is_seated. is_seated)
+          (λ d r here going. row_before d r here going (nat_eq c.0 d.0) refl);
+      duly = is.duly;
     })
 
     pub left_then : Stands service later (left_in c by t)
@@ -533,7 +550,8 @@ module _ (links_stay : LinksStay) (untouched : SessionsStay) (others_stay : Othe
           collation = λ login account.
               was.collation login (ap account_in (anew.served ∙ sym anew.serves) ∙ account) ∙ ap collation_settings (sym anew.collation);
         } in
-        left_then (row_then (subst (λ (x : Phase). IsPhase (is_ended x) later client (left_row by row)) (sym anew.serves) going)) where
+        left_then (row_then (subst (λ (x : Phase). IsPhase (is_ended x) later client (left_row by row)) (sym anew.serves) going))
+        (λ on. record { going = ap is_ended anew.served; statements = anew.statements; answered = anew.answered ∙ sym anew.idle }) where
           not_both : (login : Login) → phase.Serving login ≡ phase.LoggingIn → ⊥
           not_both login both = cc
 
@@ -551,7 +569,7 @@ module _ (links_stay : LinksStay) (untouched : SessionsStay) (others_stay : Othe
               home_of g.setup.reads (view_on later) c (left_row by row).desk h desk_then
               ∙ ap (λ (n : ℕ). (view.held (name_at c h n)).home) life
               ∙ ap (λ (x : Held). x.home) (at.unborn (suc (view.lives c h)) above).held;
-        })))
+        }))) (λ on. absurd (true≢false (sym ends.ended ∙ on)))
 
 or_true : (b : Bool) → b || true ≡ true
 or_true true = refl

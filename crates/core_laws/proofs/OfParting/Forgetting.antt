@@ -95,4 +95,6 @@ module _ (service : Service) (g : Ground) (t : Tabled) (l : LinkId) (is : Stands
     servers = λ other. rest_by other (nat_eq l.0 other.0) refl;
     homes = homes_so;
     lawful = is.lawful;
+    prepared = is.prepared;
+    duly = is.duly;
   })

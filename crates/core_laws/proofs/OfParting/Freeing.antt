@@ -47,12 +47,13 @@ use Rattle.core_tables.specs.declared.client.Client.{Client}
 use Rattle.core_tables.specs.declared.server.Server.{Server}
 use Rattle.core_stands.specs.Clients.{IsClient, IsClientOr, IsForgotten, IsPhase, IsWorking, IsWorkingOr}
 use Rattle.core_stands.specs.Grounds.{Ground, on, view_on}
-use Rattle.core_stands.specs.Servers.{IsNextFor, IsNextOf, IsReplyingAt, IsServer, IsServerBy, IsServerOr}
+use Rattle.core_stands.specs.Servers.{IsNextFor, IsNextOf, IsReplyingAt, IsServer, IsServerBy, IsServerOr, keyed_text}
 use Rattle.core_stands.specs.Stands.{IsAt, Stands}
-use Rattle.core_laws.proofs.OfParting.Carrying.{row_carries}
+use Rattle.core_laws.proofs.OfParting.Named.{row_carries}
 use Rattle.core_laws.proofs.OfParting.Forgetting.{carrier_serves, server_there}
 use Rattle.core_laws.proofs.OfParting.Grounds.{taken_after}
 use Rattle.core_laws.proofs.OfParting.Homes.{homes_so}
+use Rattle.core_laws.proofs.OfPrepared.Rows.{are_prepared, row_seated, seat_changed}
 use Rattle.core_laws.proofs.OfParting.Moving.{HomesBut, homes_but, known_after, mapped, some_of, stands_moved}
 use Rattle.core_laws.proofs.OfParting.Reading.{LinksStay, SessionsStay, any_kept, any_stays, server_kept, some_is}
 use Rattle.core_laws.proofs.OfParting.Redesking.{flip_eq, home_of, life_of, name_path, past_so, present_so, row_redesked}
@@ -367,7 +368,11 @@ module _ (links_stay : LinksStay) (untouched : SessionsStay) (others_stay : Othe
     plain = at.plain;
     taken_up = taken_after g (Freed l ∷ g.tale.story) g.tale.moment g.over m ordinal at.taken_up;
   }
-  next_for asking (purposes.Prep m ordinal key) at = at
+  next_for asking (purposes.Prep m ordinal key) at = record {
+    said = λ due there same. readied_then asking (story.Prep m due.key (keyed_text g due)) (at.said due there same);
+    told = at.told;
+    taken_up = taken_after g (Freed l ∷ g.tale.story) g.tale.moment g.over m ordinal at.taken_up;
+  }
   next_for asking (purposes.Sync m) at = record { command = at.command; said = readied_then asking (story.Sync m at.command) at.said }
   next_for asking purposes.Own at = record { command = at.command; said = readied_then asking (story.Own at.command) at.said }
   next_for asking (purposes.End m) at = readied_then asking (story.End m) at
@@ -395,7 +400,7 @@ module _ (links_stay : LinksStay) (untouched : SessionsStay) (others_stay : Othe
         row = rows_free g.setup g.codes g.plan g.tale l done.server.row serves.entered done.quiet was.row;
         user = stands.user;
         found_rows = stands.found_rows;
-        lent = λ lent. absurd (false≢true lent);
+        lent = λ kept mine unstated. tt;
         parted = λ sound kept some. absurd (false≢true some);
         standing = standing_at later l (stand_so g.setup (Freed l ∷ g.tale.story) lawful);
         next = subst (λ (x : Link). IsNextOf done.server.row.link.next later other (rows.freed done.server.row) x) (sym link_is) (next_then done.server.row.link.next stands.next);
@@ -509,6 +514,11 @@ module _ (links_stay : LinksStay) (untouched : SessionsStay) (others_stay : Othe
     servers = λ at. servers_by at (nat_eq l.0 at.0) refl;
     homes = homes_but g later t other l homes_but_so is.homes;
     lawful = lawful;
+    prepared = are_prepared g later.tale g.over g.fresh t other is.clients (λ m. refl) is.prepared (λ client seated. seated)
+        (λ c row there going.
+        let of = seat_changed freed_row (λ h r. refl) (present_in l t) c (t.clients c) row there in
+        row_seated t c of.old row of.there of.seat going);
+    duly = is.duly;
   })
 
 -- or not

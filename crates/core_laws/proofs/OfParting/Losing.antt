@@ -1,9 +1,9 @@
 -- A link is lost, and the entry is counted.
-use Rattle.std.specs.Prelude.{◌≡◌, ◌⊎◌, ◌<◌, ◌^◌, ℕ, suc, Bool, true, false, ◌&&◌, nat_eq, if◌then◌else◌, is_some, ◌∷◌, List, Option, Some, None}
+use Rattle.std.specs.Prelude.{◌≡◌, ◌⊎◌, ◌<◌, ◌^◌, ℕ, suc, Bool, true, false, ◌&&◌, nat_eq, if◌then◌else◌, is_some, ◌∷◌, List, Option, Some, None, []}
 use Rattle.std.specs.Option.{option_map, option_map_or}
 use Rattle.std.proofs.Common.{refl, sym, ap, ◌∙◌, subst, arith, inl, inr}
 use Rattle.std.proofs.lemmas.Bool.{true≢false, false≢true}
-use Rattle.std.proofs.lemmas.Option.{none-some}
+use Rattle.std.proofs.lemmas.Option.{none-some, same_Some}
 use Rattle.mx_base.specs.declared.names.Hostgroup.{Hostgroup}
 use Rattle.client_session.specs.Setups.{Setup as Service}
 use Rattle.server_rule.specs.Classes.{Reads}
@@ -43,21 +43,24 @@ use Rattle.core_tables.specs.declared.client.Client.{Client}
 use Rattle.core_tables.specs.declared.server.Server.{Server}
 use Rattle.core_stands.specs.Clients.{IsClient, IsClientOr, IsForgotten}
 use Rattle.core_stands.specs.Grounds.{Ground, on, view_on}
-use Rattle.core_stands.specs.Servers.{IsNextFor, IsNextOf, IsServer, IsServerBy, IsServerOr}
+use Rattle.core_stands.specs.Servers.{IsNextFor, IsNextOf, IsServer, IsServerBy, IsServerOr, keyed_text}
 use Rattle.core_stands.specs.Stands.{IsAt, Stands}
 use Rattle.core_laws.specs.parting.Frames.{IsGlanced, KeepsOr, SparesNext, SparesNextFor, SparesRowOr, glance}
 use Rattle.core_laws.specs.parting.Partings.{AreCounted, AreGivenUp, IsCounted, IsLosing}
-use Rattle.core_laws.proofs.OfParting.Carrying.{row_carries}
+use Rattle.core_laws.proofs.OfParting.Named.{row_carries}
 use Rattle.core_laws.proofs.OfParting.Counting.{AnswersOwed, DesksGiveUp, client_counted, kept_next, kept_row, sessions_so}
 use Rattle.core_laws.proofs.OfParting.Forgetting.{server_there}
 use Rattle.core_laws.proofs.OfParting.Freeing.{ComingStays, OthersStay, PartedStays, changed_from, changed_glanced, changed_there, glanced_or, glanced_row}
 use Rattle.core_laws.proofs.OfParting.Grounds.{taken_after}
 use Rattle.core_laws.proofs.OfParting.Homes.{homes_so}
+use Rattle.core_laws.proofs.OfPrepared.Rows.{RowOf, are_prepared, row_gives_up, row_seated, seat_changed, seat_mapped}
 use Rattle.core_laws.proofs.OfParting.Moving.{HomesBut, any_then, homes_but, known_after, mapped, some_of, stands_moved}
 use Rattle.core_laws.proofs.OfParting.Reading.{LinksStay, SessionsStay, any_kept, any_stays, next_kept, some_is}
 use Rattle.core_laws.proofs.OfParting.Redesking.{flip_eq, home_of, life_of, name_path, past_so, present_so, row_redesked}
 use Rattle.core_laws.proofs.OfParting.Same.{each_of}
 use Rattle.core_laws.proofs.OfParting.Standing.{stand_so, standing_at}
+use Rattle.client_seat.specs.Answers.{answered}
+use Rattle.client_seat.specs.Seats.{is_ended}
 
 -- The laws that are composed.
 
@@ -391,7 +394,11 @@ module _ (links_stay : LinksStay) (untouched : SessionsStay) (others_stay : Othe
     plain = at.plain;
     taken_up = taken_after g (Gone l ∷ g.tale.story) (suc g.tale.moment) g.over m ordinal at.taken_up;
   }
-  next_for row asking (purposes.Prep m ordinal key) at = at
+  next_for row asking (purposes.Prep m ordinal key) at = record {
+    said = λ due there same. readied_then row asking (story.Prep m due.key (keyed_text g due)) (at.said due there same);
+    told = at.told;
+    taken_up = taken_after g (Gone l ∷ g.tale.story) (suc g.tale.moment) g.over m ordinal at.taken_up;
+  }
   next_for row asking (purposes.Sync m) at = record { command = at.command; said = readied_then row asking (story.Sync m at.command) at.said }
   next_for row asking purposes.Own at = record { command = at.command; said = readied_then row asking (story.Own at.command) at.said }
   next_for row asking (purposes.End m) at = readied_then row asking (story.End m) at
@@ -417,7 +424,7 @@ module _ (links_stay : LinksStay) (untouched : SessionsStay) (others_stay : Othe
         row = rows_go g.setup g.codes g.plan g.tale l row was.row;
         user = was.user;
         found_rows = was.found_rows;
-        lent = was.lent;
+        lent = λ kept mine unstated. absurd (true≢false kept);
         parted = λ sound kept some. absurd (true≢false kept);
         standing = standing_at later l (stand_so g.setup (Gone l ∷ g.tale.story) lawful);
         next = subst (λ (y : Link). IsNextOf row.link.next later other (rows.lost row) y) (sym link_is) (next_then row row.link.next next);
@@ -516,6 +523,22 @@ module _ (links_stay : LinksStay) (untouched : SessionsStay) (others_stay : Othe
         (ap (λ (b : Bool). if b then option_map lost_row (t.links l) else t.links at) (sym same) ∙ there) in
         true≢false (ap (λ (s : Server). s.row.lost) old.2 ∙ kept)
 
+  row_before : (c : ClientNo) (row : Client) (given_to : Option (List ℕ)) → given c ≡ given_to → other.clients c ≡ Some row
+      → is_ended row.desk.seat.phase ≡ false → RowOf t c row
+  row_before c row None none there going =
+      let was = seat_mapped (given_row None) (λ r. refl) (changed_for gone_row p c (t.clients c)) row
+      (ap (λ (x : Option (List ℕ)). option_map (given_row x) (changed_for gone_row p c (t.clients c))) (sym none) ∙ there) in
+      let of = seat_changed gone_row (λ h r. refl) p c (t.clients c) was.old was.there in
+      row_seated t c of.old row of.there (was.seat ∙ of.seat) going
+  row_before c row (Some payload) some there going =
+      let at = gives.in_work c payload some in
+      let mid = mapped (given_row (Some payload)) (changed_for gone_row p c (t.clients c)) row
+      (ap (λ (x : Option (List ℕ)). option_map (given_row x) (changed_for gone_row p c (t.clients c))) (sym some) ∙ there) in
+      let of = seat_changed gone_row (λ h r. refl) p c (t.clients c) mid.0 mid.1 in
+      let one : of.old ≡ at.0 = same_Some of.old at.0 (sym of.there ∙ at.2.there) in
+      row_gives_up t c at.0 row at.1 (payload ∷ []) at.2.there at.2.in_work
+      (ap (λ (r : Client). r.desk.seat) (sym mid.2) ∙ ap (answered (payload ∷ [])) (of.seat ∙ ap (λ (r : Client). r.desk.seat) one)) going
+
   pub lost_so : Stands service later other
   lost_so = stands_moved g (Gone l ∷ g.tale.story) (suc g.tale.moment) g.over t other service is (record {
     rows = rows_then;
@@ -524,4 +547,7 @@ module _ (links_stay : LinksStay) (untouched : SessionsStay) (others_stay : Othe
     servers = λ at. servers_by at (nat_eq l.0 at.0) refl;
     homes = homes_but g later t other l homes_but_so is.homes;
     lawful = lawful;
+    prepared = are_prepared g later.tale g.over g.fresh t other is.clients (λ m. refl) is.prepared (λ client seated. seated)
+        (λ c row there going. row_before c row (given c) refl there going);
+    duly = is.duly;
   })

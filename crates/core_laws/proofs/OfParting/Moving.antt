@@ -31,7 +31,7 @@ use Rattle.core_tables.specs.declared.server.Server.{Server}
 use Rattle.core_stands.specs.Clients.{IsClient, IsClientOr}
 use Rattle.core_stands.specs.Grounds.{Ground}
 use Rattle.core_stands.specs.Servers.{IsNextFor, IsNextOf, IsReplyingAt, IsReplyingFor, IsServer, IsServerBy, IsServerOr}
-use Rattle.core_stands.specs.Stands.{AreClients, AreHomes, IsAt, IsKnown, Stands}
+use Rattle.core_stands.specs.Stands.{AreClients, AreDuly, AreHomes, ArePrepared, IsAt, IsKnown, Stands}
 use Rattle.core_laws.proofs.OfParting.Grounds.{parted_after, taken_after}
 use Rattle.core_laws.proofs.OfParting.Same.{known_so, row_of}
 use Rattle.core_laws.proofs.OfParting.Standing.{stand_so, standing_at}
@@ -64,6 +64,8 @@ module _ (g : Ground) (story : Story) (moment : ℕ) (over : ClientNo → Bool) 
       pub servers : (l : LinkId) → IsServerOr after other l (other.links l)
       pub homes : AreHomes after other
       pub lawful : IsLawful g.setup story
+      pub prepared : ArePrepared after other
+      pub duly : AreDuly g.setup g.plan story
 
     at_moved : Parts → (client : tales.Client) → IsSeated g.tale client → IsAt g t client → IsAt after other client
     at_moved parts client seated is = record {
@@ -97,6 +99,8 @@ module _ (g : Ground) (story : Story) (moment : ℕ) (over : ClientNo → Bool) 
       servers = parts.servers;
       homes = parts.homes;
       lawful = parts.lawful;
+      prepared = parts.prepared;
+      duly = parts.duly;
     }
 
 -- Rows of links read no moment, and not who ended.
@@ -116,7 +120,11 @@ module _ (g : Ground) (lawful : IsLawful g.setup g.tale.story) (moment : ℕ) (o
       plain = is.plain;
       taken_up = taken_after g g.tale.story moment over n ordinal is.taken_up;
     }
-    next_for asking (purposes.Prep n ordinal key) is = is
+    next_for asking (purposes.Prep n ordinal key) is = record {
+      said = is.said;
+      told = is.told;
+      taken_up = taken_after g g.tale.story moment over n ordinal is.taken_up;
+    }
     next_for asking (purposes.Sync n) is = record { command = is.command; said = is.said }
     next_for asking purposes.Own is = record { command = is.command; said = is.said }
     next_for asking (purposes.End n) is = is

@@ -38,7 +38,9 @@ use Rattle.core_stands.specs.Grounds.{Ground, on, view_on}
 use Rattle.core_stands.specs.Servers.{IsFirst, IsNextFor, IsNextOf, IsReplyingAt, IsReplyingFor, IsServer, IsServerBy, IsServerOr}
 use Rattle.core_laws.proofs.OfParting.Grounds.{parted_after, taken_after}
 use Rattle.core_laws.proofs.OfParting.Standing.{stand_so, standing_at}
-use Rattle.core_laws.specs.parting.Frames.{Glance, IsGlanced, IsNotInWork, IsStated, Keeps, KeepsNext, KeepsNextFor, KeepsOr, SparesNext, SparesNextFor, SparesRow, SparesRowOr, Stated, client_at, client_in, glance, stated}
+use Rattle.core_laws.proofs.OfParting.Ahead.{ahead_elsewhere}
+use Rattle.core_laws.proofs.OfParting.Named.{row_carries}
+use Rattle.core_laws.specs.parting.Frames.{Glance, IsGlanced, IsNotInWork, IsStated, Keeps, KeepsNext, KeepsNextFor, KeepsOr, SparesDue, SparesNext, SparesNextFor, SparesRow, SparesRowOr, Stated, client_at, client_in, glance, stated}
 
 pub some_is : {A : Type 0} (a b : A) → Some a ≡ Some b → a ≡ b
 some_is a b is = cc
@@ -125,21 +127,21 @@ module _ (setup : Setup) (seen : View) (n : SessionName) (ordinal : ℕ) (due : 
         ∙ same_message (record { client = m.client; ordinal = d.ordinal }) in
         absurd (true≢false (sym here ∙ apart))
 
-  pub due_before : (code : ℕ) (e : Happening) → SparesNextFor (purposes.Statement n ordinal code) e → due.ordinal ≡ ordinal
+  pub due_before : (e : Happening) → SparesDue n ordinal e → due.ordinal ≡ ordinal
       → (view_step setup seen e).dues n ≡ Some due → seen.dues n ≡ Some due
-  due_before code (BecameDue client hostgroup at key command multiplex) apart same there =
+  due_before (BecameDue client hostgroup at key command multiplex) apart same there =
       new_due (present seen client hostgroup) (due_of seen (present seen client hostgroup) at key command multiplex) apart same there
-  due_before code (Sent link question) apart same there = sent_due question link there
-  due_before code (Heard link reply) apart same there = heard_due (seen.links link).stage link reply there
-  due_before code (LoggedIn link server account) apart same there = there
-  due_before code (Ran link) apart same there = there
-  due_before code (Freed link) apart same there = there
-  due_before code (Unprepared link number) apart same there = there
-  due_before code (Dropped link) apart same there = there
-  due_before code (Gone link) apart same there = there
-  due_before code (Left client) apart same there = there
-  due_before code Broke apart same there = there
-  due_before code (Mirrored client job) apart same there = there
+  due_before (Sent link question) apart same there = sent_due question link there
+  due_before (Heard link reply) apart same there = heard_due (seen.links link).stage link reply there
+  due_before (LoggedIn link server account) apart same there = there
+  due_before (Ran link) apart same there = there
+  due_before (Freed link) apart same there = there
+  due_before (Unprepared link number) apart same there = there
+  due_before (Dropped link) apart same there = there
+  due_before (Gone link) apart same there = there
+  due_before (Left client) apart same there = there
+  due_before Broke apart same there = there
+  due_before (Mirrored client job) apart same there = there
 
 -- Something happens elsewhere, by the laws of row_laws.
 
@@ -158,13 +160,17 @@ module _ (link_stays : LinksStay) (untouched : SessionsStay) (g : Ground) (t : T
     next_for : (link : Link) (asking : Asking) (purpose : Purpose) → SparesNextFor purpose e → IsNextFor purpose g t row link asking
         → IsNextFor purpose after t row link asking
     next_for link asking (purposes.Statement n ordinal key) spares is = record {
-      said = λ due there same. is.said due (due_before g.setup (view_on g) n ordinal due key e spares same there) same;
+      said = λ due there same. is.said due (due_before g.setup (view_on g) n ordinal due e spares same there) same;
       first = is.first;
-      text = λ due there same. is.text due (due_before g.setup (view_on g) n ordinal due key e spares same there) same;
+      text = λ due there same. is.text due (due_before g.setup (view_on g) n ordinal due e spares same there) same;
       plain = is.plain;
       taken_up = taken_after g (e ∷ g.tale.story) g.tale.moment g.over n ordinal is.taken_up;
     }
-    next_for link asking (purposes.Prep n ordinal key) spares is = is
+    next_for link asking (purposes.Prep n ordinal key) spares is = record {
+      said = λ due there same. is.said due (due_before g.setup (view_on g) n ordinal due e spares same there) same;
+      told = λ due there same. is.told due (due_before g.setup (view_on g) n ordinal due e spares same there) same;
+      taken_up = taken_after g (e ∷ g.tale.story) g.tale.moment g.over n ordinal is.taken_up;
+    }
     next_for link asking (purposes.Sync n) spares is = record { command = is.command; said = is.said }
     next_for link asking purposes.Own spares is = record { command = is.command; said = is.said }
     next_for link asking (purposes.End n) spares is = is
@@ -215,7 +221,9 @@ module _ (link_stays : LinksStay) (untouched : SessionsStay) (g : Ground) (t : T
       row = row_apart is.row other spares;
       user = is.user;
       found_rows = is.found_rows;
-      lent = is.lent;
+      lent = λ kept mine unstated.
+          ahead_elsewhere g.setup g.tale.story e l row.link.state.carries lawful other (row_carries g.setup g.codes g.plan g.tale l row is.row)
+          (is.lent kept mine unstated);
       parted = λ sound kept some. parted_after g (e ∷ g.tale.story) g.tale.moment g.over (λ c ended. ended) row.link.state.stage (is.parted sound kept some);
       standing = standing_at after l (stand_so g.setup (e ∷ g.tale.story) lawful);
       next = subst (λ (link : Link). IsNextOf row.link.next after t row link) (sym (link_stays g.setup (view_on g) e l other))
@@ -273,7 +281,7 @@ module _ (g : Ground) (t other : Tabled) (l : LinkId) (row : Row) where
   for_kept : (link : Link) (asking : Asking) (purpose : Purpose) → KeepsNextFor t other purpose → IsNextFor purpose g t row link asking
       → IsNextFor purpose g other row link asking
   for_kept link asking (purposes.Statement n ordinal key) keeps is = record { said = is.said; first = first_kept n ordinal keeps is.first; text = is.text; plain = is.plain; taken_up = is.taken_up }
-  for_kept link asking (purposes.Prep n ordinal key) keeps is = is
+  for_kept link asking (purposes.Prep n ordinal key) keeps is = record { said = is.said; told = is.told; taken_up = is.taken_up }
   for_kept link asking (purposes.Sync n) keeps is = is
   for_kept link asking purposes.Own keeps is = is
   for_kept link asking (purposes.End n) keeps is = is

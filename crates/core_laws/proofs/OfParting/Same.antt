@@ -68,6 +68,8 @@ module _ (g : Ground) (t other : Tabled) (same : IsSame other t) where
     servers = λ l. subst (λ (x : Option Server). IsServerOr g other l x) (sym (same.links l)) (unread_so g t other l (t.links l) (is.servers l) same.clients);
     homes = homes_same is.homes;
     lawful = is.lawful;
+    prepared = λ client seated row there going. is.prepared client seated row (sym (same.clients client.number) ∙ there) going;
+    duly = is.duly;
   }
 
 -- whose row it is

@@ -12,7 +12,7 @@ use Rattle.log_story.specs.Tale as tales
 use Rattle.client_seat.specs.Seats.{is_ended}
 use Rattle.client_desk.specs.declared.desk.Desk.{Desk}
 use Rattle.client_desk.specs.declared.work.Work.{Work}
-use Rattle.desk_laws.specs.Spares.{SparesAnswered, SparesAsked, SparesToCome, answered_for, asked_for, is_of, touches}
+use Rattle.desk_laws.specs.Spares.{SparesAnswered, SparesAsked, SparesSent, SparesToCome, answered_for, asked_for, is_of, touches}
 use Rattle.desk_laws.specs.Stands.{AreToCome, IsDesk, name_at}
 use Rattle.core_tables.specs.declared.client.Client.{Client}
 use Rattle.core_stands.specs.Clients.{IsClientOr, IsPhase, IsWorkingOr}
@@ -30,16 +30,24 @@ asked_spared c from (Own command) apart = tt
 asked_spared c from (End n) apart = tt
 asked_spared c from (Capture n) apart = tt
 
+sent_spared : (view : View) (c : ClientNo) (from : ℕ) (question : Question) → is_of c (asked_for question) ≡ false → SparesSent view c from question
+sent_spared view c from (Statement n due) apart = inl apart
+sent_spared view c from (Prep n key text) apart = tt
+sent_spared view c from (Sync n command) apart = tt
+sent_spared view c from (Own command) apart = tt
+sent_spared view c from (End n) apart = tt
+sent_spared view c from (Capture n) apart = tt
+
 answered_spared : (c : ClientNo) (from : ℕ) (stage : Stage) → is_of c (answered_for stage) ≡ false → SparesAnswered c from stage
 answered_spared c from Quiet apart = tt
 answered_spared c from (Asked question) apart = tt
 answered_spared c from (Answered question) apart = asked_spared c from question apart
 
 pub coming_spared : (view : View) (c : ClientNo) (from : ℕ) (e : Happening) → touches view e c ≡ false → SparesToCome view c from e
-coming_spared view c from (Sent link question) apart = asked_spared c from question apart
+coming_spared view c from (Sent link question) apart = sent_spared view c from question apart
 coming_spared view c from (Heard link reply) apart = answered_spared c from (view.links link).stage apart
 coming_spared view c from (LoggedIn link server account) apart = tt
-coming_spared view c from (BecameDue client hostgroup ordinal key command multiplex) apart = tt
+coming_spared view c from (BecameDue client hostgroup ordinal key command multiplex) apart = apart
 coming_spared view c from (Ran link) apart = tt
 coming_spared view c from (Freed link) apart = tt
 coming_spared view c from (Unprepared link number) apart = tt

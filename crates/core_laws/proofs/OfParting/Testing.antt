@@ -17,7 +17,7 @@ use Rattle.private_model.specs.View.{Held, Link, View, present, session_in}
 use Rattle.log_story.specs.Plan as plan
 use Rattle.log_story.specs.Plan.{StepText}
 use Rattle.log_story.specs.Servers as servers
-use Rattle.log_story.specs.Servers.{is_done, is_left}
+use Rattle.log_story.specs.Servers.{is_done, is_given_up as is_given_up_by, is_left}
 use Rattle.log_story.specs.Tale.{Wire, is_reset_step, is_to_server, link_in}
 use Rattle.lent_link.specs.Links.{is_in}
 use Rattle.lent_link.specs.Rests as rests
@@ -46,14 +46,15 @@ use Rattle.row_laws.specs.Written.{IsStepOf}
 use Rattle.client_desk.specs.Desks as desks
 use Rattle.client_desk.specs.declared.session.Session.{Session}
 use Rattle.desk_laws.specs.Stands.{held_of, name_at}
-use Rattle.core_tables.specs.Parting.{at_desk, is_done_for, is_done_in}
+use Rattle.core_tables.specs.Parting.{at_desk, is_done_for, is_done_in, is_given_up}
 use Rattle.core_tables.specs.Tables.{Tabled}
 use Rattle.core_tables.specs.declared.client.Client.{Client}
 use Rattle.core_tables.specs.declared.server.Server.{Server}
 use Rattle.core_stands.specs.Grounds.{Ground, view_on}
-use Rattle.core_stands.specs.Servers.{IsServerBy, is_lent, is_stating}
+use Rattle.core_stands.specs.Servers.{IsAhead, IsServerBy, OfLent, is_stating}
 use Rattle.core_stands.specs.Stands.{Stands}
-use Rattle.core_laws.proofs.OfParting.Carrying.{row_carries}
+use Rattle.core_laws.proofs.OfParting.Awaiting.{given_up_so}
+use Rattle.core_laws.proofs.OfParting.Named.{row_carries}
 use Rattle.core_laws.proofs.OfParting.Forgetting.{server_there}
 use Rattle.core_laws.proofs.OfParting.Reading.{some_is}
 use Rattle.core_laws.proofs.OfParting.Redesking.{name_path}
@@ -101,10 +102,32 @@ seen_joined : (reads : Reads) (codes : Codes) (state : LinkState) (link : Link) 
 seen_joined reads codes state link n at own (inl is) = is.carries ∙ ap carried_of at
 seen_joined reads codes state link n at own (inr is) = is.carries ∙ ap carried_of (ran_carried state.stage state n at own)
 
+-- a quiet link carries whom its row says, as the law has it
+seen_quietly : (reads : Reads) (codes : Codes) (state : LinkState) (link : Link) → is_quiet state.stage ≡ true → IsSeen reads codes state link
+    → link.carries ≡ carried_of state.carries
+seen_quietly reads codes state link quiet (inl is) = is.carries
+seen_quietly reads codes state link quiet (inr is) = is.carries ∙ ap carried_of (by state.stage refl quiet) where
+  by : (stage : Stage) → state.stage ≡ stage → is_quiet stage ≡ true → (ran_in stage state).carries ≡ state.carries
+  by Quiet at quiet = refl
+  by (Asked asking) at quiet = absurd (false≢true quiet)
+  by (Answered asking) at quiet = refl
+
 -- The session.
 
 abbrev inner : Pin → Option ℕ → (left : Bool) → Bool
 inner pin id left = not (needs_reset pin) && ((not (is_pinned pin) && is_some id) || left)
+
+abbrev inner_lent : Pin → Option ℕ → (given left : Bool) → Bool
+inner_lent pin id given left = not (needs_reset pin) && (((not (is_pinned pin) && is_some id) && given) || left)
+
+-- of a session that was left it doesn't matter what is given up
+lent_gone : (pin : Pin) (id : Option ℕ) (one other : Bool) → inner_lent pin id one true ≡ inner_lent pin id other true
+lent_gone pin id one other =
+    ap (λ (b : Bool). not (needs_reset pin) && b) (ends_true ((not (is_pinned pin) && is_some id) && one)
+    ∙ sym (ends_true ((not (is_pinned pin) && is_some id) && other))) where
+      ends_true : (a : Bool) → (a || true) ≡ true
+      ends_true true = refl
+      ends_true false = refl
 
 record Facts (seen : View) (n : SessionName) (s : links.Session) : Type 0 where
   pin : (seen.held n).pin ≡ s.pin
@@ -177,10 +200,11 @@ module _ (service : Service) (g : Ground) (t : Tabled) (l : LinkId) (is : Stands
   never false b c off = refl
   never true b c off = ap (λ (x : Bool). x && c) off
 
-  is_asked_not : (stage : Stage) → is_stating stage ≡ true → is_quiet stage ≡ false
-  is_asked_not Quiet asked = absurd (false≢true asked)
-  is_asked_not (Asked asking) asked = refl
-  is_asked_not (Answered asking) asked = refl
+  -- a quiet link has no statement there
+  quiet_stateless : (stage : Stage) → is_quiet stage ≡ true → is_stating stage ≡ false
+  quiet_stateless Quiet quiet = refl
+  quiet_stateless (Asked asking) quiet = absurd (false≢true quiet)
+  quiet_stateless (Answered asking) quiet = refl
 
   open_so : (serves : Serves g.setup.reads g.codes (g.plan.logins l) (view_on g) row wire link) (n : SessionName) → row.link.state.carries ≡ Joined n → (lost : Bool) → row.lost ≡ lost
       → test ≡ row_rests.is_done row (at_desk n (t.clients n.client)) false
@@ -200,25 +224,85 @@ module _ (service : Service) (g : Ground) (t : Tabled) (l : LinkId) (is : Stands
       ∙ sym (ap (λ (c : Carried). not row.lost && (is_quiet row.link.state.stage && (not (rests.is_resetting row.link.step) && dones.is_done_by c s false))) at)
       ∙ sym (ap (λ (x : logins.Stage). not row.lost && (is_in x && (is_quiet row.link.state.stage && (not (rests.is_resetting row.link.step) && dones.is_done_by row.link.state.carries s false)))) serves.inside)
 
-  serve_test : (serves : Serves g.setup.reads g.codes (g.plan.logins l) (view_on g) row wire link) → (is_lent row.link.state.carries ≡ true → is_stating row.link.state.stage ≡ true)
+  -- where a link is joined, what is given up is of no matter
+  joined_given : (n : SessionName) → row.link.state.carries ≡ Joined n → (given : Bool)
+      → row_rests.is_done row (at_desk n (t.clients n.client)) false ≡ row_rests.is_done row (at_desk n (t.clients n.client)) given
+  joined_given n at given =
+      ap (λ (c : Carried). not row.lost && (is_in row.link.login.stage && (is_quiet row.link.state.stage
+      && (not (rests.is_resetting row.link.step) && dones.is_done_by c (session_of row (at_desk n (t.clients n.client))) false)))) at
+      ∙ sym (ap (λ (c : Carried). not row.lost && (is_in row.link.login.stage && (is_quiet row.link.state.stage
+      && (not (rests.is_resetting row.link.step) && dones.is_done_by c (session_of row (at_desk n (t.clients n.client))) given)))) at)
+
+  abbrev IsLent : Type 0
+  IsLent = row.lost ≡ false → row.left ≡ None → is_stating row.link.state.stage ≡ false → OfLent row.link.state.carries (IsAhead (view_on g))
+
+  -- a link that is lent, and on which no statement stands
+
+  module _ (serves : Serves g.setup.reads g.codes (g.plan.logins l) (view_on g) row wire link) (lent : IsLent) (n : SessionName)
+      (at : row.link.state.carries ≡ Lent n) where
+    abbrev desk : links.Session
+    desk = at_desk n (t.clients n.client)
+
+    abbrev law_given : Bool
+    law_given = is_given_up_by g.plan g.tale.moment n ((view_on g).dues n)
+
+    abbrev given : Bool
+    given = is_given_up n (t.clients n.client)
+
+    given_same : (left : Option LeftSession) → row.left ≡ left → row.lost ≡ false → is_quiet row.link.state.stage ≡ true
+        → inner_lent (session_of row desk).pin (session_of row desk).id law_given (not (session_of row desk).present)
+        ≡ inner_lent (session_of row desk).pin (session_of row desk).id given (not (session_of row desk).present)
+    given_same None mine here quiet =
+        ap (λ (b : Bool). inner_lent (session_of row desk).pin (session_of row desk).id b (not (session_of row desk).present))
+        (given_up_so service g t l is server there n (ap name_in at) here mine
+        (subst (λ (c : Carried). OfLent c (IsAhead (view_on g))) at (lent here mine (quiet_stateless row.link.state.stage quiet))))
+    given_same (Some left) mine here quiet =
+        let gone : not (session_of row desk).present ≡ true = ap (λ (x : Option LeftSession). not (desk_or_left x desk).present) mine in
+        ap (λ (b : Bool). inner_lent (session_of row desk).pin (session_of row desk).id law_given b) gone
+        ∙ lent_gone (session_of row desk).pin (session_of row desk).id law_given given
+        ∙ sym (ap (λ (b : Bool). inner_lent (session_of row desk).pin (session_of row desk).id given b) gone)
+
+    lent_open : (lost : Bool) → row.lost ≡ lost → is_quiet row.link.state.stage ≡ true → test ≡ row_rests.is_done row desk given
+    lent_open true lost quiet =
+        ap (λ (u : Bool). u && (servers.is_quiet link.stage && (not (is_reset_step wire.step) && servers.is_done_by g.plan g.tale.moment (view_on g) link.carries)))
+        (serves.usable ∙ ap not lost)
+        ∙ sym (ap (λ (x : Bool). not x && rests.is_done row.link (session_of row desk) given) lost)
+    lent_open false lost quiet =
+        let whose : IsWhose (view_on g) (Lent n) row.left = subst (λ (c : Carried). IsWhose (view_on g) c row.left) at (serves.whose lost) in
+        let facts = facts_by n lost (ap name_in at) row.left refl whose in
+        let s : links.Session = session_of row desk in
+        let quiet_same = seen_quiet g.setup.reads g.codes row.link.state link serves.state in
+        let carries : link.carries ≡ view.Lent n = seen_quietly g.setup.reads g.codes row.link.state link quiet serves.state ∙ ap carried_of at in
+        let reset = step_reset row.link.step wire.step serves.step in
+        ap (λ (c : view.Carried). link.usable && (servers.is_quiet link.stage && (not (is_reset_step wire.step) && servers.is_done_by g.plan g.tale.moment (view_on g) c))) carries
+        ∙ (λ i. serves.usable i && (quiet_same i && (not (reset i) && inner_lent (facts.pin i) (facts.id i) law_given (facts.left i))))
+        ∙ ap (λ (b : Bool). not row.lost && (is_quiet row.link.state.stage && (not (rests.is_resetting row.link.step) && b))) (given_same row.left refl lost quiet)
+        ∙ sym (ap (λ (c : Carried). not row.lost && (is_quiet row.link.state.stage && (not (rests.is_resetting row.link.step) && dones.is_done_by c s given))) at)
+        ∙ sym (ap (λ (x : logins.Stage). not row.lost && (is_in x && (is_quiet row.link.state.stage && (not (rests.is_resetting row.link.step) && dones.is_done_by row.link.state.carries s given)))) serves.inside)
+
+    lent_test : (quiet : Bool) → is_quiet row.link.state.stage ≡ quiet → test ≡ row_rests.is_done row desk given
+    lent_test true quiet = lent_open row.lost refl quiet
+    lent_test false quiet =
+        never link.usable (servers.is_quiet link.stage) (not (is_reset_step wire.step) && servers.is_done_by g.plan g.tale.moment (view_on g) link.carries)
+        (seen_quiet g.setup.reads g.codes row.link.state link serves.state ∙ quiet)
+        ∙ sym (ap (λ (b : Bool). not row.lost && b) (never (is_in row.link.login.stage) (is_quiet row.link.state.stage)
+        (not (rests.is_resetting row.link.step) && dones.is_done_by row.link.state.carries (session_of row desk) given) quiet)
+        ∙ and_false (not row.lost)) where
+          and_false : (a : Bool) → a && false ≡ false
+          and_false true = refl
+          and_false false = refl
+
+  serve_test : (serves : Serves g.setup.reads g.codes (g.plan.logins l) (view_on g) row wire link) → IsLent
       → (carries : Carried) → row.link.state.carries ≡ carries → session_in link.carries ≡ name_in carries → test ≡ is_done_for t server (name_in carries)
   serve_test serves lent Nobody at name =
       ap (λ (b : Bool). link.usable && (servers.is_quiet link.stage && (not (is_reset_step wire.step) && b))) (none_done link.carries name)
       ∙ ends_false link.usable (servers.is_quiet link.stage) (not (is_reset_step wire.step))
-  serve_test serves lent (Lent n) at name =
-      let quiet : is_quiet row.link.state.stage ≡ false = is_asked_not row.link.state.stage (lent (ap is_lent at)) in
-      never link.usable (servers.is_quiet link.stage) (not (is_reset_step wire.step) && servers.is_done_by g.plan g.tale.moment (view_on g) link.carries)
-      (seen_quiet g.setup.reads g.codes row.link.state link serves.state ∙ quiet)
-      ∙ sym (ap (λ (b : Bool). not row.lost && b) (never (is_in row.link.login.stage) (is_quiet row.link.state.stage)
-      (not (rests.is_resetting row.link.step) && dones.is_done_by row.link.state.carries (session_of row (at_desk n (t.clients n.client))) false) quiet)
-      ∙ and_false (not row.lost)) where
-        and_false : (a : Bool) → a && false ≡ false
-        and_false true = refl
-        and_false false = refl
-  serve_test serves lent (Joined n) at name = open_so serves n at row.lost refl
+  serve_test serves lent (Lent n) at name = lent_test serves lent n at (is_quiet row.link.state.stage) refl
+  serve_test serves lent (Joined n) at name =
+      open_so serves n at row.lost refl ∙ joined_given n at (is_given_up n (t.clients n.client))
 
   row_test : (b : Bool) → IsRowBy b g.setup.reads g.codes (g.plan.logins l) (view_on g) row wire link
-      → (is_lent row.link.state.carries ≡ true → is_stating row.link.state.stage ≡ true) → session_in link.carries ≡ name_in row.link.state.carries
+      → IsLent → session_in link.carries ≡ name_in row.link.state.carries
       → test ≡ is_done_for t server (name_in row.link.state.carries)
   row_test true serves lent name = serve_test serves lent row.link.state.carries refl name
   row_test false enters lent name =

@@ -1,14 +1,14 @@
 -- A client stands once its next message was taken up.
-use Rattle.std.specs.Prelude.{◌≡◌, ◌<◌, ℕ, zero, suc, ◌+◌, ◌-◌, Bool, true, false, not, ◌||◌, is_some, if◌then◌else◌, List, [], ◌++◌, slice_get, Option, Some, None}
+use Rattle.std.specs.Prelude.{◌≡◌, ◌<◌, ◌≤◌, ℕ, zero, suc, ◌+◌, ◌-◌, Bool, true, false, not, ◌||◌, is_some, if◌then◌else◌, List, [], ◌++◌, slice_get, Option, Some, None}
 use Rattle.std.specs.Option.{option_map}
 use Rattle.std.proofs.Common.{refl, sym, ap, ◌∙◌, subst, arith}
 use Rattle.packet_frame.specs.Packets.{Framed, first_message, next_id, spellings, split, with_front}
 use Rattle.packet_frame.specs.Packets.Found.{Whole}
 use Rattle.server_side.specs.Account.{Account}
 use Rattle.private_model.specs.Commands.{Command}
-use Rattle.private_model.specs.Names.{ClientNo, Hostgroup, MessageName}
+use Rattle.private_model.specs.Names.{ClientNo, Hostgroup, MessageName, SessionName}
 use Rattle.private_model.specs.Story.{BecameDue}
-use Rattle.private_model.specs.View.{Held, Setup, View, view_step}
+use Rattle.private_model.specs.View.{Held, Setup, View, due_of, present, view_step}
 use Rattle.server_rule.specs.Classes.{Reads}
 use Rattle.log_story.specs.Clients.{is_answered}
 use Rattle.log_story.specs.Owed.{messages, name_of}
@@ -31,7 +31,8 @@ use Rattle.client_seat.specs.declared.seat.Seat.{Seat}
 use Rattle.client_desk.specs.Desks.{session_of, taken_on}
 use Rattle.client_desk.specs.declared.desk.Desk.{Desk}
 use Rattle.client_desk.specs.declared.work.Work.{Work}
-use Rattle.desk_laws.specs.Stands.{AreToCome, IsDesk, IsPlaced, IsRequest, IsSession, message_at, name_at}
+use Rattle.desk_laws.proofs.Dues.{due_before, due_next}
+use Rattle.desk_laws.specs.Stands.{AreDueEarlier, AreToCome, IsDesk, IsPlaced, IsRequest, IsSession, message_at, name_at}
 use Rattle.core_tables.specs.Arrivals.{seated}
 use Rattle.core_tables.specs.Taking.{answers, goes, goes_found, passes_found}
 use Rattle.core_tables.specs.declared.client.Client.{Client}
@@ -124,10 +125,11 @@ module _ (g : Ground) (client : tales.Client) (row : Client) (is : IsClient g cl
   placed = subst (λ (at : Phase). IsPlaced at (view_on g) client.number seat.place) up.serves is.desk.place
 
   to_come : (view : View) → ((m : MessageName) → view.carriers m ≡ (view_on g).carriers m) → ((m : MessageName) → view.replies m ≡ (view_on g).replies m)
-      → AreToCome view client.number (suc (suc client.taken))
-  to_come view carriers replies = record {
+      → AreDueEarlier view.dues view.carriers client.number (suc (suc client.taken)) → AreToCome view client.number (suc (suc client.taken))
+  to_come view carriers replies due = record {
     unsent = λ ordinal below. carriers (message_at client.number ordinal) ∙ is.coming.unsent ordinal (omega arith);
     unanswered = λ ordinal below. replies (message_at client.number ordinal) ∙ is.coming.unanswered ordinal (omega arith);
+    due = due;
   }
 
   module _ (few : client.taken + 1 < 18446744073709551616) (flag : ℕ) (statements : ClientStatements) where
@@ -190,7 +192,8 @@ module _ (g : Ground) (client : tales.Client) (row : Client) (is : IsClient g cl
           owed = subst (λ (at : Phase). IsOwing at (g.fresh client.number) after (next_of client) (answered_seat packets)) (sym up.serves)
               (owed_with payloads packets own says);
           desk = seats g.setup.reads (view_on g) client.number row.desk is.desk (answered_seat packets) refl refl is.desk.place;
-          coming = to_come (view_on g) (λ m. refl) (λ m. refl);
+          coming = to_come (view_on g) (λ m. refl) (λ m. refl)
+              (due_before (view_on g).dues (view_on g).carriers client.number (suc client.taken) is.coming.due (suc (suc client.taken)) (omega arith));
           phase = subst (λ (at : Phase). IsPhase (is_ended at) after (next_of client) (answered_row packets)) (sym up.serves) (record {
             going = going.going;
             earlier = λ ordinal below. answered_as g.plan after.tale g.tale (view_on g) (view_on g) client ordinal refl (λ m. refl) ∙ answered_all ordinal below;
@@ -227,6 +230,17 @@ module _ (g : Ground) (client : tales.Client) (row : Client) (is : IsClient g cl
       after = on g (with_client (next_of client)
           (tell (BecameDue client.number work.hostgroup (suc client.taken) route.key command route.multiplex) g.tale))
 
+      abbrev due_name : SessionName
+      due_name = present (view_on g) client.number work.hostgroup
+
+      due_then : AreDueEarlier (view_on after).dues (view_on after).carriers client.number (suc (suc client.taken))
+      due_then =
+          let some : 0 < suc client.taken = omega arith in
+          let next : suc client.taken ≤ suc client.taken = omega arith in
+          due_next (view_on g).dues (view_on g).carriers client.number (suc client.taken) is.coming.due due_name
+          (due_of (view_on g) due_name (suc client.taken) route.key command route.multiplex) some next
+          (is.coming.unsent (suc client.taken) (omega arith))
+
       sent_desk : Seats → Dues → IsDesk g.setup.reads (view_on after) client.number (sent_row work).desk
       sent_desk seats dues =
           dues g.setup (view_on g) client.number (record row.desk { seat = sent_seat work })
@@ -247,7 +261,7 @@ module _ (g : Ground) (client : tales.Client) (row : Client) (is : IsClient g cl
         owed = subst (λ (at : Phase). IsOwing at (g.fresh client.number) after (next_of client) (sent_seat work)) (sym up.serves)
             (owed_without work sends.unanswered);
         desk = sent_desk seats dues;
-        coming = to_come (view_on after) (λ m. refl) (λ m. refl);
+        coming = to_come (view_on after) (λ m. refl) (λ m. refl) due_then;
         phase = subst (λ (at : Phase). IsPhase (is_ended at) after (next_of client) (sent_row work)) (sym up.serves) (record {
           going = going.going;
           earlier = λ ordinal below. answered_as g.plan after.tale g.tale (view_on after) (view_on g) client ordinal refl (λ m. refl) ∙ answered_all ordinal below;

@@ -6,7 +6,7 @@ use Rattle.mx_base.specs.declared.names.LinkId.{LinkId}
 use Rattle.client_session.specs.Setups.{Setup as Service}
 use Rattle.private_model.proofs.Maps.{client_of, same_number}
 use Rattle.private_model.specs.Lawful.{IsLawful}
-use Rattle.private_model.specs.Names.{ClientNo, SessionName}
+use Rattle.private_model.specs.Names.{ClientNo, MessageName, SessionName}
 use Rattle.private_model.specs.Story as story
 use Rattle.private_model.specs.Story.{Question, Story, is_client, is_link_id}
 use Rattle.private_model.specs.View as view
@@ -38,8 +38,9 @@ use Rattle.core_tables.specs.declared.server.Server.{Server}
 use Rattle.core_stands.specs.Clients.{IsClient, IsClientOr, IsOwing, IsPhase, IsWorkingOr}
 use Rattle.core_stands.specs.Grounds.{Ground, on, view_on}
 use Rattle.core_stands.specs.Servers.{IsFirst, IsNextFor, IsNextOf, IsPartedAt, IsPartedFor, IsReplying, IsReplyingAt, IsReplyingFor, IsServer, IsServerBy, IsServerOr, IsStanding, IsStandingAt, IsTakenUp}
-use Rattle.core_stands.specs.Stands.{AreClients, AreHomes, IsAt, IsHome, IsKnown, Stands}
-use Rattle.core_laws.proofs.OfTaking.Seated.{each_after, flipped, is_alone, of_seated, others_seated, seated_after}
+use Rattle.core_stands.specs.Stands.{AreClients, AreDuly, AreHomes, ArePrepared, IsAt, IsHome, IsKnown, IsPrepared, Stands}
+use Rattle.core_laws.proofs.OfPrepared.Rows.{prepared_by_row, row_itself}
+use Rattle.core_laws.proofs.OfTaking.Seated.{each_after, flipped, is_alone, of_seated, others_seated, others_seats, seated_after}
 
 some_is : {A : Type 0} (a b : A) → Some a ≡ Some b → a ≡ b
 some_is a b is = cc
@@ -172,7 +173,7 @@ module _ (g : Ground) (past : Story) (t : Tabled) (client : tales.Client) (row n
       plain = is.plain;
       taken_up = taken_so n ordinal is.taken_up;
     }
-    next_for_so link asking (purposes.Prep n ordinal key) is = is
+    next_for_so link asking (purposes.Prep n ordinal key) is = record { said = is.said; told = is.told; taken_up = taken_so n ordinal is.taken_up }
     next_for_so link asking (purposes.Sync n) is = record { command = is.command; said = is.said }
     next_for_so link asking purposes.Own is = record { command = is.command; said = is.said }
     next_for_so link asking (purposes.End n) is = is
@@ -385,13 +386,37 @@ module _ (g : Ground) (past : Story) (t : Tabled) (client : tales.Client) (row n
         let was = are.known c found (sym (elsewhere c apart) ∙ at) in
         (was.0, known_so c was.0 apart was.1)
 
+  -- What they have prepared.
+
+  abbrev Replies : Type 0
+  Replies = (m : MessageName) → (view_on told).replies m ≡ (view_on g).replies m
+
+  abbrev Prepares : Type 0
+  Prepares = is_ended new.desk.seat.phase ≡ false → IsPrepared after (next_of client) new
+
+  prepared_so : AreClients g t → ArePrepared g t → Replies → Prepares → ArePrepared after other
+  prepared_so are prepared replies its x now found at going = by (is_client x.number client.number) refl where
+    by : (b : Bool) → is_client x.number client.number ≡ b → IsPrepared after x found
+    by false apart =
+        let was : IsSeated g.tale x = sym (others_seats client g.tale seated g.setup x.number apart) ∙ now in
+        prepared_by_row g after.tale g.over g.fresh t other are replies prepared x was found
+        (row_itself t x.number found (sym (elsewhere x.number apart) ∙ at) going)
+    by true e =
+        let one : x ≡ next_of client =
+        is_alone (next_of client) after.tale (seated_after client g.tale seated g.setup g.plan) x now (client_of x.number client.number e) in
+        let same : found ≡ new = its_new x.number found e at in
+        subst (λ (y : tales.Client). IsPrepared after y found) (sym one)
+        (subst (λ (r : Client). IsPrepared after (next_of client) r) (sym same) (its (ap (λ (r : Client). is_ended r.desk.seat.phase) (sym same) ∙ going)))
+
   pub goes_so : (service : Service) → Stands service g t → Others → ((l : LinkId) → IsServerOr told t l (t.links l)) → IsLawful g.setup past
-      → IsClient after (next_of client) new → Stands service after other
-  goes_so service is others servers lawful its = record {
+      → IsClient after (next_of client) new → Replies → AreDuly g.setup g.plan past → Prepares → Stands service after other
+  goes_so service is others servers lawful its replies duly prepares = record {
     service_is = is.service_is;
     room_is = is.room_is;
     clients = clients_so is.clients others its;
     servers = λ l. servers_so l (servers l);
     homes = homes_so is.homes;
     lawful = lawful;
+    prepared = prepared_so is.clients is.prepared replies prepares;
+    duly = duly;
   }

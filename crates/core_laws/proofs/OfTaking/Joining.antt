@@ -1,5 +1,5 @@
 -- What a text asks for, by what code promises of it.
-use Rattle.std.specs.Prelude.{◌≡◌, ℕ, suc, Bool, true, false, drop, if◌then◌else◌, nat_eq, slice_index_or, unwrap_or, List, Option, Some, None}
+use Rattle.std.specs.Prelude.{◌≡◌, ℕ, suc, Bool, IfSome, true, false, drop, if◌then◌else◌, nat_eq, slice_index_or, unwrap_or, List, Option, Some, None}
 use Rattle.std.specs.Option.{option_and_then, option_map}
 use Rattle.std.proofs.Common.{refl, sym, ap, ◌∙◌, subst}
 use Rattle.std.proofs.lemmas.Option.{none-some}
@@ -10,20 +10,28 @@ use Rattle.server_rule.specs.Classes.{Reads}
 use Rattle.private_model.proofs.Maps.{number_of}
 use Rattle.private_model.specs.Commands as commands
 use Rattle.private_model.specs.Commands.{Command, class_of, is_marked}
+use Rattle.private_model.specs.Names.{ClientNo}
+use Rattle.private_model.specs.Story.{Due}
+use Rattle.private_model.specs.View.{Setup, due_of, present}
 use Rattle.log_story.specs.Executes.{text_asked}
-use Rattle.log_story.specs.Plan.{com_field_list, com_init_db, com_query, text_payload}
+use Rattle.log_story.specs.Plan.{Route, com_field_list, com_init_db, com_query, text_payload}
 use Rattle.log_story.specs.Tale as tales
 use Rattle.link_state.specs.Asks.{marks}
 use Rattle.link_state.specs.declared.asking.Form.{Form}
 use Rattle.link_state.specs.declared.asking.Form.TheVariants.{Text, Fields, Prepare, SetId, ReadId, Reset}
+use Rattle.link_state.specs.declared.wish.Command.TheVariants as kinds
 use Rattle.link_state.specs.declared.wish.Command.TheVariants.{Plain}
 use Rattle.link_laws.specs.Stands.{IsForm, IsRead}
+use Rattle.run_laws.specs.Reads.{HasArgs}
+use Rattle.stmt_map.specs.declared.client.ClientStatements.{ClientStatements}
+use Rattle.client_seat.specs.Numbers.{AreNoted}
 use Rattle.client_seat.specs.Requests.{Asked, Says, asked_in, run_in, text_in}
 use Rattle.desk_laws.specs.Stands.{IsRequest, is_text, kind_of}
 use Rattle.core_tables.specs.Tables.{Tabled}
-use Rattle.core_tables.specs.Taking.{IsDue, asked_of, found_of, text_work}
+use Rattle.core_tables.specs.Taking.{AreNotedIn, IsDue, asked_of, found_of, text_work}
 use Rattle.core_tables.specs.declared.client.Client.{Client}
-use Rattle.core_stands.specs.Grounds.{Ground}
+use Rattle.core_stands.specs.Grounds.{Ground, view_on}
+use Rattle.core_stands.specs.Stands.{IsKeyedFor}
 use Rattle.core_laws.specs.taking.Joins.{IsDecided, IsUnprepared, is_field_list, is_init_db, is_query, text_of, text_route}
 use Rattle.core_laws.specs.taking.Takes.{IsSent, IsUpOf}
 
@@ -96,6 +104,26 @@ is_said message text command unprepared is =
     said_by rest command (nat_eq byte com_query) (nat_eq byte com_init_db) (nat_eq byte com_field_list)
     (sym (ap (said_if rest (nat_eq byte com_query) (nat_eq byte com_init_db) (nat_eq byte com_field_list)) unprepared.no_prepare) ∙ is)
 
+-- What is no STMT_PREPARE or execute gets no number, and has no arguments.
+
+pub keyed_so : (setup : Setup) (route : Route) (due : Due) (command : Command) → kind_of command ≡ Plain → route.number ≡ 0
+    → IsKeyedFor setup route due command
+keyed_so setup route due (commands.Prepare text) is none = absurd (let no : kinds.Prepare ≡ kinds.Plain = is in cc)
+keyed_so setup route due (commands.Run text schema settings args) is none = absurd (let no : kinds.Execute ≡ kinds.Plain = is in cc)
+keyed_so setup route due _ is none = none
+
+pub whole_so : (command : Command) → kind_of command ≡ Plain → HasArgs command
+whole_so (commands.Run text schema settings args) is = absurd (let no : kinds.Execute ≡ kinds.Plain = is in cc)
+whole_so _ is = tt
+
+-- What the client has prepared then, by its message.
+pub noted_there : (refused : Bool) (t : Tabled) (c : ClientNo) (row : Client) (message : Framed) (statements : ClientStatements)
+    → t.clients c ≡ Some row → found_of row ≡ Some message → AreNotedIn refused (t.clients c) statements
+    → AreNoted refused message.payload row.desk.seat.statements statements
+noted_there refused t c row message statements there found noted =
+    subst (λ (f : Option Framed). IfSome f (λ (m : Framed). AreNoted refused m.payload row.desk.seat.statements statements)) found
+    (subst (λ (o : Option Client). AreNotedIn refused o statements) there noted)
+
 -- It is sent.
 
 row_is : (t : Tabled) (client : tales.Client) (row other : Client) → t.clients client.number ≡ Some row → t.clients client.number ≡ Some other
@@ -122,6 +150,10 @@ module _ (g : Ground) (t other : Tabled) (client : tales.Client) (row : Client) 
         (decided.formed due.command asks) (is_said is.up.message text due.command decided.unprepared asks) refl;
     kind = refl;
     hostgroup = refl;
+    keyed = keyed_so g.setup (text_route hostgroup text multiplex)
+        (due_of (view_on g) (present (view_on g) client.number hostgroup) (suc client.taken) 0 due.command multiplex)
+        due.command (is_said is.up.message text due.command decided.unprepared asks).0 refl;
+    whole = whole_so due.command (is_said is.up.message text due.command decided.unprepared asks).0;
   }
 
 -- Its form.

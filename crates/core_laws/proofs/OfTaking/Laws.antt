@@ -1,6 +1,7 @@
 -- The laws, by those of desks, and of clients that part.
-use Rattle.std.specs.Prelude.{◌≡◌, ℕ, true, false, List, ◌∷◌, Option, Some, None}
-use Rattle.std.proofs.Common.{refl, sym, ◌∙◌, subst}
+use Rattle.std.specs.Prelude.{◌≡◌, ℕ, true, false, not, is_some, List, ◌∷◌, Option, Some, None}
+use Rattle.std.proofs.Common.{refl, sym, ap, ◌∙◌, subst}
+use Rattle.std.proofs.lemmas.Bool.{true≢false}
 use Rattle.std.proofs.lemmas.Option.{none-some}
 use Rattle.packet_frame.specs.Packets.{spellings}
 use Rattle.client_session.specs.Setups.{Setup as Service}
@@ -16,8 +17,11 @@ use Rattle.log_story.specs.Tale.{Tale, tell, with_client}
 use Rattle.step_laws.specs.Seats.{IsSeated}
 use Rattle.step_laws.specs.Taken.{next_of}
 use Rattle.stmt_map.specs.declared.client.ClientStatements.{ClientStatements}
-use Rattle.client_seat.specs.Seats.{ended}
+use Rattle.server_side.specs.Account.{Account}
+use Rattle.client_seat.specs.Numbers.{AreNoted}
+use Rattle.client_seat.specs.Seats.{ended, is_ended}
 use Rattle.client_seat.specs.Takings.{begun_anew}
+use Rattle.client_seat.specs.declared.phase.Phase.TheVariants as phase
 use Rattle.client_seat.specs.declared.seat.Seat.{Seat}
 use Rattle.client_desk.specs.declared.work.Work.{Work}
 use Rattle.desk_laws.specs.Spares.{touches}
@@ -34,6 +38,7 @@ use Rattle.core_stands.specs.Stands.{IsAt, Stands}
 use Rattle.core_laws.specs.parting.Frames.{SparesRowOr}
 use Rattle.core_laws.specs.parting.Partings.{HasLives, IsAnew, IsEnding, IsLeaving}
 use Rattle.core_laws.specs.taking.Takes.{IsSent, IsUpOf, is_reset, own_of, route_of, took}
+use Rattle.core_laws.proofs.OfPrepared.Taking.{prepared_then, prepared_unrouted, refuses_unrouted}
 use Rattle.core_laws.proofs.OfTaking.Behind.{Dues, IsFound, Seats, answered_row, answered_stands, answers_is, found_up, goes_is, home_is, idle, life_is, placed, settings_are}
 use Rattle.core_laws.proofs.OfTaking.Behind.{sent_row, sent_stands, works}
 use Rattle.core_laws.proofs.OfTaking.Going.{goes_so}
@@ -51,6 +56,9 @@ its_row : (service : Service) (g : Ground) (t : Tabled) (client : tales.Client) 
 its_row service g t client row stands seated there =
     subst (λ (found : Option Client). IsClientOr g client found) there (of_seated client g.tale seated (IsAt g t) stands.clients.each).row
 
+serving : (seat : Seat) (account : Account) → seat.phase ≡ phase.Serving account → is_ended seat.phase ≡ false
+serving seat account serves = ap is_ended serves
+
 no_work : {A : Type 0} (found : Option Work) (work : Work) → found ≡ None → found ≡ Some work → A
 no_work found work none some = absurd (none-some work (sym none ∙ some))
 
@@ -64,16 +72,20 @@ module _ (same_law : SameStands) (seats : Seats) (service : Service) (g : Ground
 
   pub own_answers : (flag : ℕ) (payloads : List (List ℕ)) (packets : List ℕ) (statements : ClientStatements)
       → route_of g client ≡ None → own_of g client ≡ Some payloads → packets ≡ spellings row.desk.seat.first payloads
-      → is_reset is.up.message ≡ false → IsSame other (client_changed client.number (answers flag packets statements) t)
+      → is_reset is.up.message ≡ false → AreNoted true is.up.message.payload row.desk.seat.statements statements
+      → IsSame other (client_changed client.number (answers flag packets statements) t)
       → Stands service (on g (took g client is.up.message)) other
-  own_answers flag payloads packets statements unrouted own says plain same =
+  own_answers flag payloads packets statements unrouted own says plain noted same =
       let new : Client = answered_row g client row at up is.few flag statements packets in
       let none : row.desk.work ≡ None = idle g client row at up in
       let after : Ground = on g (with_client (next_of client) g.tale) in
       let stood : Stands service after (client_put client.number (Some new) t) =
       goes_so g g.tale.story t client row new is.seated is.there none (λ work there. no_work row.desk.work work none there) (λ h. refl) (λ h. refl)
       service stands (λ x apart was. was) stands.servers stands.lawful
-      (answered_stands g client row at up is.few flag statements seats payloads packets unrouted own says) in
+      (answered_stands g client row at up is.few flag statements seats payloads packets unrouted own says) (λ m. refl) stands.duly
+      (λ going. prepared_unrouted g g.tale.story client row new is.up.message true
+      (stands.prepared client is.seated row is.there (serving row.desk.seat up.account up.serves)) up.answered up.next
+      (refuses_unrouted (route_of g client) unrouted) noted (λ m. refl) unrouted) in
       subst (λ (tale : Tale). Stands service (on g tale) other) (sym (took_answered g client is.up.message unrouted plain))
       (same_law service after (client_put client.number (Some new) t) other stood
       (subst (λ (x : Tabled). IsSame other x)
@@ -85,9 +97,10 @@ module _ (same_law : SameStands) (seats : Seats) (service : Service) (g : Ground
       → ((g : Ground) (t : Tabled) (l : LinkId) (row : Option Server) (e : Happening) → IsServerOr g t l row → IsElsewhere l e
       → SparesRowOr (view_on g) e row → IsLawful g.setup (e ∷ g.tale.story) → IsServerOr (on g (tell e g.tale)) t l row)
       → (flag : ℕ) (route : Route) (command : Command) (work : Work) (statements : ClientStatements)
-      → IsSent g client is.up.message route command work → IsSame other (client_changed client.number (goes flag work statements) t)
+      → IsSent g client is.up.message route command work → AreNoted false is.up.message.payload row.desk.seat.statements statements
+      → IsSame other (client_changed client.number (goes flag work statements) t)
       → Stands service (on g (took g client is.up.message)) other
-  dues due_law clients_law servers_law flag route command work statements sends same =
+  dues due_law clients_law servers_law flag route command work statements sends noted same =
       let new : Client = sent_row g client row at up is.few flag statements work in
       let e : Happening = due_now g client is.up.message route command work sends in
       let after : Ground = on g (with_client (next_of client) (tell e g.tale)) in
@@ -101,7 +114,11 @@ module _ (same_law : SameStands) (seats : Seats) (service : Service) (g : Ground
       (λ l. servers_law g t l (t.links l) e (stands.servers l) (λ elsewhere no. absurd (none-some elsewhere no))
       (spares_row g client is.up.message route command work sends t is.seated l (stands.servers l)) (stands.lawful, tt))
       (stands.lawful, tt)
-      (sent_stands g client row at up is.few flag statements route command work sends seats due_law) in
+      (sent_stands g client row at up is.few flag statements route command work sends seats due_law) (λ m. refl)
+      (record { route = route; routed = sends.routed; keyed = sends.keyed; whole = sends.whole }, stands.duly)
+      (λ going. prepared_then g (e ∷ g.tale.story) client row new is.up.message false
+      (stands.prepared client is.seated row is.there (serving row.desk.seat up.account up.serves)) up.answered up.next
+      (ap (λ (r : Option Route). not (is_some r)) sends.routed) noted (λ m. refl) (λ back. absurd (true≢false (sym back)))) in
       subst (λ (tale : Tale). Stands service (on g tale) other) (sym (took_sent g client is.up.message route command work sends))
       (same_law service after (client_put client.number (Some new) t) other stood
       (subst (λ (x : Tabled). IsSame other x)
@@ -116,8 +133,9 @@ module _ (same_law : SameStands) (seats : Seats) (service : Service) (g : Ground
       → (flag : ℕ) (payloads : List (List ℕ)) (packets : List ℕ) (statements : ClientStatements)
       → route_of g client ≡ None → own_of g client ≡ Some payloads → packets ≡ spellings row.desk.seat.first payloads
       → is_reset is.up.message ≡ true → HasLives (view_on g) client.number
+      → AreNoted true is.up.message.payload row.desk.seat.statements statements
       → IsSame other (begins_anew client.number flag packets statements t) → Stands service (on g (took g client is.up.message)) other
-  resets anew_law left_law flag payloads packets statements unrouted own says reset lives same =
+  resets anew_law left_law flag payloads packets statements unrouted own says reset lives noted same =
       let gone : Ground = on g (tell (Left client.number) g.tale) in
       let anew : Client = left_row begun_anew row in
       let parted : Tabled = left_in client.number begun_anew t in
@@ -135,7 +153,10 @@ module _ (same_law : SameStands) (seats : Seats) (service : Service) (g : Ground
       let stood : Stands service after (client_put client.number (Some new) parted) =
       goes_so gone gone.tale.story parted client anew new is.seated there none (λ work has. no_work anew.desk.work work none has) (λ h. refl) (λ h. refl)
       service left (λ x apart was. was) left.servers left.lawful
-      (answered_stands gone client anew now found is.few flag statements seats payloads packets unrouted own says) in
+      (answered_stands gone client anew now found is.few flag statements seats payloads packets unrouted own says) (λ m. refl) left.duly
+      (λ going. prepared_unrouted gone gone.tale.story client anew new is.up.message true
+      (left.prepared client is.seated anew there (serving anew.desk.seat found.account found.serves)) found.answered found.next
+      (refuses_unrouted (route_of g client) unrouted) noted (λ m. refl) unrouted) in
       let id : Seat → Seat = λ (seat : Seat). seat in
       let as_put : IsSame other (client_put client.number (Some new) (left_in client.number id t)) =
       subst (λ (x : Tabled). IsSame other x)
@@ -169,7 +190,7 @@ module _ (same_law : SameStands) (seats : Seats) (service : Service) (g : Ground
       let stood : Stands service after (client_put client.number (Some new) parted) =
       goes_so over over.tale.story parted client gone new is.seated there refl (λ work has. absurd (none-some work has)) (λ h. refl) (λ h. refl)
       service left (λ x apart was. was) left.servers left.lawful
-      (quit_stands g client row at up wordless flag statements now own seats) in
+      (quit_stands g client row at up wordless flag statements now own seats) (λ m. refl) left.duly (λ going. absurd (true≢false going)) in
       subst (λ (tale : Tale). Stands service (ending client.number (on g (tell (Left client.number) tale))) other)
       (sym (took_answered g client is.up.message unrouted plain))
       (same_law service after (client_put client.number (Some new) parted) other stood

@@ -25,6 +25,7 @@ use Rattle.client_seat.specs.declared.phase.Phase.{Phase}
 use Rattle.client_seat.specs.declared.phase.Phase.TheVariants as phase
 use Rattle.client_seat.specs.declared.seat.Seat.{Seat}
 use Rattle.client_desk.specs.Desks.{left}
+use Rattle.desk_laws.proofs.Dues.{due_before}
 use Rattle.desk_laws.specs.Stands.{IsPlaced}
 use Rattle.core_tables.specs.Arrivals.{seated}
 use Rattle.core_tables.specs.Parting.{left_in, left_row, parted_in}
@@ -152,6 +153,7 @@ module _ (g : Ground) (client : tales.Client) (row : Client) (is : IsClient g cl
     answered = up.answered;
     coming = nothing_coming g client row is up;
     collation = refl;
+    statements = refl;
   }
 
   pub leaves_anew : (view_step g.setup (view_on g) (Left client.number)).places client.number ≡ (begun_anew row.desk.seat).place
@@ -256,6 +258,7 @@ module _ (g : Ground) (client : tales.Client) (row : Client) (is : IsClient g cl
       coming = record {
         unsent = λ ordinal below. now.coming.unsent ordinal (omega arith);
         unanswered = λ ordinal below. now.coming.unanswered ordinal (omega arith);
+        due = due_before (view_on over).dues (view_on over).carriers client.number (suc client.taken) now.coming.due (suc (suc client.taken)) (omega arith);
       };
       phase = record {
         over = now.phase.over;

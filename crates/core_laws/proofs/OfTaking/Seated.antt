@@ -46,7 +46,7 @@ module _ (client : Client) where
     pub seated_after : (setup : Setup) (plan : Plan) → IsSeated (with_client (next_of client) tale) (next_of client)
     seated_after setup plan = seated_next setup plan client (next_of client) tale tale refl refl seated
 
-    others_seats : (setup : Setup) (c : ClientNo) → is_client c client.number ≡ false → seats (with_client (next_of client) tale) c ≡ seats tale c
+    pub others_seats : (setup : Setup) (c : ClientNo) → is_client c client.number ≡ false → seats (with_client (next_of client) tale) c ≡ seats tale c
     others_seats setup c apart = (with_spares setup (is_its client) (next_of client) tale (same_number client.number.0)).seat c apart
 
     pub others_seated : (setup : Setup) (x : Client) → is_client x.number client.number ≡ false → IsSeated tale x

@@ -10,6 +10,7 @@ use Rattle.packet_frame.specs.Packets.{Framed}
 use Rattle.private_model.proofs.Maps.{client_of, number_of}
 use Rattle.private_model.specs.Commands.{Command}
 use Rattle.private_model.specs.Story.{BecameDue, Happening, Left, is_client, is_message}
+use Rattle.private_model.specs.Names.{SessionName}
 use Rattle.private_model.specs.View.{Link, Setup, View}
 use Rattle.log_story.specs.Clients.{copied, due_by, is_up, next_taken, taken_by}
 use Rattle.log_story.specs.Executes.{Request, executed_by, requested, text_asked}
@@ -31,7 +32,7 @@ use Rattle.core_tables.specs.Tables.{Tabled, client_changed, client_put}
 use Rattle.core_tables.specs.declared.client.Client.{Client}
 use Rattle.core_tables.specs.declared.server.Server.{Server}
 use Rattle.core_stands.specs.Grounds.{Ground, view_on}
-use Rattle.core_stands.specs.Servers.{IsNextFor, IsNextOf, IsServerBy, IsServerOr}
+use Rattle.core_stands.specs.Servers.{IsNextFor, IsNextOf, IsServerBy, IsServerOr, IsTakenUp}
 use Rattle.core_laws.specs.parting.Frames.{SparesNext, SparesNextFor, SparesRowOr}
 use Rattle.core_laws.proofs.OfTaking.Going.{its_taken}
 use Rattle.core_laws.specs.taking.Takes.{IsSent, is_reset, route_of, took}
@@ -114,16 +115,20 @@ module _ (g : Ground) (client : tales.Client) (message : Framed) (route : Route)
   and_false false = refl
 
   module _ (t : Tabled) (seated : IsSeated g.tale client) where
-    spares_for : (row : Row) (link : Link) (asking : Asking) (purpose : Purpose) → IsNextFor purpose g t row link asking → SparesNextFor purpose due_now
-    spares_for row link asking (purposes.Statement n at key) is = by (is_client n.client client.number) refl where
+    spares_taken : (n : SessionName) (at : ℕ) → IsTakenUp g n at
+        → is_message (record { client = n.client; ordinal = at }) (record { client = client.number; ordinal = suc client.taken }) ≡ false
+    spares_taken n at up = by (is_client n.client client.number) refl where
       by : (b : Bool) → is_client n.client client.number ≡ b
           → is_message (record { client = n.client; ordinal = at }) (record { client = client.number; ordinal = suc client.taken }) ≡ false
       by false e = ap (λ (b : Bool). b && nat_eq at (suc client.taken)) e
       by true e =
           ap (λ (b : Bool). is_client n.client client.number && b)
-          (other_ordinal at (its_taken g client seated n at is.taken_up (client_of n.client client.number e)))
+          (other_ordinal at (its_taken g client seated n at up (client_of n.client client.number e)))
           ∙ and_false (is_client n.client client.number)
-    spares_for row link asking (purposes.Prep n at key) is = tt
+
+    spares_for : (row : Row) (link : Link) (asking : Asking) (purpose : Purpose) → IsNextFor purpose g t row link asking → SparesNextFor purpose due_now
+    spares_for row link asking (purposes.Statement n at key) is = spares_taken n at is.taken_up
+    spares_for row link asking (purposes.Prep n at key) is = spares_taken n at is.taken_up
     spares_for row link asking (purposes.Sync n) is = tt
     spares_for row link asking purposes.Own is = tt
     spares_for row link asking (purposes.End n) is = tt

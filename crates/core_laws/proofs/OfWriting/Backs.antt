@@ -45,7 +45,7 @@ use Rattle.core_tables.specs.Tables.{IsSame, Tabled, client_changed, link_change
 use Rattle.core_tables.specs.declared.client.Client.{Client}
 use Rattle.core_tables.specs.declared.server.Server.{Server}
 use Rattle.core_stands.specs.Grounds.{Ground, view_on}
-use Rattle.core_stands.specs.Servers.{IsNextFor, IsNextOf, IsNextStatement, IsPartedAt, IsReplyingAt, IsServer, IsServerBy, IsServerOr, is_lent, is_stating}
+use Rattle.core_stands.specs.Servers.{IsNextFor, IsNextOf, IsNextStatement, IsPartedAt, IsReplyingAt, IsServer, IsServerBy, IsServerOr, IsAhead, OfLent, is_stating}
 use Rattle.core_stands.specs.Stands.{AreClients, IsAt, Stands}
 use Rattle.core_laws.proofs.OfWriting.Begun.{IsDueThere}
 use Rattle.core_laws.proofs.OfWriting.Framing.{Reads, client_apart, client_here, flipped, homes_on, link_apart, link_here, same_reads, server_on}
@@ -120,7 +120,8 @@ module _ (takes : TakesBack) (back : ComesBack) (alike : SameStands) (service : 
         found_rows = is.found_rows;
         standing = is.standing;
         next = subst (λ (n : Option Begins). IsNextOf n g now (taken_back row) (link_in g.setup g.tale l)) (sym (ap (λ (k : LentLink). k.next) link_same)) tt;
-        lent = subst (λ (k : LentLink). is_lent k.state.carries ≡ true → is_stating k.state.stage ≡ true) (sym link_same) is.lent;
+        lent = λ kept mine.
+            subst (λ (k : LentLink). is_stating k.state.stage ≡ false → OfLent k.state.carries (IsAhead (view_on g))) (sym link_same) (is.lent kept mine);
         parted = λ sound kept left_some. subst (λ (s : Stage). IsPartedAt s g) (sym stage) tt;
         replying = λ sound kept mine. subst (λ (s : Stage). IsReplyingAt s g now l (taken_back row)) (sym stage) tt;
       }
@@ -162,6 +163,8 @@ module _ (takes : TakesBack) (back : ComesBack) (alike : SameStands) (service : 
     homes = homes_on g g t (made t) (same_but t (made t) l server (with_row taken_back server) (λ c. refl) there (link_there t refl)
         (λ k e. links_apart t (λ j. refl) k e) carries_same refl refl) stands.homes;
     lawful = stands.lawful;
+    prepared = stands.prepared;
+    duly = stands.duly;
   }
 
   -- a statement goes back

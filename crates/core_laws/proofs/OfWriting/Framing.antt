@@ -10,7 +10,8 @@ use Rattle.private_model.specs.Names.{ClientNo, Hostgroup, LinkId, MessageName, 
 use Rattle.private_model.specs.Story as story
 use Rattle.private_model.specs.Story.{Due, is_link_id}
 use Rattle.private_model.specs.View as view
-use Rattle.private_model.specs.View.{Link, View}
+use Rattle.private_model.specs.View.{Link, View, session_in}
+use Rattle.tale_world.specs.Tests.{is_told_key}
 use Rattle.log_story.specs.Plan.{Plan}
 use Rattle.log_story.specs.Servers.{reply_id}
 use Rattle.log_story.specs.Tale as tales
@@ -38,8 +39,10 @@ use Rattle.core_tables.specs.Tables.{Tabled, client_changed, link_changed}
 use Rattle.core_tables.specs.declared.client.Client.{Client}
 use Rattle.core_tables.specs.declared.server.Server.{Server}
 use Rattle.core_stands.specs.Grounds.{Ground, on, view_on}
-use Rattle.core_stands.specs.Servers.{IsFirst, IsPartedAt, IsPartedFor, IsTakenUp, IsNextFor, IsNextOf, IsReplying, IsReplyingAt, IsReplyingFor, IsServer, IsServerBy, IsServerOr, IsStanding, IsStandingAt}
+use Rattle.core_stands.specs.Servers.{IsFirst, IsPartedAt, IsPartedFor, IsTakenUp, IsNextFor, IsNextOf, IsReplying, IsReplyingAt, IsReplyingFor, IsServer, IsServerBy, IsServerOr, IsStanding, IsStandingAt, IsAhead, keyed_text}
 use Rattle.core_stands.specs.Stands.{AreHomes, IsHome}
+use Rattle.core_laws.proofs.OfParting.Ahead.{lent_on}
+use Rattle.core_laws.proofs.OfParting.Named.{row_carries}
 use Rattle.client_desk.specs.declared.session.Session.{Session}
 use Rattle.link_state.specs.declared.state.Carried.{Carried}
 use Rattle.link_state.specs.declared.state.Carried.TheVariants as carried
@@ -164,6 +167,8 @@ pub record Onward (g : Ground) (l : LinkId) (tale : Tale) : Type 0 where
   pub dues : (n : SessionName) (due : Due) → (view_of g.setup tale).dues n ≡ Some due → (view_on g).dues n ≡ Some due
   pub carriers : (m : MessageName) (other : LinkId) → (view_on g).carriers m ≡ Some other → (view_of g.setup tale).carriers m ≡ Some other
   pub replies : (view_of g.setup tale).replies ≡ (view_on g).replies
+  pub ahead : (other : LinkId) (n : SessionName) → is_link_id other l ≡ false → session_in (link_in g.setup g.tale other).carries ≡ Some n
+      → IsAhead (view_on g) n → IsAhead (view_of g.setup tale) n
 
 module _ (g : Ground) (t now : Tabled) (l : LinkId) (tale : Tale) (onward : Onward g l tale) (reads : Reads t now) where
   abbrev seen : View
@@ -233,7 +238,12 @@ module _ (g : Ground) (t now : Tabled) (l : LinkId) (tale : Tale) (onward : Onwa
       plain = is.plain;
       taken_up = taken_on n ordinal is.taken_up;
     }
-    next_for (purposes.Prep n ordinal key) row asking is = is
+    next_for (purposes.Prep n ordinal key) row asking is = record {
+      said = λ due there same. readied_on row asking (story.Prep n due.key (keyed_text g due)) (is.said due (onward.dues n due there) same);
+      told = λ due there same.
+          ap (λ (link : Link). is_told_key g.setup due.key (keyed_text g due) link.told) same_link ∙ is.told due (onward.dues n due there) same;
+      taken_up = taken_on n ordinal is.taken_up;
+    }
     next_for (purposes.Sync n) row asking is = record { command = is.command; said = readied_on row asking (story.Sync n is.command) is.said }
     next_for purposes.Own row asking is = record { command = is.command; said = readied_on row asking (story.Own is.command) is.said }
     next_for (purposes.End n) row asking is = readied_on row asking (story.End n) is
@@ -296,7 +306,9 @@ module _ (g : Ground) (t now : Tabled) (l : LinkId) (tale : Tale) (onward : Onwa
       found_rows = is.found_rows;
       standing = subst (λ (link : Link). IsStandingAt link.stage (on g tale) other) (sym same_link) (standing_at (link_in g.setup g.tale other).stage is.standing);
       next = next_of row.link.next row is.next;
-      lent = is.lent;
+      lent = λ kept mine unstated.
+          lent_on (IsAhead seen) (IsAhead new) row.link.state.carries
+          (λ n named ahead. onward.ahead other n apart (row_carries g.setup g.codes g.plan g.tale other row is.row ∙ named) ahead) (is.lent kept mine unstated);
       parted = λ sound kept some. parted_on row.link.state.stage (is.parted sound kept some);
       replying = λ sound kept mine. replying_at row.link.state.stage row (is.replying sound kept mine);
     }

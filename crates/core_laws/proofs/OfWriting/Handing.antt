@@ -32,6 +32,7 @@ use Rattle.core_laws.proofs.OfWriting.Moving.{clients_made}
 use Rattle.core_laws.proofs.OfWriting.Nexts.{onward_none}
 use Rattle.core_laws.proofs.OfWriting.Sending.{by_to_server, servers_made}
 use Rattle.core_laws.proofs.OfWriting.Stated.{not_ended}
+use Rattle.core_laws.proofs.OfPrepared.Rows.{RowOf, are_prepared, row_itself, row_seated}
 
 -- of a work nothing else changes than its form and its body
 pub record SameWork (work other : Work) : Type 0 where
@@ -195,6 +196,13 @@ module _ (service : Service) (g : Ground) (t now : Tabled) (l : LinkId) (server 
         lost = lost ∙ ap (λ (x : Server). x.row.lost) made;
       }
 
+  row_before : (k : ClientNo) (r : Client) → now.clients k ≡ Some r → is_ended r.desk.seat.phase ≡ false → (is_c : Bool) → nat_eq c.0 k.0 ≡ is_c → RowOf t k r
+  row_before k r at going false e = row_itself t k r (sym (apart k e) ∙ at) going
+  row_before k r at going true e =
+      let k_is : c ≡ k = client_of c k e in
+      let made : row_now ≡ r = same_Some row_now r (sym here ∙ ap now.clients k_is ∙ at) in
+      row_seated t k row r (ap t.clients (sym k_is) ∙ row_there) (ap (λ (x : Client). x.desk.seat) (sym made)) going
+
   pub stands_handed : IsServer g now l server_now.row → Stands service g now
   stands_handed is = record {
     service_is = stands.service_is;
@@ -213,4 +221,7 @@ module _ (service : Service) (g : Ground) (t now : Tabled) (l : LinkId) (server 
       link_is = λ k s at. link_is k s at (is_link_id k l) refl;
     }) stands.homes;
     lawful = stands.lawful;
+    prepared = are_prepared g g.tale g.over g.fresh t now stands.clients (λ m. refl) stands.prepared (λ client seated. seated)
+        (λ k r at going. row_before k r at going (nat_eq c.0 k.0) refl);
+    duly = stands.duly;
   }

@@ -12,15 +12,17 @@ use Rattle.server_rule.specs.Servers.{is_some_of}
 use Rattle.server_side.specs.Backend as backends
 use Rattle.private_model.specs.Commands.{Quit}
 use Rattle.private_model.specs.Names.{LinkId}
-use Rattle.private_model.specs.Story.{Broke, Happening, Own, Question, Sent}
+use Rattle.private_model.specs.Story.{Broke, Happening, Own, Question, Sent, Unprepared}
 use Rattle.private_model.specs.View.{Link, Setup}
-use Rattle.log_story.specs.Plan.{Asks, Plan, StepText}
+use Rattle.log_story.specs.Plan as plan
+use Rattle.log_story.specs.Plan.{Asks, Plan, StepText, step_payload, text_payload}
 use Rattle.log_story.specs.Servers as servers
 use Rattle.log_story.specs.Servers.{begun_on, quits_by, quits_for, stepped}
 use Rattle.log_story.specs.Tale.{Tale, is_reset_step, link_in}
 use Rattle.tale_world.specs.Tests as tests
 use Rattle.tale_world.specs.Tests.{may_begin_question, may_tell}
 use Rattle.link_state.specs.Dones.{is_quiet}
+use Rattle.link_state.specs.Spells.{spelt}
 use Rattle.link_state.specs.Writes as writes
 use Rattle.link_state.specs.Writes.{is_whole}
 use Rattle.link_state.specs.declared.asking.Asking.{Asking}
@@ -35,6 +37,7 @@ use Rattle.lent_link.specs.declared.link.Begins.{Begins}
 use Rattle.lent_link.specs.declared.link.Begins.TheVariants as begins
 use Rattle.served_link.specs.declared.row.Row.{Row}
 use Rattle.link_laws.specs.Stands.{Codes}
+use Rattle.row_laws.specs.Begins.{IsNext}
 use Rattle.row_laws.specs.Rows.{IsRowIn}
 use Rattle.core_tables.specs.Passing.{is_ready, may_state, passes, passes_for, passes_next, sends, sends_by, with_session, with_work}
 use Rattle.core_tables.specs.Tables.{Tabled}
@@ -43,8 +46,8 @@ use Rattle.core_stands.specs.Grounds.{Ground, view_on}
 use Rattle.core_stands.specs.Servers.{IsNextFor, IsNextOf, IsServer, IsTagged, tag_for}
 use Rattle.core_stands.specs.Stands.{Stands}
 use Rattle.core_laws.specs.writing.Planned.{IsPlanned, IsPlannedFor, planned_on}
-use Rattle.core_laws.proofs.OfWriting.Begun.{Begun, offered_tag, told_for}
-use Rattle.core_laws.proofs.OfWriting.Knowing.{entered, law_quiet, serves, serving}
+use Rattle.core_laws.proofs.OfWriting.Begun.{Begun, no_bytes, offered_tag, told_for}
+use Rattle.core_laws.proofs.OfWriting.Knowing.{entered, law_quiet, serves, serving, unread}
 use Rattle.core_laws.proofs.OfWriting.Stating.{states}
 use Rattle.core_laws.proofs.OfWriting.Stepping.{captures, ends, owns, syncs}
 
@@ -177,12 +180,40 @@ module _ (law : MayBegin) (service : Service) (g : Ground) (t : Tabled) (l : Lin
       else (if quits_by step then [] else stepped l Own step)) planned
       ∙ ap (λ (b : Bool). if b then Broke ∷ [] else []) (and_false (is_some_of (g.tale.wires l).unread))
 
-  pub quit_tag : (offer : Offer) → server.link.next ≡ Some begins.Quits → left_in server.link ≡ Some offer → offer.tag ≡ tags.Own
-  quit_tag offer same_next left =
-      let next : IsNextOf (Some begins.Quits) g t server (link_in g.setup g.tale l) =
+  -- what the router asks of its own, and of nobody's, has its own tag
+  pub own_tag : (next : Begins) (said : List ℕ)
+      → (IsNextOf (Some next) g t server (link_in g.setup g.tale l) → IsTagged server.link.writing tags.Own × IsNext server.link.writing said)
+      → (offer : Offer) → server.link.next ≡ Some next → left_in server.link ≡ Some offer → offer.tag ≡ tags.Own
+  own_tag next said tagged offer same_next left =
+      let stands_next : IsNextOf (Some next) g t server (link_in g.setup g.tale l) =
       subst (λ (x : Option Begins). IsNextOf x g t server (link_in g.setup g.tale l)) same_next is.next in
-      let inside = ap is_in (serving g t l server is begins.Quits same_next).inside in
-      offered_tag server.link.state.stage server.link.writing offer tags.Own (left_inside server offer inside left) next.0
+      let inside = ap is_in (serving g t l server is next same_next).inside in
+      offered_tag server.link.state.stage server.link.writing offer tags.Own (left_inside server offer inside left) (tagged stands_next).0
+
+  pub quit_tag : (offer : Offer) → server.link.next ≡ Some begins.Quits → left_in server.link ≡ Some offer → offer.tag ≡ tags.Own
+  quit_tag offer same_next left = own_tag begins.Quits (spelt (text_payload Quit)) (λ next. next) offer same_next left
+
+  -- A STMT_CLOSE and a STMT_RESET begin: of the second nothing is told.
+
+  module _ (next : Begins) (same_next : server.link.next ≡ Some next) (fine : server.link.spoilt ≡ false) where
+    stepped_told : (step : StepText) → quits_by step ≡ false → planned_on g l ≡ step → told_for g l tags.Own ≡ stepped l Own step
+    stepped_told step stays planned =
+        no_bytes g l tags.Own (unread g t l server is next same_next fine)
+        ∙ ap (λ (x : StepText). if quits_by x then [] else stepped l Own x) planned
+        ∙ ap (λ (b : Bool). if b then [] else stepped l Own step) stays
+
+    pub closes_told : (number : ℕ) → planned_on g l ≡ plan.Closes number → told_for g l tags.Own ≡ Unprepared l number ∷ []
+    closes_told number planned = stepped_told (plan.Closes number) refl planned
+
+    pub resets_told : (number : ℕ) → planned_on g l ≡ plan.Resets number → told_for g l tags.Own ≡ []
+    resets_told number planned = stepped_told (plan.Resets number) refl planned
+
+    closes_may : (number : ℕ) → may_tell g.setup (Unprepared l number ∷ []) g.tale.story ≡ true
+    closes_may number = law_quiet g t l server is next same_next
+
+  pub fine_so : is_ready server ≡ true → server.link.spoilt ≡ false
+  fine_so ready =
+      not-true server.link.spoilt (and_parts (not server.link.spoilt) (is_quiet server.link.state.stage) (and_parts (not server.lost) _ ready).1).0
 
   -- All.
 
@@ -190,8 +221,15 @@ module _ (law : MayBegin) (service : Service) (g : Ground) (t : Tabled) (l : Lin
       → IsPlanned next g l server → servers.may_begin g.setup l (g.tale.wires l) g.tale ≡ true → may_tell g.setup (told_for g l offer.tag) g.tale.story ≡ true
   tells_by None same offer passes left planned begins = absurd (goes_on offer left same begins)
   tells_by (Some (begins.Asks asking)) same offer passes left planned begins = asks_told asking offer.tag same (begun_so asking offer same passes left planned)
-  tells_by (Some (begins.Closes number)) same offer passes left planned begins = absurd (false≢true passes)
-  tells_by (Some (begins.Resets number)) same offer passes left planned begins = absurd (false≢true passes)
+  tells_by (Some (begins.Closes number)) same offer passes left planned starts =
+      ap (λ (tag : Tag). may_tell g.setup (told_for g l tag) g.tale.story)
+      (own_tag (begins.Closes number) (spelt (step_payload (plan.Closes number))) (λ next. next) offer same left)
+      ∙ ap (λ (es : List Happening). may_tell g.setup es g.tale.story) (closes_told (begins.Closes number) same (fine_so passes) number planned)
+      ∙ closes_may (begins.Closes number) same (fine_so passes) number
+  tells_by (Some (begins.Resets number)) same offer passes left planned starts =
+      ap (λ (tag : Tag). may_tell g.setup (told_for g l tag) g.tale.story)
+      (own_tag (begins.Resets number) (spelt (step_payload (plan.Resets number))) (λ next. next) offer same left)
+      ∙ ap (λ (es : List Happening). may_tell g.setup es g.tale.story) (resets_told (begins.Resets number) same (fine_so passes) number planned)
   tells_by (Some begins.Quits) same offer passes left planned begins =
       ap (λ (tag : Tag). may_tell g.setup (told_for g l tag) g.tale.story) (quit_tag offer same left)
       ∙ ap (λ (es : List Happening). may_tell g.setup es g.tale.story) (quits_told planned)

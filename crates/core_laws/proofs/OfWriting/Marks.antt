@@ -10,9 +10,11 @@ use Rattle.server_rule.specs.Classes.{Reads as Classes}
 use Rattle.private_model.proofs.Maps.{link_of, same_link}
 use Rattle.private_model.specs.Names.{ClientNo, LinkId}
 use Rattle.private_model.specs.Story as story
-use Rattle.private_model.specs.Story.{Dropped, Happening, Ran, command_of, is_link_id, put}
+use Rattle.private_model.specs.Story.{Dropped, Ran, command_of, is_link_id, put}
 use Rattle.private_model.specs.View as view
 use Rattle.private_model.specs.View.{Link, Setup, View, ran_by}
+use Rattle.session_state.specs.declared.place.Told.{Told}
+use Rattle.tale_world.specs.Tests.{is_told_key}
 use Rattle.log_story.specs.Honest.{number_for}
 use Rattle.log_story.specs.Plan.{Plan}
 use Rattle.log_story.specs.Tale as tales
@@ -28,7 +30,6 @@ use Rattle.link_laws.specs.Stands.{Codes}
 use Rattle.lent_link.specs.declared.link.Begins.{Begins}
 use Rattle.lent_link.specs.declared.link.Begins.TheVariants as begins
 use Rattle.served_link.specs.declared.row.Row.{Row}
-use Rattle.desk_laws.specs.Spares.{touches}
 use Rattle.row_laws.specs.Begins.{IsNext, IsReadied}
 use Rattle.row_laws.specs.Rows.{IsRowIn}
 use Rattle.row_laws.specs.Written.{spelt_as}
@@ -36,11 +37,12 @@ use Rattle.core_tables.specs.Tables.{Tabled}
 use Rattle.core_tables.specs.declared.client.Client.{Client}
 use Rattle.core_tables.specs.declared.server.Server.{Server}
 use Rattle.core_stands.specs.Grounds.{Ground, on, view_on}
-use Rattle.core_stands.specs.Servers.{IsNextFor, IsNextOf, IsReplyingAt, IsReplyingFor, IsServer, IsServerBy, IsServerOr, IsStandingAt}
+use Rattle.core_stands.specs.Servers.{IsNextFor, IsNextOf, IsReplyingAt, IsReplyingFor, IsServer, IsServerBy, IsServerOr, IsStandingAt, keyed_text}
 use Rattle.core_stands.specs.Stands.{AreClients, AreHomes, IsAt, Stands}
 use Rattle.core_laws.proofs.OfWriting.Framing.{Onward, SameHomes, homes_on, parted_on, same_reads, server_on, standing_on}
-use Rattle.core_laws.proofs.OfWriting.Moving.{clients_made}
+use Rattle.core_laws.proofs.OfWriting.Moving.{ClientsAtStay, clients_made}
 use Rattle.core_laws.proofs.OfWriting.Texts.{beside, is_beside}
+use Rattle.core_laws.proofs.OfPrepared.Rows.{are_prepared, rows_same}
 
 put_there : {A : Type 0} (f : LinkId → A) (l : LinkId) (x : A) → put is_link_id f l x l ≡ x
 put_there f l x = ap (λ (same : Bool). if same then x else f l) (same_link l)
@@ -48,12 +50,7 @@ put_there f l x = ap (λ (same : Bool). if same then x else f l) (same_link l)
 put_apart : {A : Type 0} (f : LinkId → A) (l : LinkId) (x : A) (k : LinkId) → is_link_id k l ≡ false → put is_link_id f l x k ≡ f k
 put_apart f l x k apart = ap (λ (same : Bool). if same then x else f k) apart
 
--- parting_laws' clients_at_stay and row_laws' rows_run_unseen
-
-abbrev pub ClientsAtStay : Type 0
-ClientsAtStay = (g : Ground) (t other : Tabled) (client : tales.Client) (e : Happening) → IsAt g t client
-    → touches (view_on g) e client.number ≡ false → other.clients client.number ≡ t.clients client.number
-    → other.numbers client.link ≡ t.numbers client.link → IsAt (on g (tell e g.tale)) other client
+-- row_laws' rows_run_unseen
 
 abbrev pub RunsUnseen : Type 0
 RunsUnseen = (setup : Setup) (codes : Codes) (plan : Plan) (tale : Tale) (l : LinkId) (row : Row) → IsRowIn setup codes plan tale l row
@@ -86,6 +83,7 @@ module _ (at_stay : ClientsAtStay) (runs : RunsUnseen) (service : Service) (g : 
     dues = λ n due there. there;
     carriers = λ m other there. there;
     replies = refl;
+    ahead = λ other n apart carries ahead. ahead;
   }
 
   pub drops : Stands service (on g dropped) t
@@ -97,6 +95,8 @@ module _ (at_stay : ClientsAtStay) (runs : RunsUnseen) (service : Service) (g : 
     servers = λ k. server_on g t t (beside k) dropped (onward_dropped (beside k)) (same_reads t t (λ c. refl)) k (is_beside k) (t.links k) (stands.servers k);
     homes = homes_on g (on g dropped) t t (same_homes t) stands.homes;
     lawful = (stands.lawful, tt);
+    prepared = are_prepared g dropped g.over g.fresh t t stands.clients (λ m. refl) stands.prepared (λ client seated. seated) (rows_same t t (λ c. refl));
+    duly = stands.duly;
   }
 
   -- it runs
@@ -126,12 +126,18 @@ module _ (at_stay : ClientsAtStay) (runs : RunsUnseen) (service : Service) (g : 
     dues = λ n due there. there;
     carriers = λ m other there. there;
     replies = refl;
+    ahead = λ other n apart carries ahead. ahead;
   }
 
   live_same : (stage : view.Stage) → (ran_by g.setup.reads stage was).live ≡ was.live
   live_same view.Quiet = refl
   live_same (view.Asked question) = refl
   live_same (view.Answered question) = refl
+
+  told_same : (stage : view.Stage) → (ran_by g.setup.reads stage was).told ≡ was.told
+  told_same view.Quiet = refl
+  told_same (view.Asked question) = refl
+  told_same (view.Answered question) = refl
 
   usable_same : (stage : view.Stage) → (ran_by g.setup.reads stage was).usable ≡ was.usable
   usable_same view.Quiet = refl
@@ -162,7 +168,13 @@ module _ (at_stay : ClientsAtStay) (runs : RunsUnseen) (service : Service) (g : 
       plain = next.plain;
       taken_up = record { client = next.taken_up.client; seated = next.taken_up.seated; number = next.taken_up.number; by_now = next.taken_up.by_now };
     }
-    next_for (purposes.Prep n ordinal key) asking next = next
+    next_for (purposes.Prep n ordinal key) asking next = record {
+      said = λ due there same. readied_ran asking (story.Prep n due.key (keyed_text g due)) (next.said due there same);
+      told = λ due there same.
+          ap (λ (x : Told). is_told_key g.setup due.key (keyed_text g due) x) (ap (λ (k : Link). k.told) link_ran ∙ told_same was.stage)
+          ∙ next.told due there same;
+      taken_up = record { client = next.taken_up.client; seated = next.taken_up.seated; number = next.taken_up.number; by_now = next.taken_up.by_now };
+    }
     next_for (purposes.Sync n) asking next = record { command = next.command; said = readied_ran asking (story.Sync n next.command) next.said }
     next_for purposes.Own asking next = record { command = next.command; said = readied_ran asking (story.Own next.command) next.said }
     next_for (purposes.End n) asking next = readied_ran asking (story.End n) next
@@ -231,6 +243,8 @@ module _ (at_stay : ClientsAtStay) (runs : RunsUnseen) (service : Service) (g : 
     servers = λ k. servers_ran k (is_link_id k l) refl;
     homes = homes_on g (on g ran) t t (same_homes t) stands.homes;
     lawful = (stands.lawful, tt);
+    prepared = are_prepared g ran g.over g.fresh t t stands.clients (λ m. refl) stands.prepared (λ client seated. seated) (rows_same t t (λ c. refl));
+    duly = stands.duly;
   }
 
   entered_by : (entered quits : Bool) → Stands service (on g (if entered then tell (if quits then Dropped l else Ran l) g.tale else g.tale)) t

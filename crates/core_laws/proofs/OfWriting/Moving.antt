@@ -25,7 +25,7 @@ use Rattle.client_seat.specs.declared.phase.Phase.{Phase}
 use Rattle.client_seat.specs.declared.seat.Seat.{Seat}
 use Rattle.client_seat.specs.declared.phase.Phase.TheVariants as phase
 use Rattle.desk_laws.specs.Spares.{SparesAsked, SparesToCome, touches}
-use Rattle.desk_laws.specs.Stands.{AreToCome, IsDesk, IsPlaced, IsSentOrNot, IsSession, IsWork, IsWorkOr, message_at, name_at}
+use Rattle.desk_laws.specs.Stands.{AreDueEarlier, AreToCome, IsDesk, IsPlaced, IsSentOrNot, IsSession, IsWork, IsWorkOr, message_at, name_at}
 use Rattle.step_laws.specs.Seats.{AreCounted, IsSeated, numbers}
 use Rattle.core_tables.specs.Tables.{Tabled}
 use Rattle.core_tables.specs.Writing.{client_sent}
@@ -103,6 +103,8 @@ module _ (reads : Reads) (view after : View) (alike : Alike view after) (c : Cli
   coming_alike from is = record {
     unsent = λ ordinal above. ap (λ (f : MessageName → Option LinkId). f (message_at c ordinal)) alike.carriers ∙ is.unsent ordinal above;
     unanswered = λ ordinal above. ap (λ (f : MessageName → Option Reply). f (message_at c ordinal)) alike.replies ∙ is.unanswered ordinal above;
+    due = subst (λ (dues : SessionName → Option Due). AreDueEarlier dues after.carriers c from) (sym alike.dues)
+        (subst (λ (carriers : MessageName → Option LinkId). AreDueEarlier view.dues carriers c from) (sym alike.carriers) is.due);
   }
 
 pub step_alike : (setup : Setup) (view : View) (l : LinkId) (q : Question) → IsStep q → Alike view (view_step setup view (Sent l q))
@@ -126,6 +128,12 @@ OthersStay = (setup : Setup) (view : View) (c : ClientNo) (desk : Desk) (e : Hap
 abbrev pub ComingStays : Type 0
 ComingStays = (setup : Setup) (view : View) (c : ClientNo) (from : ℕ) (e : Happening) → AreToCome view c from → SparesToCome view c from e
     → AreToCome (view_step setup view e) c from
+
+-- parting's clients_at_stay
+abbrev pub ClientsAtStay : Type 0
+ClientsAtStay = (g : Ground) (t other : Tabled) (client : tales.Client) (e : Happening) → IsAt g t client
+    → touches (view_on g) e client.number ≡ false → other.clients client.number ≡ t.clients client.number
+    → other.numbers client.link ≡ t.numbers client.link → IsAt (on g (tell e g.tale)) other client
 
 -- Clients are those of the tale still.
 
@@ -314,16 +322,16 @@ module _ (g : Ground) (l : LinkId) (wire : Wire) where
     pub client_here_sent : (client : tales.Client) (row : Client) (work : Work) (lasting : Bool) → row.desk.work ≡ Some work
         → IsGoing g client row → IsWorking g client row work → is_ended row.desk.seat.phase ≡ false
         → IsDesk g.setup.reads (view_of g.setup (sent (Statement n due))) client.number (desks.sent n.hostgroup l lasting row.desk)
-        → due.ordinal < suc client.taken
+        → due.ordinal < suc client.taken → (view_on g).dues n ≡ Some due
         → (session_of (desks.sent n.hostgroup l lasting row.desk) work.hostgroup).home ≡ (view_of g.setup (sent (Statement n due))).carriers (message_named client work.ordinal)
         → IsClient g client row
         → IsClient (on g (sent (Statement n due))) client (client_sent n.hostgroup l lasting row)
-    client_here_sent client row work lasting in_work goes works present_is desk below home is = record {
+    client_here_sent client row work lasting in_work goes works present_is desk below dues home is = record {
       who = is.who;
       heard = is.heard;
       owed = owing_sent (Statement n due) client row.desk.seat row.desk.seat.phase (g.fresh client.number) is.owed;
       desk = desk;
-      coming = coming g.setup (view_on g) client.number (suc client.taken) (Sent l (Statement n due)) is.coming (inr below);
+      coming = coming g.setup (view_on g) client.number (suc client.taken) (Sent l (Statement n due)) is.coming (inr (below, dues));
       phase = subst (λ (ended : Bool). IsPhase ended (on g (sent (Statement n due))) client (client_sent n.hostgroup l lasting row)) (sym present_is) (record {
         going = goes.going;
         earlier = goes.earlier;

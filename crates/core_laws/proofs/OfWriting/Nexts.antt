@@ -14,7 +14,8 @@ use Rattle.private_model.specs.Names.{ClientNo, LinkId, SessionName}
 use Rattle.private_model.specs.Story as story
 use Rattle.private_model.specs.Story.{is_link_id}
 use Rattle.private_model.specs.View.{Link, Setup}
-use Rattle.log_story.specs.Plan.{Plan, text_payload}
+use Rattle.log_story.specs.Plan as plan
+use Rattle.log_story.specs.Plan.{Plan, step_payload, text_payload}
 use Rattle.log_story.specs.Tale as tales
 use Rattle.log_story.specs.Tale.{Tale, is_to_server, link_in}
 use Rattle.link_state.specs.Asks.{tag_of}
@@ -50,7 +51,7 @@ use Rattle.core_tables.specs.declared.client.Client.{Client}
 use Rattle.core_tables.specs.declared.server.Server.{Server}
 use Rattle.core_stands.specs.Clients.{IsClientOr}
 use Rattle.core_stands.specs.Grounds.{Ground, on, view_on}
-use Rattle.core_stands.specs.Servers.{IsNextFor, IsNextOf, IsPartedAt, IsReplyingAt, IsServer, IsServerOr, is_lent, is_stating, tag_for}
+use Rattle.core_stands.specs.Servers.{IsNextFor, IsNextOf, IsPartedAt, IsReplyingAt, IsServer, IsServerOr, IsAhead, OfLent, is_stating, tag_for}
 use Rattle.core_stands.specs.Stands.{AreClients, IsAt, Stands}
 use Rattle.core_laws.specs.writing.Planned.{IsOpen}
 use Rattle.core_laws.proofs.OfWriting.Framing.{Onward, flipped, homes_on, link_apart, link_here, same_reads, server_on}
@@ -71,6 +72,7 @@ onward_none g l = record {
   dues = λ n due there. there;
   carriers = λ m other there. there;
   replies = refl;
+  ahead = λ other n apart carries ahead. ahead;
 }
 
 pub quiet_open : (link : LentLink) → may_begin link ≡ true → link.state.stage ≡ Quiet
@@ -110,7 +112,9 @@ module _ (service : Service) (g : Ground) (t : Tabled) (l : LinkId) (server : Se
     found_rows = ap (λ (i : Identity). i.found_rows) identity ∙ is.found_rows;
     standing = is.standing;
     next = next;
-    lent = subst (λ (s : LinkState). is_lent s.carries ≡ true → is_stating s.stage ≡ true) (sym state) is.lent;
+    lent = λ kept mine.
+        subst (λ (s : LinkState). is_stating s.stage ≡ false → OfLent s.carries (IsAhead (view_on g))) (sym state)
+        (is.lent (sym lost ∙ kept) (sym left ∙ mine));
     parted = λ sound kept left_some. subst (λ (stage : Stage). IsPartedAt stage g) (sym quiet_now) tt;
     replying = λ sound kept mine. subst (λ (stage : Stage). IsReplyingAt stage g now l (by server.row)) (sym quiet_now) tt;
   }
@@ -135,6 +139,8 @@ module _ (service : Service) (g : Ground) (t : Tabled) (l : LinkId) (server : Se
         (server_on g t now l g.tale (onward_none g l) (same_reads t now (λ c. refl)) other apart (t.links other) (stands.servers other)));
     homes = homes_on g g t now (same_but t now l server after (λ c. refl) open_so.there there_now others_now (ap (λ (s : LinkState). name_in s.carries) state) left lost) stands.homes;
     lawful = stands.lawful;
+    prepared = stands.prepared;
+    duly = stands.duly;
   }
 
 -- row_laws' rows_take_next, steps_are_readied and ends_are_readied
@@ -162,7 +168,7 @@ module _ (takes : TakesNext) (service : Service) (g : Ground) (t : Tabled) (l : 
   abbrev Next : Tag → List ℕ → Begins → Option CellRead → Type 0
   Next tag bytes next cell = IsRowIn g.setup g.codes g.plan g.tale l (record server.row { link = stands_next tag bytes next 1 0 server.row.link; multiplex = None; cell = cell })
 
-  row_next : (tag : Tag) (bytes : List ℕ) (next : Begins) (cell : Option CellRead) → Next tag bytes next cell
+  pub row_next : (tag : Tag) (bytes : List ℕ) (next : Begins) (cell : Option CellRead) → Next tag bytes next cell
   row_next tag bytes next cell =
       takes g.setup g.codes g.plan g.tale l server.row tag bytes next 1 0 None cell (server_at service g t l server stands open_so.there).row open_so.entered open_so.free open_so.stays
 
@@ -218,3 +224,16 @@ module _ (takes : TakesNext) (service : Service) (g : Ground) (t : Tabled) (l : 
   pub quits_so : ((row : Row) → IsNext (farewell row).link.writing (spelt (text_payload commands.Quit))) → Stands service g (quit_begun l t)
   quits_so spelt_so =
       stands_by service g t l server stands open_so farewell (row_next _ _ _ None) refl refl refl refl (refl, spelt_so server.row)
+
+  -- a STMT_CLOSE, and a STMT_RESET
+  pub closes_so : (purpose : Purpose) (number : ℕ)
+      → IsNext (step_begins purpose (wishes.Closes number) server.row).link.writing (spelt (step_payload (plan.Closes number)))
+      → Stands service g (step_begun l purpose (wishes.Closes number) t)
+  closes_so purpose number spelt_so =
+      stands_by service g t l server stands open_so (step_begins purpose (wishes.Closes number)) (row_next _ _ _ None) refl refl refl refl (refl, spelt_so)
+
+  pub resets_so : (purpose : Purpose) (number : ℕ)
+      → IsNext (step_begins purpose (wishes.Resets number) server.row).link.writing (spelt (step_payload (plan.Resets number)))
+      → Stands service g (step_begun l purpose (wishes.Resets number) t)
+  resets_so purpose number spelt_so =
+      stands_by service g t l server stands open_so (step_begins purpose (wishes.Resets number)) (row_next _ _ _ None) refl refl refl refl (refl, spelt_so)

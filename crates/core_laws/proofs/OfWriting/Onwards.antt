@@ -1,5 +1,5 @@
 -- What is told as bytes are written leaves other links as they are.
-use Rattle.std.specs.Prelude.{◌≡◌, ◌⊎◌, ◌<◌, ◌≤◌, ℕ, suc, Bool, true, false, not, ◌||◌, nat_eq, if◌then◌else◌, List, [], ◌∷◌, Option, Some, None}
+use Rattle.std.specs.Prelude.{◌≡◌, ◌⊎◌, ◌<◌, ◌≤◌, ℕ, suc, Bool, true, false, not, ◌||◌, is_some, nat_eq, if◌then◌else◌, List, [], ◌∷◌, Option, Some, None}
 use Rattle.std.specs.Option.{option_map}
 use Rattle.std.proofs.Common.{refl, sym, ap, ◌∙◌, subst, arith}
 use Rattle.std.proofs.lemmas.Bool.{false≢true, true≢false}
@@ -7,7 +7,7 @@ use Rattle.std.proofs.lemmas.Option.{none-some, same_Some}
 use Rattle.private_model.proofs.Maps.{client_of, message_is, name_of as name_is, same_message, same_name}
 use Rattle.private_model.specs.Names.{ClientNo, Hostgroup, LinkId, MessageName, SessionName}
 use Rattle.private_model.specs.Story.{Due, Question, Statement, is_client, is_link_id, is_message, is_name, message_of, put}
-use Rattle.private_model.specs.View.{Held, View}
+use Rattle.private_model.specs.View.{Held, View, session_in}
 use Rattle.log_story.specs.Tale.{Tale, Wire, view_of}
 use Rattle.client_desk.specs.Desks as desks
 use Rattle.client_desk.specs.Works.{gone_out}
@@ -16,6 +16,7 @@ use Rattle.core_tables.specs.Tables.{Tabled, client_changed}
 use Rattle.core_tables.specs.Writing.{client_sent}
 use Rattle.core_tables.specs.declared.client.Client.{Client}
 use Rattle.core_stands.specs.Grounds.{Ground, view_on}
+use Rattle.core_stands.specs.Servers.{IsAhead}
 use Rattle.core_laws.proofs.OfWriting.Begun.{IsDueThere, IsStated, IsStep}
 use Rattle.core_laws.proofs.OfWriting.Framing.{Kept, Older, Onward, Reads}
 use Rattle.core_laws.proofs.OfWriting.Moving.{Alike, sent, step_alike, still}
@@ -38,6 +39,7 @@ module _ (g : Ground) (l : LinkId) (wire : Wire) where
     dues = λ n due there. there;
     carriers = λ m other there. there;
     replies = refl;
+    ahead = λ other n apart carries ahead. ahead;
   }
 
   pub onward_step : (q : Question) → IsStep q → Onward g l (sent g l wire q)
@@ -55,11 +57,13 @@ module _ (g : Ground) (l : LinkId) (wire : Wire) where
         dues = λ n due there. sym (ap (λ (f : SessionName → Option Due). f n) alike.dues) ∙ there;
         carriers = λ m other there. ap (λ (f : MessageName → Option LinkId). f m) alike.carriers ∙ there;
         replies = refl;
+        ahead = λ other n apart carries ahead. ap (λ (f : SessionName → Option Due). is_some (f n)) alike.dues ∙ ahead;
       }
 
   -- a statement goes out, which is due in a present session, and wasn't sent
 
-  module _ (n : SessionName) (due : Due) (present : n.life ≡ (view_on g).lives n.client n.hostgroup) (unsent : (view_on g).carriers (message_of n due) ≡ None) where
+  module _ (n : SessionName) (due : Due) (present : n.life ≡ (view_on g).lives n.client n.hostgroup) (unsent : (view_on g).carriers (message_of n due) ≡ None)
+      (apart : (other : LinkId) (m : SessionName) → is_link_id other l ≡ false → session_in ((view_on g).links other).carries ≡ Some m → is_name m n ≡ false) where
     home_pin : (m : SessionName) (same : Bool) → is_name m n ≡ same
         → (if same then record ((view_on g).held n) { home = Some l } else (view_on g).held m).pin ≡ ((view_on g).held m).pin
     home_pin m true is = ap (λ (k : SessionName). ((view_on g).held k).pin) (sym (name_is m n is))
@@ -81,6 +85,10 @@ module _ (g : Ground) (l : LinkId) (wire : Wire) where
     due_by m other true there = absurd (none-some other there)
     due_by m other false there = there
 
+    ahead_by : (m : SessionName) (same : Bool) → same ≡ false → IsAhead (view_on g) m → is_some (if same then None else (view_on g).dues m) ≡ true
+    ahead_by m true is ahead = absurd (true≢false is)
+    ahead_by m false is ahead = ahead
+
     carrier_by : (m : MessageName) (other : LinkId) (same : Bool) → is_message m (message_of n due) ≡ same → (view_on g).carriers m ≡ Some other
         → (if same then Some l else (view_on g).carriers m) ≡ Some other
     carrier_by m other true is there =
@@ -100,6 +108,7 @@ module _ (g : Ground) (l : LinkId) (wire : Wire) where
       dues = λ m other there. due_by m other (is_name m n) there;
       carriers = λ m other there. carrier_by m other (is_message m (message_of n due)) refl there;
       replies = refl;
+      ahead = λ other m aside carries ahead. ahead_by m (is_name m n) (apart other m aside carries) ahead;
     }
 
 -- The client's work goes out: links read the same of it as far as they do.

@@ -42,6 +42,7 @@ use Rattle.core_stands.specs.Stands.{AreClients, AreHomes, IsAt, IsHome, Stands}
 use Rattle.core_laws.proofs.OfWriting.Framing.{Onward, flipped, same_reads, server_on}
 use Rattle.core_laws.proofs.OfWriting.Moving.{clients_made}
 use Rattle.core_laws.proofs.OfWriting.Sending.{servers_made}
+use Rattle.core_laws.proofs.OfPrepared.Rows.{are_prepared, rows_same}
 
 -- row_laws' rows_open
 abbrev pub RowsOpen : Type 0
@@ -105,6 +106,7 @@ module _ (rows : RowsOpen) (service : Service) (g : Ground) (t : Tabled) (server
     dues = λ n due at. at;
     carriers = λ m other at. at;
     replies = refl;
+    ahead = λ other n apart carries ahead. ahead;
   }
 
   -- clients
@@ -174,7 +176,7 @@ module _ (rows : RowsOpen) (service : Service) (g : Ground) (t : Tabled) (server
     found_rows = refl;
     standing = subst (λ (k : Link). IsStandingAt k.stage after l) (sym unborn) tt;
     next = tt;
-    lent = λ lent. absurd (false≢true lent);
+    lent = λ kept mine unstated. tt;
     parted = λ sound kept left. tt;
     replying = λ sound kept mine. tt;
   }
@@ -219,4 +221,6 @@ module _ (rows : RowsOpen) (service : Service) (g : Ground) (t : Tabled) (server
         (server_on g t now l tale onward (same_reads t now (λ c. refl)) other other_apart (t.links other) (stands.servers other)));
     homes = homes_on;
     lawful = stands.lawful;
+    prepared = are_prepared g tale g.over g.fresh t now stands.clients (λ m. refl) stands.prepared (λ client seated. seated) (rows_same t now (λ c. refl));
+    duly = stands.duly;
   }

@@ -17,11 +17,12 @@ use Rattle.private_model.specs.Commands.{Command, Quit, class_of}
 use Rattle.private_model.specs.Lawful.{IsLawful}
 use Rattle.private_model.specs.Names.{ClientNo, Hostgroup, LinkId, MessageName, SessionName}
 use Rattle.private_model.specs.Story as story
-use Rattle.private_model.specs.Story.{Due, Happening, Question, Sent, command_of, is_link_id, message_of, put}
+use Rattle.private_model.specs.Story.{Due, Happening, Question, Sent, Unprepared, command_of, is_link_id, is_name, message_of, put}
 use Rattle.private_model.specs.View as view
-use Rattle.private_model.specs.View.{Link, Setup, View, view_step}
+use Rattle.private_model.specs.View.{Link, Setup, View, closed_number, session_in, view_step}
 use Rattle.private_model.specs.View.{asked as asked_there}
-use Rattle.log_story.specs.Plan.{Asks, Plan, StepText}
+use Rattle.log_story.specs.Plan as plan
+use Rattle.log_story.specs.Plan.{Asks, Plan, StepText, step_payload}
 use Rattle.log_story.specs.Servers as servers
 use Rattle.log_story.specs.Servers.{begun_on, quits_for, reply_id, step_for, tell_all, writes}
 use Rattle.log_story.specs.Servers.{begins as law_begins}
@@ -29,11 +30,12 @@ use Rattle.log_story.specs.Tale as tales
 use Rattle.log_story.specs.Telling.{told}
 use Rattle.mx_wire.specs.declared.entry.Entry.TheVariants.{Wrote as WroteBytes}
 use Rattle.log_story.specs.Tale.{client_gets}
-use Rattle.log_story.specs.Tale.{Tale, Wire, is_to_server, link_in, view_of, with_wire}
+use Rattle.log_story.specs.Tale.{Tale, Wire, is_to_server, link_in, tell, view_of, with_wire}
 use Rattle.tale_world.proofs.Testing.{tells_so}
 use Rattle.link_state.specs.Asks.{kind_of, lends_by, lent_for}
+use Rattle.link_state.specs.Spells.{spelt}
 use Rattle.link_state.specs.declared.asking.Form.{Form}
-use Rattle.link_laws.specs.Stands.{IsForm}
+use Rattle.link_laws.specs.Stands.{IsForm, IsPurpose}
 use Rattle.server_rule.specs.Classes.{Reads as Classes}
 use Rattle.client_desk.specs.Desks as desks
 use Rattle.client_desk.specs.Desks.{session_of}
@@ -42,6 +44,7 @@ use Rattle.link_state.specs.Dones.{is_quiet}
 use Rattle.link_state.specs.declared.asking.Asking.{Asking}
 use Rattle.link_state.specs.declared.asking.Purpose.{Purpose}
 use Rattle.link_state.specs.declared.asking.Purpose.TheVariants as purposes
+use Rattle.link_state.specs.declared.state.Carried.{Carried}
 use Rattle.link_state.specs.declared.state.LinkState.{LinkState}
 use Rattle.link_state.specs.declared.state.Stage.{Stage}
 use Rattle.link_state.specs.declared.state.Stage.TheVariants.{Quiet, Asked, Answered}
@@ -55,7 +58,7 @@ use Rattle.lent_link.specs.declared.link.Begins.TheVariants as begins
 use Rattle.lent_link.specs.declared.link.LentLink.{LentLink}
 use Rattle.lent_link.specs.declared.link.Step.{Step}
 use Rattle.lent_link.specs.declared.link.Step.TheVariants.{Other, Closes, Resets}
-use Rattle.served_link.specs.Writes.{began, next_kind, wrote}
+use Rattle.served_link.specs.Writes.{began, kind_of as kind_begun, next_kind, wrote}
 use Rattle.served_link.specs.declared.row.Identity.{Identity}
 use Rattle.served_link.specs.declared.row.LeftSession.{LeftSession}
 use Rattle.served_link.specs.declared.row.Row.{Row}
@@ -72,18 +75,21 @@ use Rattle.core_tables.specs.Writing.{wrote_on as wrote_on_tables}
 use Rattle.core_tables.specs.declared.client.Client.{Client}
 use Rattle.core_tables.specs.declared.server.Server.{Server}
 use Rattle.core_stands.specs.Grounds.{Ground, on, view_on}
-use Rattle.core_stands.specs.Servers.{IsPartedAt, IsPartedFor, is_lent, is_stating, IsNextFor, IsNextOf, IsNextStatement, IsReplying, IsReplyingAt, IsReplyingFor, IsServer, IsServerBy, IsServerOr, IsStanding, IsStandingAt}
-use Rattle.core_stands.specs.Stands.{AreClients, AreHomes, Stands}
+use Rattle.core_stands.specs.Servers.{IsPartedAt, IsPartedFor, IsAhead, OfLent, is_stating, IsNextFor, IsNextOf, IsNextStatement, IsReplying, IsReplyingAt, IsReplyingFor, IsServer, IsServerBy, IsServerOr, IsStanding, IsStandingAt}
+use Rattle.core_stands.specs.Stands.{AreClients, AreDuly, AreHomes, ArePrepared, IsAt, Stands}
 use Rattle.core_laws.specs.writing.Planned.{IsPlanned, planned_on}
+use Rattle.core_laws.proofs.OfParting.Ahead.{ahead_same, sent_apart}
+use Rattle.core_laws.proofs.OfParting.Homes.{homes_so}
 use Rattle.core_laws.proofs.OfWriting.Begun.{Begun, IsDueThere, IsStated, IsStep, OfPurpose, told_for}
 use Rattle.core_laws.proofs.OfWriting.Framing.{CarriedOf, HomeOf, Onward, Reads, SameHomes, flipped, homes_on, link_apart, link_here, parted_on, same_reads, server_on, standing_on}
-use Rattle.core_laws.proofs.OfWriting.Knowing.{dry_by, enters_in, entered, is_servers, over, quiet, serves, serving, unread}
-use Rattle.core_laws.proofs.OfWriting.Lending.{BegunFor, IsLent, MayBegin, begun_so, goes_on, left_inside, may_send, quit_tag, quits_told}
-use Rattle.core_laws.proofs.OfWriting.Moving.{ComingStays, OthersStay, clients_still, clients_step, sent, still}
+use Rattle.core_laws.proofs.OfWriting.Knowing.{dry_by, enters_in, entered, is_servers, law_quiet, over, quiet, serves, serving, unread}
+use Rattle.core_laws.proofs.OfWriting.Lending.{BegunFor, IsLent, MayBegin, begun_so, closes_told, fine_so, goes_on, left_inside, may_send, own_tag, quit_tag, quits_told, resets_told}
+use Rattle.core_laws.proofs.OfWriting.Moving.{Alike, ClientsAtStay, ComingStays, OthersStay, clients_made, clients_still, clients_step, sent, step_alike, still}
 use Rattle.core_laws.proofs.OfWriting.Onwards.{onward_statement, onward_step, onward_still, reads_sent}
 use Rattle.core_laws.proofs.OfWriting.Stated.{SentDesk, SentStands, clients_sent, homes_sent, now_there, sent_desk}
 use Rattle.core_laws.proofs.OfWriting.Stating.{due_is, life_is, unanswered_there, unsent_there}
 use Rattle.core_laws.proofs.OfWriting.Rows.{Wrote, kind_next, kind_none, row_spoilt, wrote_next, wrote_outside, wrote_so}
+use Rattle.core_laws.proofs.OfPrepared.Rows.{are_prepared, rows_changed, rows_same}
 
 put_there : {A : Type 0} (f : LinkId → A) (l : LinkId) (x : A) → put is_link_id f l x l ≡ x
 put_there f l x = ap (λ (same : Bool). if same then x else f l) (same_link l)
@@ -110,6 +116,16 @@ BeginsThere = (setup : Setup) (codes : Codes) (plan : Plan) (tale : Tale) (l : L
     (begun_on setup plan tale.moment (view_of setup tale) l (tale.wires l) tag) (step_for tag (plan.steps l (tale.wires l).begun))
     (quits_for tag (plan.steps l (tale.wires l).begun))
     → IsRowIn setup codes plan (writes setup plan l tag (take count offer.bytes) (tale.wires l) tale) l (wrote count now row)
+
+-- a step prepares nothing
+no_prep : (codes : Codes) (name : SessionName) (ordinal key : ℕ) (question : Question) → IsPurpose codes (purposes.Prep name ordinal key) question → IsStep question
+    → ⊥
+no_prep codes name ordinal key (story.Statement n due) purpose step = step
+no_prep codes name ordinal key (story.Prep n k text) purpose step = step
+no_prep codes name ordinal key (story.Sync n command) purpose step = purpose
+no_prep codes name ordinal key (story.Own command) purpose step = purpose
+no_prep codes name ordinal key (story.End n) purpose step = purpose
+no_prep codes name ordinal key (story.Capture n) purpose step = purpose
 
 -- desk_laws' outlasts_as_said
 abbrev pub OutlastsAsSaid : Type 0
@@ -327,7 +343,9 @@ module _ (may : MayBegin) (says : Says) (writes_on : WritesOn) (begins_there : B
       found_rows = ap (λ (i : Identity). i.found_rows) wrote_row.identity ∙ is.found_rows;
       standing = standing_on g (on g still_now) l (λ m at. at) refl (link_in g.setup g.tale l).stage is.standing;
       next = subst (λ (next : Option Begins). IsNextOf next (on g still_now) written row_now (link_in g.setup still_now l)) (sym going.next) tt;
-      lent = subst (λ (state : LinkState). is_lent state.carries ≡ true → is_stating state.stage ≡ true) (sym going.state) is.lent;
+      lent = λ kept mine.
+          subst (λ (state : LinkState). is_stating state.stage ≡ false → OfLent state.carries (IsAhead (view_on g))) (sym going.state)
+          (is.lent (sym wrote_row.lost ∙ kept) (sym wrote_row.left ∙ mine));
       parted = λ sound kept left_some.
           subst (λ (state : LinkState). IsPartedAt state.stage (on g still_now)) (sym going.state)
           (parted_on g t written l still_now (onward_still g l wire_on) (same_reads t written (λ c. refl)) row.link.state.stage
@@ -352,6 +370,9 @@ module _ (may : MayBegin) (says : Says) (writes_on : WritesOn) (begins_there : B
           (same_but t written l server server_now (λ c. refl) there there_now others_now (ap (λ (s : LinkState). name_in s.carries) going.state)
           wrote_row.left wrote_row.lost) stands.homes;
       lawful = stands.lawful;
+      prepared = are_prepared g still_now g.over g.fresh t written stands.clients (λ m. refl) stands.prepared (λ client seated. seated)
+          (rows_same t written (λ c. refl));
+      duly = stands.duly;
     }
 
     pub goes : Stands service (on g tale_now) (wrote_by (Some server) l count now t)
@@ -392,73 +413,192 @@ module _ (may : MayBegin) (says : Says) (writes_on : WritesOn) (begins_there : B
     unread_now : wire.unread ≡ [] → ((still g l wire_begun).wires l).unread ≡ []
     unread_now none = ap (λ (w : Wire). w.unread) (put_there g.tale.wires l wire_begun) ∙ none
 
-  -- The QUIT begins.
+  -- What asks nothing begins: a STMT_CLOSE, a STMT_RESET or the QUIT. Nothing stands there, and the link carries whom it carried.
+
+  record IsUnasked (next : Begins) : Type 0 where
+    carries : (k : LentLink) → (link_begun next k).state.carries ≡ k.state.carries
+    stage : (k : LentLink) → (link_begun next k).state.stage ≡ k.state.stage
+    rest : (k : LentLink) → (link_begun next k).next ≡ k.next
+    none : began (kind_begun (Some next)) ≡ None
+
+  module _ (next : Begins) (same_next : row.link.next ≡ Some next) (unasked : IsUnasked next) (es : List Happening) (happens : told_for g l offer.tag ≡ es)
+      (beginning : IsBeginning next g.setup.reads g.codes (view_on g) l row (link_in g.setup g.tale l) (told_for g l offer.tag)
+      (step_for offer.tag (planned_on g l)) (quits_for offer.tag (planned_on g l))) where
+    abbrev tale_own : Tale
+    tale_own = tell_all es (still g l (wire_begun next same_next))
+
+    tale_is_own : tale_now ≡ tale_own
+    tale_is_own = begins_so next same_next es happens
+
+    abbrev bare : LentLink
+    bare = record row.link { next = None; writing = option_map (link_writes.wrote count) row.link.writing }
+
+    link_own : row_now.link ≡ link_begun next bare
+    link_own = wrote_row.link_is ∙ wrote_next count row.link (Some next) (at_in next same_next) same_next
+
+    stage_own : row_now.link.state.stage ≡ Quiet
+    stage_own = ap (λ (k : LentLink). k.state.stage) link_own ∙ unasked.stage bare ∙ quiet g t l row is next same_next
+
+    carries_own : row_now.link.state.carries ≡ row.link.state.carries
+    carries_own = ap (λ (k : LentLink). k.state.carries) link_own ∙ unasked.carries bare
+
+    next_own : row_now.link.next ≡ None
+    next_own = ap (λ (k : LentLink). k.next) link_own ∙ unasked.rest bare
+
+    module _ (onward : Onward g l tale_own) (dues : (n : SessionName) → (view_of g.setup tale_own).dues n ≡ (view_on g).dues n)
+        (standing : IsStandingAt (link_in g.setup tale_own l).stage (on g tale_own) l) (clients : AreClients (on g tale_own) written)
+        (lawful : IsLawful g.setup tale_own.story) (prepared : ArePrepared (on g tale_own) written) (duly : AreDuly g.setup g.plan tale_own.story) where
+      server_own : IsServer (on g tale_own) written l row_now
+      server_own = record {
+        row = subst (λ (tale : Tale). IsRowIn g.setup g.codes g.plan tale l row_now) tale_is_own
+            (begins_there g.setup g.codes g.plan g.tale l row offer.tag count now is.row offer left within some (inside next same_next) next same_next beginning);
+        user = ap (λ (i : Identity). i.user) wrote_row.identity ∙ is.user;
+        found_rows = ap (λ (i : Identity). i.found_rows) wrote_row.identity ∙ is.found_rows;
+        standing = standing;
+        next = subst (λ (n : Option Begins). IsNextOf n (on g tale_own) written row_now (link_in g.setup tale_own l)) (sym next_own) tt;
+        lent = λ kept mine unstated.
+            subst (λ (c : Carried). OfLent c (IsAhead (view_of g.setup tale_own))) (sym carries_own)
+            (ahead_same (view_on g) (view_of g.setup tale_own) row.link.state.carries dues
+            (is.lent (sym wrote_row.lost ∙ kept) (sym wrote_row.left ∙ mine) (ap is_stating (quiet g t l row is next same_next))));
+        parted = λ sound kept left_some. subst (λ (stage : Stage). IsPartedAt stage (on g tale_own)) (sym stage_own) tt;
+        replying = λ sound kept mine. subst (λ (stage : Stage). IsReplyingAt stage (on g tale_own) written l row_now) (sym stage_own) tt;
+      }
+
+      stands_own : Stands service (on g tale_own) written
+      stands_own = record {
+        service_is = stands.service_is;
+        room_is = stands.room_is;
+        clients = clients;
+        servers = servers_made g (on g tale_own) t written l server_now there_now
+            (by_to_server (is_to_server tale_own l) (on g tale_own) written l server_now to_server server_own)
+            (λ other apart.
+            subst (λ (x : Option Server). IsServerOr (on g tale_own) written other x) (sym (others_now other apart))
+            (server_on g t written l tale_own onward (same_reads t written (λ c. refl)) other apart (t.links other) (stands.servers other)));
+        homes = homes_on g (on g tale_own) t written
+            (same_but t written l server server_now (λ c. refl) there there_now others_now (ap name_in carries_own) wrote_row.left wrote_row.lost) stands.homes;
+        lawful = lawful;
+        prepared = prepared;
+        duly = duly;
+      }
+
+      own_stands : Stands service (on g tale_now) (wrote_by (Some server) l count now t)
+      own_stands =
+          subst (λ (kind : Kind). Stands service (on g tale_now) (begun_for (began kind) l (lasts row.link.next) written))
+          (sym (kind_next row.link (Some next) (at_in next same_next) same_next))
+          (subst (λ (p : Option Purpose). Stands service (on g tale_now) (begun_for p l (lasts row.link.next) written)) (sym unasked.none)
+          (subst (λ (tale : Tale). Stands service (on g tale) written) (sym tale_is_own) stands_own))
+
+  -- Of the QUIT and of a STMT_RESET nothing is told.
+
+  module _ (next : Begins) (same_next : row.link.next ≡ Some next) (unasked : IsUnasked next) (none : told_for g l offer.tag ≡ [])
+      (beginning : IsBeginning next g.setup.reads g.codes (view_on g) l row (link_in g.setup g.tale l) (told_for g l offer.tag)
+      (step_for offer.tag (planned_on g l)) (quits_for offer.tag (planned_on g l))) where
+    untold : Stands service (on g tale_now) (wrote_by (Some server) l count now t)
+    untold =
+        let wire_now = wire_begun next same_next in
+        own_stands next same_next unasked [] none beginning (onward_still g l wire_now) (λ n. refl)
+        (standing_on g (on g (still g l wire_now)) l (λ m at. at) refl (link_in g.setup g.tale l).stage is.standing)
+        (clients_still g l wire_now t written (λ c. refl) (λ k. refl) stands.clients) stands.lawful
+        (are_prepared g (still g l wire_now) g.over g.fresh t written stands.clients (λ m. refl) stands.prepared (λ client seated. seated)
+        (rows_same t written (λ c. refl))) stands.duly
+
+  next_as : (next : Begins) → row.link.next ≡ Some next → IsNextOf (Some next) g t row (link_in g.setup g.tale l)
+  next_as next same_next = subst (λ (n : Option Begins). IsNextOf n g t row (link_in g.setup g.tale l)) same_next is.next
 
   module _ (same_next : row.link.next ≡ Some begins.Quits) (planned : planned_on g l ≡ Asks Quit) where
-    abbrev still_quit : Tale
-    still_quit = still g l (wire_begun begins.Quits same_next)
-
-    tag_is : offer.tag ≡ tags.Own
-    tag_is = quit_tag may service g t l row stands is offer same_next left
-
-    told_none : told_for g l offer.tag ≡ []
-    told_none = ap (told_for g l) tag_is ∙ quits_told may service g t l row stands is planned
-
-    tale_quit : tale_now ≡ still_quit
-    tale_quit = begins_so begins.Quits same_next [] told_none
-
-    next_is : IsNextOf (Some begins.Quits) g t row (link_in g.setup g.tale l)
-    next_is = subst (λ (n : Option Begins). IsNextOf n g t row (link_in g.setup g.tale l)) same_next is.next
-
-    quit_begins : IsBeginning begins.Quits g.setup.reads g.codes (view_on g) l row (link_in g.setup g.tale l) (told_for g l offer.tag)
-        (step_for offer.tag (planned_on g l)) (quits_for offer.tag (planned_on g l))
-    quit_begins = (
-      told_none,
-      subst (λ (tag : Tag). IsNoStep (step_for tag (planned_on g l))) (sym tag_is) (subst (λ (step : StepText). IsNoStep (Some step)) (sym planned) tt),
-      next_is.1,
-      ap (λ (tag : Tag). quits_for tag (planned_on g l)) tag_is ∙ ap (λ (step : StepText). quits_for tags.Own step) planned,
-    )
-
-    link_quit : row_now.link ≡ link_begun begins.Quits (record row.link { next = None; writing = option_map (link_writes.wrote count) row.link.writing })
-    link_quit = wrote_row.link_is ∙ wrote_next count row.link (Some begins.Quits) (at_in begins.Quits same_next) same_next
-
-    stage_quit : row_now.link.state.stage ≡ Quiet
-    stage_quit = ap (λ (k : LentLink). k.state.stage) link_quit ∙ quiet g t l row is begins.Quits same_next
-
-    server_quit : IsServer (on g still_quit) written l row_now
-    server_quit = record {
-      row = subst (λ (tale : Tale). IsRowIn g.setup g.codes g.plan tale l row_now) tale_quit
-          (begins_there g.setup g.codes g.plan g.tale l row offer.tag count now is.row offer left within some (inside begins.Quits same_next) begins.Quits same_next quit_begins);
-      user = ap (λ (i : Identity). i.user) wrote_row.identity ∙ is.user;
-      found_rows = ap (λ (i : Identity). i.found_rows) wrote_row.identity ∙ is.found_rows;
-      standing = standing_on g (on g still_quit) l (λ m at. at) refl (link_in g.setup g.tale l).stage is.standing;
-      next = subst (λ (n : Option Begins). IsNextOf n (on g still_quit) written row_now (link_in g.setup still_quit l)) (sym (ap (λ (k : LentLink). k.next) link_quit)) tt;
-      lent = subst (λ (k : LentLink). is_lent k.state.carries ≡ true → is_stating k.state.stage ≡ true) (sym link_quit) is.lent;
-      parted = λ sound kept left_some. subst (λ (stage : Stage). IsPartedAt stage (on g still_quit)) (sym stage_quit) tt;
-      replying = λ sound kept mine. subst (λ (stage : Stage). IsReplyingAt stage (on g still_quit) written l row_now) (sym stage_quit) tt;
-    }
-
-    stands_quit : Stands service (on g still_quit) written
-    stands_quit = record {
-      service_is = stands.service_is;
-      room_is = stands.room_is;
-      clients = clients_still g l (wire_begun begins.Quits same_next) t written (λ c. refl) (λ k. refl) stands.clients;
-      servers = servers_made g (on g still_quit) t written l server_now there_now
-          (by_to_server (is_to_server still_quit l) (on g still_quit) written l server_now to_server server_quit)
-          (λ other apart.
-          subst (λ (x : Option Server). IsServerOr (on g still_quit) written other x) (sym (others_now other apart))
-          (server_on g t written l still_quit (onward_still g l (wire_begun begins.Quits same_next)) (same_reads t written (λ c. refl)) other apart (t.links other) (stands.servers other)));
-      homes = homes_on g (on g still_quit) t written
-          (same_but t written l server server_now (λ c. refl) there there_now others_now (ap (λ (k : LentLink). name_in k.state.carries) link_quit)
-          wrote_row.left wrote_row.lost) stands.homes;
-      lawful = stands.lawful;
-    }
+    quit_told : told_for g l offer.tag ≡ []
+    quit_told = ap (told_for g l) (quit_tag may service g t l row stands is offer same_next left) ∙ quits_told may service g t l row stands is planned
 
     pub quits : Stands service (on g tale_now) (wrote_by (Some server) l count now t)
     quits =
-        subst (λ (kind : Kind). Stands service (on g tale_now) (begun_for (began kind) l (lasts row.link.next) written))
-        (sym (kind_next row.link (Some begins.Quits) (at_in begins.Quits same_next) same_next))
-        (subst (λ (tale : Tale). Stands service (on g tale) written) (sym tale_quit) stands_quit)
+        let tag_is : offer.tag ≡ tags.Own = quit_tag may service g t l row stands is offer same_next left in
+        untold begins.Quits same_next (record { carries = λ k. refl; stage = λ k. refl; rest = λ k. refl; none = refl }) quit_told (
+          quit_told,
+          subst (λ (tag : Tag). IsNoStep (step_for tag (planned_on g l))) (sym tag_is) (subst (λ (step : StepText). IsNoStep (Some step)) (sym planned) tt),
+          (next_as begins.Quits same_next).1,
+          ap (λ (tag : Tag). quits_for tag (planned_on g l)) tag_is ∙ ap (λ (step : StepText). quits_for tags.Own step) planned,
+        )
+
+  -- a STMT_RESET, and a STMT_CLOSE
+
+  module _ (number : ℕ) (fine : row.link.spoilt ≡ false) where
+    module _ (same_next : row.link.next ≡ Some (begins.Resets number)) (planned : planned_on g l ≡ plan.Resets number) where
+      pub resets : Stands service (on g tale_now) (wrote_by (Some server) l count now t)
+      resets =
+          let tag_is : offer.tag ≡ tags.Own =
+          own_tag may service g t l row stands is (begins.Resets number) (spelt (step_payload (plan.Resets number))) (λ next. next) offer same_next left in
+          let none : told_for g l offer.tag ≡ [] =
+          ap (told_for g l) tag_is ∙ resets_told may service g t l row stands is (begins.Resets number) same_next fine number planned in
+          untold (begins.Resets number) same_next (record { carries = λ k. refl; stage = λ k. refl; rest = λ k. refl; none = refl }) none (
+            none,
+            ap (λ (tag : Tag). step_for tag (planned_on g l)) tag_is ∙ ap (λ (step : StepText). Some step) planned,
+            (next_as (begins.Resets number) same_next).1,
+            ap (λ (tag : Tag). quits_for tag (planned_on g l)) tag_is ∙ ap (λ (step : StepText). quits_for tags.Own step) planned,
+            fine,
+          )
+
+    module _ (at_stay : ClientsAtStay) (same_next : row.link.next ≡ Some (begins.Closes number)) (planned : planned_on g l ≡ plan.Closes number) where
+      abbrev wire_closed : Wire
+      wire_closed = wire_begun (begins.Closes number) same_next
+
+      abbrev closed : Tale
+      closed = tell (Unprepared l number) (still g l wire_closed)
+
+      onward_closed : Onward g l closed
+      onward_closed =
+          let still = onward_still g l wire_closed in
+          record {
+            clients = refl;
+            to_servers = λ other apart. refl;
+            wires = still.wires;
+            links = λ other apart. ap (λ (b : Bool). if b then closed_number number ((view_on g).links l) else (view_on g).links other) apart;
+            lives = refl;
+            pin = λ n. refl;
+            id = λ n. refl;
+            lasting = λ n earlier. refl;
+            dues = λ n due due_there. due_there;
+            carriers = λ m other carrier. carrier;
+            replies = refl;
+            ahead = λ other n apart carries ahead. ahead;
+          }
+
+      clients_closed : AreClients (on g closed) written
+      clients_closed =
+          let clients : AreClients (on g (still g l wire_closed)) written =
+          clients_still g l wire_closed t written (λ c. refl) (λ k. refl) stands.clients in
+          clients_made (on g (still g l wire_closed)) closed written written refl (λ k. refl) (λ c. refl)
+          (All-weaker (IsAt (on g (still g l wire_closed)) written) (IsAt (on g closed) written)
+          (λ client at. at_stay (on g (still g l wire_closed)) written written client (Unprepared l number) at refl refl refl) g.tale.clients clients.each) clients
+
+      law_stage : (stage : view.Stage) → servers.is_quiet stage ≡ true → stage ≡ view.Quiet
+      law_stage view.Quiet is_quiet = refl
+      law_stage (view.Asked question) is_quiet = absurd (false≢true is_quiet)
+      law_stage (view.Answered question) is_quiet = absurd (false≢true is_quiet)
+
+      quiet_was : (link_in g.setup g.tale l).stage ≡ view.Quiet
+      quiet_was = law_stage (link_in g.setup g.tale l).stage (law_quiet g t l row is (begins.Closes number) same_next)
+
+      quiet_closed : (link_in g.setup closed l).stage ≡ view.Quiet
+      quiet_closed =
+          ap (λ (k : Link). k.stage) (put_there (view_on g).links l (closed_number number ((view_on g).links l))) ∙ quiet_was
+
+      pub closes : Stands service (on g tale_now) (wrote_by (Some server) l count now t)
+      closes =
+          let tag_is : offer.tag ≡ tags.Own =
+          own_tag may service g t l row stands is (begins.Closes number) (spelt (step_payload (plan.Closes number))) (λ next. next) offer same_next left in
+          let happens : told_for g l offer.tag ≡ Unprepared l number ∷ [] =
+          ap (told_for g l) tag_is ∙ closes_told may service g t l row stands is (begins.Closes number) same_next fine number planned in
+          own_stands (begins.Closes number) same_next (record { carries = λ k. refl; stage = λ k. refl; rest = λ k. refl; none = refl })
+          (Unprepared l number ∷ []) happens (
+            happens,
+            ap (λ (tag : Tag). step_for tag (planned_on g l)) tag_is ∙ ap (λ (step : StepText). Some step) planned,
+            (next_as (begins.Closes number) same_next).1,
+            ap (λ (tag : Tag). quits_for tag (planned_on g l)) tag_is ∙ ap (λ (step : StepText). quits_for tags.Own step) planned,
+            fine,
+          ) onward_closed (λ n. refl) (subst (λ (stage : view.Stage). IsStandingAt stage (on g closed) l) (sym quiet_closed) tt) clients_closed
+          (stands.lawful, quiet_was)
+          (are_prepared g closed g.over g.fresh t written stands.clients (λ m. refl) stands.prepared (λ client seated. seated)
+          (rows_same t written (λ c. refl))) stands.duly
 
   -- A question begins.
 
@@ -491,9 +631,14 @@ module _ (may : MayBegin) (says : Says) (writes_on : WritesOn) (begins_there : B
         (sym (kind_next row.link (Some (begins.Asks asking)) (at_in (begins.Asks asking) same_next) same_next))
         (subst (λ (n : Option Begins). P (tables (Some asking.purpose) (lasts n))) (sym same_next) here)
 
+    -- what is due where it is lent, but to a statement that stands there
+    abbrev IsLentNow : View → Type 0
+    IsLentNow seen =
+        row.lost ≡ false → row.left ≡ None → is_stating (Asked asking) ≡ false → OfLent (lent_for asking.purpose row.link.state.carries) (IsAhead seen)
+
     -- the link's row, where what stands there is said, and what comes of its reply
     server_asked : (q : Question) → begun.question ≡ q → (tables : Tabled) → OfStatement q (IsStanding (on g (sent g l wire_asked q)) l)
-        → (is_lent (lent_for asking.purpose row.link.state.carries) ≡ true → is_stating (Asked asking) ≡ true)
+        → IsLentNow (view_on (on g (sent g l wire_asked q)))
         → (is_some row.left ≡ true → IsPartedFor asking.purpose (on g (sent g l wire_asked q))) → IsReplyingFor asking.purpose (on g (sent g l wire_asked q)) tables l row_now asking → IsServer (on g (sent g l wire_asked q)) tables l row_now
     server_asked q same_q tables standing lent parted replying = record {
       row = subst (λ (tale : Tale). IsRowIn g.setup g.codes g.plan tale l row_now) (tale_asked ∙ ap (sent g l wire_asked) same_q) row_asked;
@@ -502,8 +647,9 @@ module _ (may : MayBegin) (says : Says) (writes_on : WritesOn) (begins_there : B
       standing = subst (λ (link : Link). IsStandingAt link.stage (on g (sent g l wire_asked q)) l) (sym (put_there (view_on g).links l (asked_there q ((view_on g).links l)))) standing;
       next = subst (λ (n : Option Begins). IsNextOf n (on g (sent g l wire_asked q)) tables row_now (link_in g.setup (sent g l wire_asked q) l))
           (sym (ap (λ (k : LentLink). k.next) link_asked)) tt;
-      lent = λ carried.
-          ap (λ (k : LentLink). is_stating k.state.stage) link_asked ∙ lent (sym (ap (λ (k : LentLink). is_lent k.state.carries) link_asked) ∙ carried);
+      lent = λ here mine unstated.
+          subst (λ (k : LentLink). OfLent k.state.carries (IsAhead (view_on (on g (sent g l wire_asked q))))) (sym link_asked)
+          (lent (sym wrote_row.lost ∙ here) (sym wrote_row.left ∙ mine) (ap (λ (k : LentLink). is_stating k.state.stage) (sym link_asked) ∙ unstated));
       parted = λ sound kept left_some.
           subst (λ (stage : Stage). IsPartedAt stage (on g (sent g l wire_asked q))) (sym (ap (λ (k : LentLink). k.state.stage) link_asked))
           (parted (ap (λ (x : Option LeftSession). is_some x) (sym wrote_row.left) ∙ left_some));
@@ -524,27 +670,32 @@ module _ (may : MayBegin) (says : Says) (writes_on : WritesOn) (begins_there : B
     step_stands (story.End n) step = tt
     step_stands (story.Capture n) step = tt
 
-    steps : IsStep begun.question → name_in (lent_for asking.purpose row.link.state.carries) ≡ name_in row.link.state.carries
-        → is_lent (lent_for asking.purpose row.link.state.carries) ≡ is_lent row.link.state.carries → IsPartedFor asking.purpose (on g (sent g l wire_asked begun.question))
+    steps : IsStep begun.question → lent_for asking.purpose row.link.state.carries ≡ row.link.state.carries → IsPartedFor asking.purpose (on g (sent g l wire_asked begun.question))
         → IsReplyingFor asking.purpose (on g (sent g l wire_asked begun.question)) written l row_now asking → Stands service (on g tale_now) written
-    steps step same_name_in same_lent parted replying =
+    steps step same_carries parted replying =
         let q = begun.question in
-        let never_lent : is_lent (lent_for asking.purpose row.link.state.carries) ≡ true → is_stating (Asked asking) ≡ true = λ (lent : is_lent (lent_for asking.purpose row.link.state.carries) ≡ true).
-        absurd (false≢true (sym (ap is_stating (quiet g t l row is (begins.Asks asking) same_next)) ∙ is.lent (sym same_lent ∙ lent))) in
         let tale = sent g l wire_asked q in
+        let alike : Alike (view_on g) (view_of g.setup tale) = step_alike g.setup (view_on g) l q step in
+        let lent_now : IsLentNow (view_of g.setup tale) = λ here mine unstated.
+        ahead_same (view_on g) (view_of g.setup tale) (lent_for asking.purpose row.link.state.carries) (λ n. ap (λ (f : SessionName → Option Due). f n) alike.dues)
+        (subst (λ (c : Carried). OfLent c (IsAhead (view_on g))) (sym same_carries)
+        (is.lent here mine (ap is_stating (quiet g t l row is (begins.Asks asking) same_next)))) in
         subst (λ (x : Tale). Stands service (on g x) written) (sym tale_asked) (record {
           service_is = stands.service_is;
           room_is = stands.room_is;
           clients = clients_step g l wire_asked q step t written (λ c. refl) (λ k. refl) stands.clients;
           servers = servers_made g (on g tale) t written l server_now there_now
-              (by_to_server (is_to_server tale l) (on g tale) written l server_now to_server (server_asked q refl written (step_stands q step) never_lent (λ left_some. parted) replying))
+              (by_to_server (is_to_server tale l) (on g tale) written l server_now to_server (server_asked q refl written (step_stands q step) lent_now (λ left_some. parted) replying))
               (λ other apart.
               subst (λ (x : Option Server). IsServerOr (on g tale) written other x) (sym (others_now other apart))
               (server_on g t written l tale (onward_step g l wire_asked q step) (same_reads t written (λ c. refl)) other apart (t.links other) (stands.servers other)));
           homes = homes_on g (on g tale) t written
-              (same_but t written l server server_now (λ c. refl) there there_now others_now (ap (λ (k : LentLink). name_in k.state.carries) link_asked ∙ same_name_in)
+              (same_but t written l server server_now (λ c. refl) there there_now others_now (ap (λ (k : LentLink). name_in k.state.carries) link_asked ∙ ap name_in same_carries)
               wrote_row.left wrote_row.lost) stands.homes;
           lawful = lawful_asked;
+          prepared = are_prepared g tale g.over g.fresh t written stands.clients (λ m. refl) stands.prepared (λ client seated. seated)
+              (rows_same t written (λ c. refl));
+          duly = stands.duly;
         })
 
     -- a client's statement
@@ -595,6 +746,12 @@ module _ (may : MayBegin) (says : Says) (writes_on : WritesOn) (begins_there : B
 
       none_unread : wire.unread ≡ []
       none_unread = unread g t l row is (begins.Asks asking) same_next for.fine
+
+      -- links that carry others' sessions aren't concerned
+      apart_sent : (other : LinkId) (n : SessionName) → is_link_id other l ≡ false → session_in ((view_on g).links other).carries ≡ Some n
+          → is_name n name ≡ false
+      apart_sent other n apart carries =
+          sent_apart g.setup (view_on g) (homes_so g.setup g.tale.story stands.lawful) other l n name due carries apart (lawful_as statement so.is).1.fits
 
       next_statement : IsNextStatement g t row (link_in g.setup g.tale l) asking name ordinal
       next_statement =
@@ -654,7 +811,8 @@ module _ (may : MayBegin) (says : Says) (writes_on : WritesOn) (begins_there : B
 
       server_on_sent : IsServer (on g tale_sent) tables l row_now
       server_on_sent =
-          server_asked statement so.is tables standing_now (λ lent. ap (λ (p : Purpose). is_stating (Asked (record asking { purpose = p }))) purpose) (λ left_some. absurd (false≢true (sym (ap (λ (x : Option LeftSession). is_some x) left_none) ∙ left_some)))
+          server_asked statement so.is tables standing_now
+          (λ here mine unstated. absurd (true≢false (sym (ap (λ (p : Purpose). is_stating (Asked (record asking { purpose = p }))) purpose) ∙ unstated))) (λ left_some. absurd (false≢true (sym (ap (λ (x : Option LeftSession). is_some x) left_none) ∙ left_some)))
           (subst (λ (p : Purpose). IsReplyingFor p (on g tale_sent) tables l row_now asking) (sym purpose) replying_now)
 
       carries_now : name_in row_now.link.state.carries ≡ name_in (lends_by name row.link.state.carries)
@@ -687,9 +845,12 @@ module _ (may : MayBegin) (says : Says) (writes_on : WritesOn) (begins_there : B
                 (by_to_server (is_to_server tale_sent l) (on g tale_sent) tables l server_now to_server server_on_sent)
                 (λ other apart.
                 subst (λ (x : Option Server). IsServerOr (on g tale_sent) tables other x) (sym (others_now other apart))
-                (server_on g t tables l tale_sent (onward_statement g l wire_asked name due life not_sent) reads_on other apart (t.links other) (stands.servers other)));
+                (server_on g t tables l tale_sent (onward_statement g l wire_asked name due life not_sent apart_sent) reads_on other apart (t.links other) (stands.servers other)));
             homes = homes_now;
             lawful = lawful_as statement so.is;
+            prepared = are_prepared g tale_sent g.over g.fresh t tables stands.clients (λ m. refl) stands.prepared (λ client seated. seated)
+                (rows_changed t tables name.client goes_out (λ r. refl) made);
+            duly = stands.duly;
           })
 
     module _ (others : OthersStay) (coming : ComingStays) (sends_so : SentStands) (outlasts_so : OutlastsAsSaid) where
@@ -697,26 +858,22 @@ module _ (may : MayBegin) (says : Says) (writes_on : WritesOn) (begins_there : B
           → Stands service (on g tale_now) (begun_for (Some p) l (lasts (Some (begins.Asks asking))) written)
       asked_by (purposes.Statement name ordinal key) same so = statement_stands others coming sends_so outlasts_so name ordinal key same so
       asked_by (purposes.Prep name ordinal key) same step =
-          absurd (subst (λ (p : Purpose). IsNextFor p g t row (link_in g.setup g.tale l) asking) same
-          (subst (λ (n : Option Begins). IsNextOf n g t row (link_in g.setup g.tale l)) same_next is.next).1)
+          absurd (no_prep g.codes name ordinal key begun.question
+          (subst (λ (p : Purpose). IsPurpose g.codes p begun.question) same begun.asked.said.asks.purpose) step)
       asked_by (purposes.Sync name) same step =
-          steps step (ap (λ (p : Purpose). name_in (lent_for p row.link.state.carries)) same)
-          (ap (λ (p : Purpose). is_lent (lent_for p row.link.state.carries)) same)
+          steps step (ap (λ (p : Purpose). lent_for p row.link.state.carries) same)
           (subst (λ (p : Purpose). IsPartedFor p (on g (sent g l wire_asked begun.question))) (sym same) tt)
           (subst (λ (p : Purpose). IsReplyingFor p (on g (sent g l wire_asked begun.question)) written l row_now asking) (sym same) tt)
       asked_by purposes.Own same step =
-          steps step (ap (λ (p : Purpose). name_in (lent_for p row.link.state.carries)) same)
-          (ap (λ (p : Purpose). is_lent (lent_for p row.link.state.carries)) same)
+          steps step (ap (λ (p : Purpose). lent_for p row.link.state.carries) same)
           (subst (λ (p : Purpose). IsPartedFor p (on g (sent g l wire_asked begun.question))) (sym same) tt)
           (subst (λ (p : Purpose). IsReplyingFor p (on g (sent g l wire_asked begun.question)) written l row_now asking) (sym same) tt)
       asked_by (purposes.End name) same step =
-          steps step (ap (λ (p : Purpose). name_in (lent_for p row.link.state.carries)) same)
-          (ap (λ (p : Purpose). is_lent (lent_for p row.link.state.carries)) same)
+          steps step (ap (λ (p : Purpose). lent_for p row.link.state.carries) same)
           (subst (λ (p : Purpose). IsPartedFor p (on g (sent g l wire_asked begun.question))) (sym same) tt)
           (subst (λ (p : Purpose). IsReplyingFor p (on g (sent g l wire_asked begun.question)) written l row_now asking) (sym same) tt)
       asked_by (purposes.Capture name) same step =
-          steps step (ap (λ (p : Purpose). name_in (lent_for p row.link.state.carries)) same)
-          (ap (λ (p : Purpose). is_lent (lent_for p row.link.state.carries)) same)
+          steps step (ap (λ (p : Purpose). lent_for p row.link.state.carries) same)
           (subst (λ (p : Purpose). IsPartedFor p (on g (sent g l wire_asked begun.question))) (sym same) tt)
           (subst (λ (p : Purpose). IsReplyingFor p (on g (sent g l wire_asked begun.question)) written l row_now asking) (sym same) tt)
 
@@ -727,8 +884,8 @@ module _ (may : MayBegin) (says : Says) (writes_on : WritesOn) (begins_there : B
 
 -- By what stands next.
 
-module _ (may : MayBegin) (says : Says) (writes_on : WritesOn) (begins_there : BeginsThere) (others : OthersStay) (coming : ComingStays) (sends_so : SentStands)
-    (outlasts_so : OutlastsAsSaid) (service : Service) (g : Ground) (t : Tabled) (l : LinkId) (server : Server)
+module _ (may : MayBegin) (says : Says) (writes_on : WritesOn) (begins_there : BeginsThere) (others : OthersStay) (coming : ComingStays) (at_stay : ClientsAtStay)
+    (sends_so : SentStands) (outlasts_so : OutlastsAsSaid) (service : Service) (g : Ground) (t : Tabled) (l : LinkId) (server : Server)
     (offer : Offer) (count now : ℕ) (stands : Stands service g t) (there : t.links l ≡ Some server) (is : IsServer g t l server.row)
     (some : 0 < count) (within : count ≤ length offer.bytes) where
   written_by : (next : Option Begins) → server.row.link.next ≡ next → passes_next next server.row t ≡ true → left_in server.row.link ≡ Some offer
@@ -739,8 +896,12 @@ module _ (may : MayBegin) (says : Says) (writes_on : WritesOn) (begins_there : B
   written_by (Some (begins.Asks asking)) same passes left planned =
       asks may says writes_on begins_there service g t l server offer count now stands there is left some within asking same
       (begun_so may service g t l server.row stands is asking offer same passes left planned) others coming sends_so outlasts_so
-  written_by (Some (begins.Closes number)) same passes left planned = absurd (false≢true passes)
-  written_by (Some (begins.Resets number)) same passes left planned = absurd (false≢true passes)
+  written_by (Some (begins.Closes number)) same passes left planned =
+      closes may says writes_on begins_there service g t l server offer count now stands there is left some within number
+      (fine_so may service g t l server.row stands is passes) at_stay same planned
+  written_by (Some (begins.Resets number)) same passes left planned =
+      resets may says writes_on begins_there service g t l server offer count now stands there is left some within number
+      (fine_so may service g t l server.row stands is passes) same planned
   written_by (Some begins.Quits) same passes left planned =
       quits may says writes_on begins_there service g t l server offer count now stands there is left some within same planned
 

@@ -139,7 +139,7 @@ module _ (g : Ground) (t now : Tabled) (l : LinkId) (wire : Wire) (n : SessionNa
       let homes = sent_desk g.setup (view_on g) client.number row.desk (desks.sent n.hostgroup l lasting row.desk) l n due is.desk desk names in
       client_here_sent g l wire n due others coming client row work lasting in_work goes works
       (not_ended (is_ended row.desk.seat.phase) g client row work in_work is.phase) desk
-      (omega (arith, ordinal, works.last))
+      (omega (arith, ordinal, works.last)) dues
       (ap (λ (h : Hostgroup). (session_of (desks.sent n.hostgroup l lasting row.desk) h).home) hostgroup ∙ homes.here
       ∙ sym (carried_there client number)) is
 

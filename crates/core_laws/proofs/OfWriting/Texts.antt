@@ -42,7 +42,7 @@ use Rattle.core_tables.specs.Tables.{Tabled, client_put, link_changed}
 use Rattle.core_tables.specs.declared.client.Client.{Client}
 use Rattle.core_tables.specs.declared.server.Server.{Server}
 use Rattle.core_stands.specs.Grounds.{Ground, view_on}
-use Rattle.core_stands.specs.Servers.{IsNextStatement, IsPartedAt, IsReplyingAt, IsServer, IsServerBy, IsServerOr, IsTakenUp, is_lent, is_preparing}
+use Rattle.core_stands.specs.Servers.{IsNextStatement, IsPartedAt, IsReplyingAt, IsServer, IsServerBy, IsServerOr, IsTakenUp, is_preparing}
 use Rattle.core_stands.specs.Stands.{Stands}
 use Rattle.core_laws.specs.writing.Planned.{IsOpen}
 use Rattle.core_laws.proofs.OfWriting.Begun.{IsDueThere}

@@ -15,7 +15,6 @@ use Rattle.core_stands.specs.Grounds.{Ground, ending}
 use Rattle.core_stands.specs.Stands.{Stands}
 use Rattle.core_laws.specs.arrival.Looks.{IsLetIn}
 use Rattle.core_laws.specs.entry.Loops.{IsTaking}
-use Rattle.core_laws.specs.entry.Safe.{has_runs}
 use Rattle.core_laws.specs.clients.Turns.{Choice, Answers, Goes, Halt, Ends, Quits, Rests, Waits}
 
 -- The plan.
@@ -58,7 +57,6 @@ pub record IsTurning (service : Service) (default : List ℕ) (first : tales.Cli
   pub let_in : IsLetIn g default client
   pub going : g.over client.number ≡ false
   pub unrouted : g.plan.routes (name_of client 0) ≡ None
-  pub runless : has_runs from.story ≡ false → has_runs g.tale.story ≡ false
 
 -- What stands behind them, once so many messages were taken up: by another tale, and other bytes that weren't looked at.
 
@@ -73,7 +71,6 @@ pub record IsStanding (service : Service) (first : tales.Client) (from : Tale) (
   pub taking : IsTaking service first from (turned_to g tale fresh) now client
   pub idle : IsIdle g.setup g.plan tale client
   pub all : all_taken g.setup g.plan first from ≡ tale
-  pub runless : has_runs from.story ≡ false → has_runs tale.story ≡ false
   pub unlooked : (other : ClientNo) → g.fresh other ≡ false → fresh other ≡ false
 
 -- one that ended: that was all
@@ -86,7 +83,6 @@ pub record IsGone (service : Service) (first : tales.Client) (from : Tale) (take
   pub seated : IsSeated tale client
   pub number : client.number ≡ first.number
   pub all : all_taken g.setup g.plan first from ≡ tale
-  pub runless : has_runs from.story ≡ false → has_runs tale.story ≡ false
   pub unlooked : (other : ClientNo) → g.fresh other ≡ false → fresh other ≡ false
 
 pub record IsLookedFor (service : Service) (first : tales.Client) (from : Tale) (taken : ℕ) (g : Ground) (c : ClientNo) (now : Tabled) : Type 0 where

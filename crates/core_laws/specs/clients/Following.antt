@@ -19,7 +19,6 @@ use Rattle.core_stands.specs.Grounds.{Ground, ending, on, view_on}
 use Rattle.core_stands.specs.Stands.{Rests, Stands}
 use Rattle.core_laws.specs.arrival.Looks.{IsLetIn}
 use Rattle.core_laws.specs.entry.Entries.{AreSpared, TellsOf, behind}
-use Rattle.core_laws.specs.entry.Safe.{has_runs}
 use Rattle.core_laws.specs.clients.Chosen.{PlanHas}
 use Rattle.core_laws.specs.clients.Follows.{Leaves, LeavesTold, Parting, Stays, Tells, ends_by}
 use Rattle.core_laws.specs.clients.Turns.{Choice, Halt}
@@ -61,9 +60,8 @@ pub record IsFollowing (service : Service) (default : List ℕ) (g : Ground) (e 
 abbrev pub to_look : Ground → (fresh : ClientNo → Bool) → Tale → Ground
 to_look g fresh tale = record g { tale = tale; fresh = fresh }
 
--- Behind the entry the tables rest, no run was taken up, and of the client so many messages were.
+-- Behind the entry the tables rest, and of the client so many messages were taken up.
 pub record IsFollowed (service : Service) (g : Ground) (e : Entry) (client : tales.Client) (freed : Tale) (taken : ℕ) (over room : ClientNo → Bool)
     (now : Tabled) : Type 0 where
   pub rests : Rests service (behind g e over) now room
-  pub runless : has_runs freed.story ≡ false → has_runs (tale_step g.setup g.plan g.tale e).story ≡ false
   pub counts : (x : tales.Client) → IsSeated (tale_step g.setup g.plan g.tale e) x → is_its client x.number ≡ true → x.taken ≡ taken

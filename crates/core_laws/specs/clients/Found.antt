@@ -1,39 +1,69 @@
--- Which messages a client's turns took up, and who it was.
+-- Which messages a client's turns took up, who it was, and how it stood.
 use Rattle.std.specs.Option.{option_map_or}
 use Rattle.std.specs.Prelude.{◌≡◌, ℕ, suc, slice_get, List, [], ◌∷◌, Option, Some}
 use Rattle.mx_base.specs.declared.names.ClientNo.{ClientNo}
 use Rattle.packet_frame.specs.Packets.{Framed}
 use Rattle.server_side.specs.Account.{Account}
+use Rattle.private_model.specs.Names.{Hostgroup, MessageName}
+use Rattle.private_model.specs.View.{Setup, View, present}
+use Rattle.log_story.specs.Tale.{view_of}
 use Rattle.client_session.specs.Setups.{Setup as Service}
 use Rattle.client_seat.specs.Seats.{account_in}
 use Rattle.client_seat.specs.declared.phase.Phase.{Phase}
-use Rattle.core_tables.specs.Arrivals.{turn}
+use Rattle.client_desk.specs.Desks.{session_of}
+use Rattle.client_desk.specs.declared.desk.Desk.{Desk}
+use Rattle.desk_laws.specs.Stands.{held_of, message_at}
+use Rattle.core_tables.specs.Arrivals.{seated, turn}
 use Rattle.core_tables.specs.Tables.{Tabled}
 use Rattle.core_tables.specs.declared.client.Client.{Client}
-use Rattle.core_laws.specs.clients.Turns.{Answers, Choice, Goes, Halt, IsTurn, Turns}
+use Rattle.core_laws.specs.clients.Turns.{Answers, Choice, Goes, Halt, IsTurn, Quits, Turns}
+use Rattle.router_promises.specs.Takings.{Taking, message_in}
 
--- The user as whom a client is served: by its phase, and by its row before the look at which its message came up.
+-- one of these takings is of the message of this name
+pub record IsAmong (takings : List Taking) (name : MessageName) (taking : Taking) : Type 0 where
+  pub place : ℕ
+  pub there : slice_get takings place ≡ Some taking
+  pub named : message_in taking ≡ name
+
+-- The user as whom a client is served; and its desk behind the look at which its message came up.
 
 abbrev pub user_in : Phase → List ℕ
 user_in phase = option_map_or (λ (account : Account). account.user) (account_in phase) []
 
-abbrev pub user_at : (service : Service) → (default : List ℕ) → (row : Client) → List ℕ
-user_at service default row = user_in (turn service default row.desk.seat).phase
+abbrev pub desk_up : (service : Service) → (default : List ℕ) → (row : Client) → Desk
+desk_up service default row = (seated (turn service default) row).desk
 
--- the message is that which came up at the turn, and its client is served as this user
-pub record IsFoundIn (service : Service) (default : List ℕ) (row : Client) (up : Framed) (user : List ℕ) (message : Option Framed) : Type 0 where
+-- The message is that which came up at the turn, and its client is served as this user. By what is known just before it is taken up the client
+-- stands there, and these are its sessions.
+pub record IsFoundIn (c : ClientNo) (desk : Desk) (up : Framed) (user : List ℕ) (view : View) (message : Option Framed) : Type 0 where
   pub message_is : message ≡ Some up
-  pub login : user_at service default row ≡ user
+  pub login : user_in desk.seat.phase ≡ user
+  pub place : view.places c ≡ desk.seat.place
+  pub held : (hostgroup : Hostgroup) → view.held (present view c hostgroup) ≡ held_of (session_of desk hostgroup)
 
 abbrev pub IsFoundAt : (choice : Choice) → (service : Service) → (default : List ℕ) → (c : ClientNo) → (old new : Tabled)
-    → IsTurn choice service default c old new → (user : List ℕ) → Option Framed → Type 0
-IsFoundAt (Goes route) service default c old new turn user message = IsFoundIn service default turn.up.row turn.up.message user message
-IsFoundAt (Answers payloads) service default c old new turn user message = IsFoundIn service default turn.up.row turn.up.message user message
+    → IsTurn choice service default c old new → (user : List ℕ) → View → Option Framed → Type 0
+IsFoundAt (Goes route) service default c old new turn user view message =
+    IsFoundIn c (desk_up service default turn.up.row) turn.up.message user view message
+IsFoundAt (Answers payloads) service default c old new turn user view message =
+    IsFoundIn c (desk_up service default turn.up.row) turn.up.message user view message
+
+-- by the taking of its name, which is one of these
+pub record IsFound (choice : Choice) (service : Service) (default : List ℕ) (c : ClientNo) (old new : Tabled)
+    (turn : IsTurn choice service default c old new) (setup : Setup) (takings : List Taking) (message : Option Framed) (k : ℕ) : Type 0 where
+  pub taking : Taking
+  pub among : IsAmong takings (message_at c (suc k)) taking
+  pub at : IsFoundAt choice service default c old new turn (setup.accounts c).user (view_of setup taking.tale) message
+
+-- a QUIT is taken up too
+abbrev pub IsLastAmong : Halt → (takings : List Taking) → MessageName → Type 0
+IsLastAmong Quits takings name = (taking : Taking) × IsAmong takings name taking
+IsLastAmong _ takings name = Unit {0}
 
 -- of these messages from the k-th on
 abbrev pub AreFoundAt : (choices : List Choice) → (halt : Halt) → (service : Service) → (default : List ℕ) → (c : ClientNo) → (old new : Tabled)
-    → Turns choices halt service default c old new → (user : List ℕ) → List Framed → (k : ℕ) → Type 0
-AreFoundAt [] halt service default c old new turns user messages k = Unit {0}
-AreFoundAt (choice ∷ others) halt service default c old new turns user messages k =
-    IsFoundAt choice service default c old turns.0 turns.1 user (slice_get messages k)
-    × AreFoundAt others halt service default c turns.0 new turns.2 user messages (suc k)
+    → Turns choices halt service default c old new → Setup → (takings : List Taking) → List Framed → (k : ℕ) → Type 0
+AreFoundAt [] halt service default c old new turns setup takings messages k = IsLastAmong halt takings (message_at c (suc k))
+AreFoundAt (choice ∷ others) halt service default c old new turns setup takings messages k =
+    IsFound choice service default c old turns.0 turns.1 setup takings (slice_get messages k) k
+    × AreFoundAt others halt service default c turns.0 new turns.2 setup takings messages (suc k)

@@ -19,7 +19,6 @@ use Rattle.core_stands.specs.Grounds.{Ground}
 use Rattle.core_laws.specs.arrival.Looks.{IsLetIn}
 use Rattle.core_laws.specs.entry.Freeing.{all_freed}
 use Rattle.core_laws.specs.entry.Kinds.{IsSpeaking, IsUneventful}
-use Rattle.core_laws.specs.entry.Safe.{has_runs}
 use Rattle.core_laws.specs.clients.Chosen.{PlanHas}
 use Rattle.core_laws.specs.clients.Turns.{Choice, Ends, Halt, Quits, Rests, Turns, Waits}
 
@@ -54,7 +53,6 @@ pub record IsSpeech (default : List ℕ) (g : Ground) (link : LinkId) (bytes : L
   pub classes : AreClasses g.setup.reads
   pub let_in : IsLetIn g default (spoke_more bytes client)
   pub unrouted : g.plan.routes (name_of client 0) ≡ None
-  pub runless : has_runs g.tale.story ≡ false
   pub chosen : PlanHas choices halt g.plan (suc g.tale.moment) (name_of client (suc client.taken))
   pub all : links_are_freed g.setup g.plan (spoken g link bytes client) ≡ freed_in g.setup g.plan links (spoken g link bytes client)
   pub theirs : All (λ (l : LinkId). is_to_server (spoken g link bytes client) l ≡ true) links

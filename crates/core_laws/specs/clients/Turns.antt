@@ -10,6 +10,7 @@ use Rattle.session_state.specs.Pins.{is_pinned}
 use Rattle.private_model.specs.Commands.{Command}
 use Rattle.log_story.specs.Plan.{Route}
 use Rattle.link_state.specs.declared.wish.Command.TheVariants.{Plain}
+use Rattle.client_seat.specs.Numbers.{AreNoted}
 use Rattle.client_seat.specs.Requests.{Says, text_in}
 use Rattle.client_seat.specs.Turns.{turned}
 use Rattle.client_seat.specs.declared.next.Next.{Next}
@@ -75,6 +76,8 @@ pub record GoesBy (service : Service) (default : List ℕ) (route : Route) (c : 
   pub request : (reads : Reads) → AreClasses reads → IsRequest reads up.ordinal route.key command route.multiplex work
   pub kind : work.command ≡ Plain
   pub hostgroup : work.hostgroup ≡ route.hostgroup
+  pub unnumbered : route.number ≡ 0
+  pub noted : AreNoted false up.message.payload (turn service default up.row.desk.seat).statements statements
   pub same : IsSame new (client_changed c (goes flag work statements) between)
 
 -- The router answers it; a COM_RESET_CONNECTION begins anew.
@@ -90,6 +93,7 @@ pub record AnswersBy (service : Service) (default : List ℕ) (payloads : List (
   pub packets : List ℕ
   pub statements : ClientStatements
   pub spelt : packets ≡ spellings (turn service default up.row.desk.seat).first payloads
+  pub noted : AreNoted true up.message.payload (turn service default up.row.desk.seat).statements statements
   pub makes : MakesAnswer (is_reset up.message) c flag packets statements up.row between new
 
 abbrev pub IsTurn : Choice → Service → (default : List ℕ) → ClientNo → (old new : Tabled) → Type 0

@@ -10,16 +10,16 @@ use Rattle.log_story.specs.Headline.{tale_of}
 use Rattle.log_story.specs.Plan.{Plan}
 use Rattle.log_story.specs.Said.{ClosesFirst}
 use Rattle.log_story.specs.Tale.{Client, is_to_server}
-use Rattle.log_story.specs.Telling.{story_of}
 use Rattle.tale_world.specs.Decided.{Decided}
 use Rattle.tale_world.specs.Tested.{Passes}
 use Rattle.core_tables.specs.Tables.{Tabled}
 use Rattle.core_stands.specs.Stands.{Rests}
 use Rattle.core_laws.specs.entry.Grows.{IsHeardMore}
 use Rattle.core_laws.specs.entry.Dues.{AreWrittenTo}
-use Rattle.core_laws.specs.entry.Safe.{IsSafe, has_runs}
+use Rattle.core_laws.specs.entry.Safe.{IsSafe}
 use Rattle.core_laws.specs.entry.Speaks.{IsSilentOrSpoken}
 use Rattle.core_laws.specs.entry.Tells.{Fits, IsOf, ground}
+use Rattle.run_laws.specs.Tells.{GetsBytes}
 
 abbrev pub with_entry : Log → Entry → Log
 with_entry log e = log ++ e ∷ []
@@ -39,7 +39,7 @@ pub record GoesOn (service : Service) (setup : Setup) (codes : Codes) (plan : Pl
 -- What makes a log safe with one entry more, whose tables stand.
 pub record IsSafely (setup : Setup) (plan : Plan) (log : Log) (e : Entry) (t : Tabled) : Type 0 where
   pub passes : Passes setup plan (tale_of setup plan log) e
-  pub runless : has_runs (story_of setup plan (with_entry log e)) ≡ false
+  pub gets : GetsBytes (tale_of setup plan log) e
   pub closes : ClosesFirst setup (tale_of setup plan log) e
   pub spoken : (l : LinkId) → is_to_server (tale_of setup plan (with_entry log e)) l ≡ true
       → IsSilentOrSpoken setup plan (tale_of setup plan log) e (tale_of setup plan (with_entry log e)) t l
@@ -48,5 +48,5 @@ pub record IsSafely (setup : Setup) (plan : Plan) (log : Log) (e : Entry) (t : T
 abbrev pub GoesOnBy : Service → (default : List ℕ) → Log → Entry → (old new : Decided) → (t now : Tabled) → (roomy room : ClientNo → Bool) → Type 0
 GoesOnBy service default log e old new t now roomy room =
     (setup : Setup) (codes : Codes) (plan : Plan) → IsOf new (length (with_entry log e)) plan
-    → Fits setup codes plan default (tale_of setup plan (with_entry log e))
+    → Fits new.keys setup codes plan default (tale_of setup plan (with_entry log e))
     → GoesOn service setup codes plan log e old new t now roomy room

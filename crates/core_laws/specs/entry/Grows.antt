@@ -2,6 +2,7 @@
 use Rattle.std.specs.Prelude.{◌≡◌, ◌⊎◌, ◌<◌, ◌≤◌, ℕ, suc, List, ◌++◌, Option, Some, None}
 use Rattle.server_side.specs.Account.{Account}
 use Rattle.private_model.specs.Names.{ClientNo, LinkId, MessageName}
+use Rattle.private_model.specs.Story.{Key}
 use Rattle.log_story.specs.Plan.{LastWord, OwnAnswer, Route, StepText}
 use Rattle.log_story.specs.Tale.{Client, Tale}
 use Rattle.step_laws.specs.Seats.{IsSeated}
@@ -31,6 +32,7 @@ pub record IsMoreBy (moment : ℕ) (old new : Decided) : Type 0 where
   pub logins : (l : LinkId) (login : Account) → old.logins l ≡ Some login → new.logins l ≡ Some login
   pub routes : (m : MessageName) (route : Option Route) → old.routes m ≡ Some route → new.routes m ≡ Some route
   pub steps : (l : LinkId) (n : ℕ) (step : StepText) → old.steps l n ≡ Some step → new.steps l n ≡ Some step
+  pub keys : (k : ℕ) (key : Key) → old.keys k ≡ Some key → new.keys k ≡ Some key
   pub answered : (m : MessageName) (answer : OwnAnswer) → old.own m ≡ Some (Some answer) → new.own m ≡ Some (Some answer)
   pub unanswered : (m : MessageName) → old.own m ≡ Some None → (new.own m ≡ Some None) ⊎ IsAnsweredLater moment (new.own m)
   pub ended : (c : ClientNo) (at : ℕ) → old.ends c ≡ Some at → new.ends c ≡ Some at

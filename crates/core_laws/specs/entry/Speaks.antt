@@ -3,20 +3,13 @@ use Rattle.std.specs.Prelude.{◌≡◌, ◌⊎◌, Bool, true, false, Some}
 use Rattle.mx_wire.specs.declared.entry.Entry.{Entry}
 use Rattle.mx_wire.specs.declared.entry.Entry.TheVariants.{Got, Opened, Wrote}
 use Rattle.private_model.specs.Names.{LinkId}
-use Rattle.private_model.specs.Story.{command_of, is_link_id}
-use Rattle.private_model.specs.View.{Answered, Asked, Quiet, Setup, Stage}
+use Rattle.private_model.specs.Story.{is_link_id}
+use Rattle.private_model.specs.View.{Setup}
 use Rattle.log_story.specs.Plan.{Plan}
 use Rattle.log_story.specs.Tale.{Tale, is_to_server}
 use Rattle.log_story.specs.Telling.{told}
 use Rattle.core_tables.specs.Tables.{Tabled}
 use Rattle.core_tables.specs.declared.server.Server.{Server}
-use Rattle.core_laws.specs.entry.Safe.{is_run}
-
--- an execute stands there
-abbrev pub is_run_at : Stage → Bool
-is_run_at Quiet = false
-is_run_at (Asked question) = is_run (command_of question)
-is_run_at (Answered question) = is_run (command_of question)
 
 -- it is in its login before and behind the entry
 pub record IsEntering (setup : Setup) (plan : Plan) (tale : Tale) (e : Entry) (l : LinkId) : Type 0 where

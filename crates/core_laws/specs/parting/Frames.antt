@@ -21,11 +21,17 @@ use Rattle.core_tables.specs.Tables.{Tabled}
 use Rattle.core_tables.specs.declared.client.Client.{Client}
 use Rattle.core_tables.specs.declared.server.Server.{Server}
 
--- A happening spares the row of a link where it leaves the session that the link carries, and makes no message due whose statement stands next.
+-- A happening spares the row of a link where it leaves the session that the link carries, and makes no message due that is on its way there: its
+-- statement stands next, or the preparation of its text.
+
+abbrev pub SparesDue : SessionName → (at : ℕ) → Happening → Type 0
+SparesDue n at (BecameDue client hostgroup ordinal key command multiplex) =
+    is_message (record { client = n.client; ordinal = at }) (record { client = client; ordinal = ordinal }) ≡ false
+SparesDue n at e = Unit {0}
 
 abbrev pub SparesNextFor : Purpose → Happening → Type 0
-SparesNextFor (purposes.Statement n at code) (BecameDue client hostgroup ordinal key command multiplex) =
-    is_message (record { client = n.client; ordinal = at }) (record { client = client; ordinal = ordinal }) ≡ false
+SparesNextFor (purposes.Statement n at code) e = SparesDue n at e
+SparesNextFor (purposes.Prep n at code) e = SparesDue n at e
 SparesNextFor purpose e = Unit {0}
 
 abbrev pub SparesNext : Option Begins → Happening → Type 0

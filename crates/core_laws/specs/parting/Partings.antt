@@ -61,7 +61,7 @@ pub record IsLeaving (g : Ground) (client : tales.Client) (seat : Seat) : Type 0
   pub owed : IsOwing seat.phase (g.fresh client.number) g client seat
   pub placed : IsPlaced seat.phase (view_on g) client.number seat.place
 
--- it begins anew, with all answered
+-- it begins anew, with all answered, and what it prepared
 pub record IsAnew (old new : Seat) : Type 0 where
   pub login : Login
   pub served : old.phase ≡ phase.Serving login
@@ -70,6 +70,7 @@ pub record IsAnew (old new : Seat) : Type 0 where
   pub answered : new.answered ≡ true
   pub coming : new.outbox.coming ≡ []
   pub collation : new.collation ≡ old.collation
+  pub statements : new.statements ≡ old.statements
 
 -- it ends, with a last word only where all is answered
 pub record IsEnding (g : Ground) (client : tales.Client) (seat : Seat) : Type 0 where

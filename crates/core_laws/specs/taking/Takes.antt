@@ -2,6 +2,7 @@
 use Rattle.std.specs.Prelude.{◌≡◌, ◌<◌, ◌+◌, ℕ, suc, Bool, slice_index_or, nat_eq, List, Option, Some, None}
 use Rattle.packet_frame.specs.Packets.{Framed}
 use Rattle.private_model.specs.Commands.{Command}
+use Rattle.private_model.specs.View.{due_of, present}
 use Rattle.log_story.specs.Clients.{taken_by}
 use Rattle.log_story.specs.Owed.{name_of}
 use Rattle.log_story.specs.Plan.{Route, com_reset, own_at}
@@ -10,12 +11,14 @@ use Rattle.log_story.specs.Tale.{Tale, with_client}
 use Rattle.step_laws.specs.Seats.{IsSeated}
 use Rattle.step_laws.specs.Taken.{next_of}
 use Rattle.link_state.specs.declared.wish.Command.TheVariants.{Plain}
+use Rattle.run_laws.specs.Reads.{HasArgs}
 use Rattle.client_seat.specs.Requests.{Says, text_in}
 use Rattle.client_desk.specs.declared.work.Work.{Work}
 use Rattle.desk_laws.specs.Stands.{IsRequest}
 use Rattle.core_tables.specs.Tables.{Tabled}
 use Rattle.core_tables.specs.declared.client.Client.{Client}
-use Rattle.core_stands.specs.Grounds.{Ground}
+use Rattle.core_stands.specs.Grounds.{Ground, view_on}
+use Rattle.core_stands.specs.Stands.{IsKeyedFor}
 use Rattle.core_laws.specs.arrival.Ups.{IsUpNext}
 
 -- it is of a client of the tale, whose row this is
@@ -50,3 +53,6 @@ pub record IsSent (g : Ground) (client : tales.Client) (message : Framed) (route
   pub request : IsRequest g.setup.reads (suc client.taken) route.key command route.multiplex work
   pub kind : work.command ≡ Plain
   pub hostgroup : work.hostgroup ≡ route.hostgroup
+  pub keyed : IsKeyedFor g.setup route
+      (due_of (view_on g) (present (view_on g) client.number work.hostgroup) (suc client.taken) route.key command route.multiplex) command
+  pub whole : HasArgs command

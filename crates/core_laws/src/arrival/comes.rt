@@ -1,5 +1,5 @@
 // A client comes.
-ghost use Rattle.std.specs.Prelude.{◌≡◌, ℕ, suc, List, Some};
+ghost use Rattle.std.specs.Prelude.{◌≡◌, ℕ, suc, List, Some, None};
 ghost use Rattle.mx_base.specs.declared.names.LinkId.{LinkId};
 ghost use Rattle.mx_base.specs.declared.names.Port.{Port};
 ghost use Rattle.client_session.specs.Setups.{Setup as Service};
@@ -11,13 +11,14 @@ ghost use Rattle.core_tables.specs.Tables.{IsSame, Tabled};
 ghost use Rattle.core_tables.specs.declared.client.ClientNote.{ClientNote};
 ghost use Rattle.core_laws.specs.arrival.Comes.{IsComing, accepted, away_word, newest};
 ghost use Rattle.stmt_map.specs.declared.client.ClientStatements.{ClientStatements};
+ghost use Rattle.client_seat.specs.Numbers.{number_in};
 
 use crate::parting::{rows_of_others_stay, statements_are_in_work};
 
 /// A client comes and is served: its greeting is due to it.
 pub fn clients_come()
     ensures { (service : Service) (g : Ground) (t now : Tabled) (port : Port) (link : LinkId) (salt : List ℕ) (statements : ClientStatements)
-        (note : ClientNote) → Stands service g t → IsComing g link salt
+        (note : ClientNote) → Stands service g t → IsComing g link salt → ((number : ℕ) → number_in statements number ≡ None)
         → IsSame now (came (newest g link salt).number link (new_seat link (newest g link salt).number salt service statements) note t)
         → Stands service (accepted port link salt g) now }
 {

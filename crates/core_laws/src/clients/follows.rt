@@ -1,5 +1,5 @@
 // What follows for one client at an entry.
-ghost use Rattle.std.specs.Prelude.{◌≡◌, ◌+◌, ◌||◌, ℕ, suc, Bool, List, Option, false};
+ghost use Rattle.std.specs.Prelude.{◌≡◌, ◌+◌, ◌||◌, ℕ, suc, length, Bool, List, Option, false};
 ghost use Rattle.mx_wire.specs.declared.entry.Entry.{Entry};
 ghost use Rattle.client_session.specs.Setups.{Setup as Service};
 ghost use Rattle.private_model.specs.Names.{ClientNo, LinkId};
@@ -18,6 +18,7 @@ ghost use Rattle.core_laws.specs.clients.Found.{AreFoundAt};
 ghost use Rattle.core_laws.specs.clients.Going.{Going, GoesSo};
 ghost use Rattle.core_laws.specs.clients.Keeps.{KeepsRows};
 ghost use Rattle.core_laws.specs.clients.Turns.{Choice, Halt, Turns, count_by};
+ghost use Rattle.router_promises.specs.Takings.{takings_of};
 
 use crate::clients::turns::{turns_find, turns_stand};
 
@@ -41,14 +42,15 @@ pub fn follows_rest()
     crate::entry::entries_of_one();
 }
 
-/// Of what follows for one client at an entry: the messages that it took up are those that came up at its turns, and it is served as the user that the setup
-/// has for it.
+/// Of what follows for one client at an entry: the messages that it took up are those that came up at its turns, it is served as the user that the setup
+/// has for it, and at each it stood as the tale has it just then.
 pub fn follows_find()
     ensures { (service : Service) (default : List ℕ) (g : Ground) (mid now : Tabled) (fresh : ClientNo → Bool) (e : Entry) (client : tales.Client)
         (freed : Tale) (choices : List Choice) (halt : Halt) (parting : Parting) (c : ClientNo) → client.number ≡ c
         → IsFollowing service default g e client freed choices halt parting → Stands service (to_look g fresh freed) mid
         → (turns : Turns choices halt service default c mid now)
-        → AreFoundAt choices halt service default c mid now turns (g.setup.accounts c).user (messages g.plan client) client.taken }
+        → AreFoundAt choices halt service default c mid now turns g.setup (takings_of (length (messages g.plan client)) g.setup g.plan client freed)
+        (messages g.plan client) client.taken }
 {
     turns_find();
 }

@@ -1,5 +1,5 @@
 // A client's turns: its messages are taken up one by one.
-ghost use Rattle.std.specs.Prelude.{◌+◌, ◌≡◌, ℕ, suc, List};
+ghost use Rattle.std.specs.Prelude.{◌+◌, ◌≡◌, ◌≤◌, ℕ, suc, length, List};
 ghost use Rattle.client_session.specs.Setups.{Setup as Service};
 ghost use Rattle.private_model.specs.Names.{ClientNo};
 ghost use Rattle.log_story.specs.Owed.{messages, name_of};
@@ -10,6 +10,7 @@ ghost use Rattle.core_stands.specs.Grounds.{Ground};
 ghost use Rattle.core_laws.specs.clients.Chosen.{IsTurning, PlanHas, StandsBehind};
 ghost use Rattle.core_laws.specs.clients.Found.{AreFoundAt};
 ghost use Rattle.core_laws.specs.clients.Turns.{Choice, Halt, Turns, count_by};
+ghost use Rattle.router_promises.specs.Takings.{takings_of};
 
 /// By a plan that has what was decided of its messages, the tables stand behind a client's turns for the tale with all that it took up; or it
 /// ended.
@@ -30,16 +31,17 @@ pub fn turns_stand()
     crate::parting::left_stands();
     crate::parting::same_stands();
     crate::entry::messages_are_taken();
-    crate::entry::texts_are_no_runs();
 }
 
-/// By a plan that has what was decided of a client's messages, those that it took up are those that came up at its turns, and it is served as the user
-/// that the setup has for it.
+/// By a plan that has what was decided of a client's messages, those that it took up are those that came up at its turns, it is served as the user
+/// that the setup has for it, and at each it stood as the tale has it just then.
 pub fn turns_find()
     ensures { (service : Service) (default : List ℕ) (first client : tales.Client) (from : Tale) (g : Ground) (t now : Tabled)
         (choices : List Choice) (halt : Halt) (c : ClientNo) → client.number ≡ c → IsTurning service default first from g t client
         → PlanHas choices halt g.plan g.tale.moment (name_of client (suc client.taken)) → (turns : Turns choices halt service default c t now)
-        → AreFoundAt choices halt service default c t now turns (g.setup.accounts c).user (messages g.plan client) client.taken }
+        → (most : ℕ) → length (messages g.plan client) ≤ most + client.taken
+        → AreFoundAt choices halt service default c t now turns g.setup (takings_of most g.setup g.plan client g.tale) (messages g.plan client)
+        client.taken }
 {
     crate::arrival::clients_look();
     crate::arrival::waits_are_idle();
@@ -51,5 +53,4 @@ pub fn turns_find()
     crate::parting::left_stands();
     crate::parting::same_stands();
     crate::entry::messages_are_taken();
-    crate::entry::texts_are_no_runs();
 }

@@ -1,5 +1,5 @@
 // Entries of one kind or another.
-ghost use Rattle.std.specs.Prelude.{◌≡◌, ◌||◌, ◌≤◌, ℕ, All, Bool, List, Some, false, length, suc, true};
+ghost use Rattle.std.specs.Prelude.{◌≡◌, ◌||◌, ◌≤◌, ℕ, All, Bool, List, Some, false, length, suc, true, None};
 ghost use Rattle.mx_base.specs.declared.names.ClientNo.{ClientNo};
 ghost use Rattle.mx_base.specs.declared.names.LinkId.{LinkId};
 ghost use Rattle.mx_base.specs.declared.names.Port.{Port};
@@ -30,6 +30,7 @@ ghost use Rattle.step_laws.specs.Taken.{all_taken};
 ghost use Rattle.core_laws.specs.entry.Entries.{behind};
 ghost use Rattle.core_laws.specs.entry.Freeing.{all_freed};
 ghost use Rattle.core_laws.specs.entry.Kinds.{IsOnLink, IsQuiet, IsSpeaking, IsStill, IsUneventful};
+ghost use Rattle.client_seat.specs.Numbers.{number_in};
 
 /// An entry is counted by which nothing is given up.
 pub fn counts_alone()
@@ -85,7 +86,8 @@ pub fn writes_to_clients_rest()
 /// A client comes and is served.
 pub fn arrivals_rest()
     ensures { (service : Service) (g : Ground) (t now : Tabled) (roomy : ClientNo → Bool) (port : Port) (link : LinkId) (salt : List ℕ)
-        (statements : ClientStatements) (note : ClientNote) → Rests service g t roomy → IsComing g link salt → IsUneventful g
+        (statements : ClientStatements) (note : ClientNote) → Rests service g t roomy → IsComing g link salt
+        → ((number : ℕ) → number_in statements number ≡ None) → IsUneventful g
         → gives_up g.plan (suc g.tale.moment) (name_of (newest g link salt) 0) ≡ false
         → IsSame now (came (newest g link salt).number link (new_seat link (newest g link salt).number salt service statements) note t)
         → Rests service (behind g (Accepted port link salt) g.over) now roomy }

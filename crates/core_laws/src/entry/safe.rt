@@ -1,17 +1,15 @@
 // What a safe log promises, and how it goes on.
-ghost use Rattle.std.specs.Prelude.{Bool, List, Option, Some, [], false, length, ℕ, ◌++◌, ◌∷◌, ◌≡◌};
+ghost use Rattle.std.specs.Prelude.{Bool, List, [], false, length, ℕ, ◌++◌, ◌∷◌, ◌≡◌};
 ghost use Rattle.mx_wire.specs.Log.{Log};
 ghost use Rattle.mx_wire.specs.Moments.{AtEachMoment};
 ghost use Rattle.mx_wire.specs.declared.entry.Entry.{Entry};
-ghost use Rattle.client_seat.specs.Requests.Asked.{Says};
-ghost use Rattle.client_seat.specs.Requests.{text_in};
 ghost use Rattle.client_session.specs.Setups.{Setup as Service};
-ghost use Rattle.private_model.specs.Commands.{Command};
 ghost use Rattle.server_rule.specs.Laws.{IsTame};
 ghost use Rattle.server_rule.specs.Servers.{Step, Tests};
 ghost use Rattle.private_model.specs.Honest.{IsAccepted};
 ghost use Rattle.private_model.specs.Names.{ClientNo};
 ghost use Rattle.private_model.specs.View.{Setup};
+ghost use Rattle.run_laws.specs.Tells.{TellsBytes};
 ghost use Rattle.link_laws.specs.Stands.{Codes};
 ghost use Rattle.log_story.specs.Assumed.{AreHonest};
 ghost use Rattle.log_story.specs.Headline.{HasPrivateBytes, WritesDue, WritesPrivate, tale_of};
@@ -20,7 +18,7 @@ ghost use Rattle.log_story.specs.Said.{ClosesFirst, SaysSo};
 ghost use Rattle.log_story.specs.Telling.{story_of};
 ghost use Rattle.tale_world.specs.Tested.{Passes, has_broken};
 ghost use Rattle.core_tables.specs.Tables.{Tabled};
-ghost use Rattle.core_laws.specs.entry.Safe.{IsSafe, has_runs, is_run};
+ghost use Rattle.core_laws.specs.entry.Safe.{IsSafe};
 ghost use Rattle.core_laws.specs.entry.Tells.{Fits, IsCore, IsOf};
 
 use log_story::{private_bytes, written_is_private};
@@ -44,7 +42,7 @@ pub fn safe_is_private()
 pub fn core_is_private()
     ensures { (service : Service) (default : List ℕ) (log : Log) (t : Tabled) (roomy : ClientNo → Bool)
         → (core : IsCore service default log t roomy) → (setup : Setup) (codes : Codes) (plan : Plan) (tests : Tests) (server : Step)
-        → IsOf core.decided (length log) plan → Fits setup codes plan default (tale_of setup plan log)
+        → IsOf core.decided (length log) plan → Fits core.decided.keys setup codes plan default (tale_of setup plan log)
         → IsTame setup.reads tests server → IsAccepted setup tests → AreHonest setup plan server log
         → HasPrivateBytes setup plan server log × AtEachMoment (WritesPrivate setup plan server) log }
 {
@@ -57,15 +55,9 @@ pub fn safe_goes_on()
     ensures { (setup : Setup) (plan : Plan) (log : Log) (e : Entry) → IsSafe setup plan log
         → Passes setup plan (tale_of setup plan log) e
         → has_broken (story_of setup plan (log ++ e ∷ [])) ≡ false
-        → has_runs (story_of setup plan (log ++ e ∷ [])) ≡ false
+        → TellsBytes (tale_of setup plan (log ++ e ∷ []))
         → ClosesFirst setup (tale_of setup plan log) e
         → SaysSo setup plan (tale_of setup plan (log ++ e ∷ []))
         → WritesDue setup plan (log ++ e ∷ [])
         → IsSafe setup plan (log ++ e ∷ []) }
-{}
-
-/// What a message asks for by its text is no execute.
-pub fn texts_are_no_runs()
-    ensures { (payload : List ℕ) (text : Option (List ℕ)) (command : Command) → text_in payload text ≡ Some (Says command)
-        → is_run command ≡ false }
 {}

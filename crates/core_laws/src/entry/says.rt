@@ -5,33 +5,25 @@ ghost use Rattle.mx_wire.specs.declared.entry.Entry.TheVariants.{Wrote};
 ghost use Rattle.mx_wire.specs.declared.entry.Entry.{Entry};
 ghost use Rattle.std.specs.Prelude.{List, ℕ};
 ghost use Rattle.client_session.specs.Setups.{Setup as Service};
-ghost use Rattle.private_model.specs.Lawful.{IsLawful};
 ghost use Rattle.private_model.specs.Names.{LinkId};
-ghost use Rattle.private_model.specs.Story.{Story};
-ghost use Rattle.private_model.specs.View.{Setup, view_after};
+ghost use Rattle.private_model.specs.View.{Setup};
 ghost use Rattle.log_story.specs.Plan.{Plan};
 ghost use Rattle.log_story.specs.Said.{ClosesFirst, SaysSo, SaysThere};
 ghost use Rattle.log_story.specs.Tale.{Tale, is_to_server, view_of};
 ghost use Rattle.log_story.specs.Telling.{tale_step};
+ghost use Rattle.run_laws.specs.Reads.{AllHeard, ReadsAsked};
 ghost use Rattle.link_laws.specs.Stands.{Codes};
 ghost use Rattle.served_link.specs.declared.row.Row.{Row};
 ghost use Rattle.row_laws.specs.Rows.{IsRowIn};
 ghost use Rattle.core_tables.specs.Tables.{Tabled};
 ghost use Rattle.core_stands.specs.Grounds.{Ground, on};
 ghost use Rattle.core_stands.specs.Stands.{Stands};
-ghost use Rattle.core_laws.specs.entry.Safe.{has_runs};
-ghost use Rattle.core_laws.specs.entry.Speaks.{IsSilent, IsSilentOrSpoken, is_run_at};
+ghost use Rattle.core_laws.specs.entry.Speaks.{IsSilent, IsSilentOrSpoken};
 
-/// Where no message asks to execute what is prepared, no execute stands on a link.
-pub fn no_run_stands()
-    ensures { (setup : Setup) (story : Story) (l : LinkId) → IsLawful setup story → has_runs story ≡ false
-        → is_run_at ((view_after setup story).links l).stage ≡ false }
-{}
-
-/// What is written on a link is what there is to say there, by its row; where an entry is silent of it, that stays so.
+/// What is written on a link is what there is to say there, by its row, where an execute reads as it is spelt; where an entry is silent of it, that stays so.
 pub fn links_say()
     ensures by_row { (setup : Setup) (codes : Codes) (plan : Plan) (tale : Tale) (l : LinkId) (row : Row) → IsRowIn setup codes plan tale l row
-        → is_run_at ((view_of setup tale).links l).stage ≡ false → ((tale.wires l).entered ≡ false → row.link.spoilt ≡ false)
+        → ReadsAsked ((view_of setup tale).links l).stage ((view_of setup tale).links l).live → ((tale.wires l).entered ≡ false → row.link.spoilt ≡ false)
         → SaysThere setup plan tale l }
     ensures still { (setup : Setup) (plan : Plan) (tale : Tale) (e : Entry) (l : LinkId) → IsSilent setup plan tale e l
         → SaysThere setup plan tale l → SaysThere setup plan (tale_step setup plan tale e) l }
@@ -40,7 +32,7 @@ pub fn links_say()
 /// So it is on all links at an entry: one that was there, and of which the entry is silent, or one that has a row behind it.
 pub fn all_say_so()
     ensures { (service : Service) (g : Ground) (t : Tabled) (e : Entry) → SaysSo g.setup g.plan g.tale
-        → Stands service (on g (tale_step g.setup g.plan g.tale e)) t → has_runs (tale_step g.setup g.plan g.tale e).story ≡ false
+        → Stands service (on g (tale_step g.setup g.plan g.tale e)) t → AllHeard (tale_step g.setup g.plan g.tale e).story
         → ((l : LinkId) → is_to_server (tale_step g.setup g.plan g.tale e) l ≡ true
         → IsSilentOrSpoken g.setup g.plan g.tale e (tale_step g.setup g.plan g.tale e) t l)
         → SaysSo g.setup g.plan (tale_step g.setup g.plan g.tale e) }

@@ -97,7 +97,7 @@ pub fn written_answers_stand()
         → (is : IsUpOf g t client row) (flag : ℕ) (payloads : List (List ℕ)) (before packets : List ℕ)
         → route_of g client ≡ None → own_of g client ≡ Some payloads → before ≡ []
         → packets ≡ before ++ spellings row.desk.seat.first payloads → is_reset is.up.message ≡ false
-        → IsTaken (answers flag packets) client.number t other → Stands service (on g (took g client is.up.message)) other }
+        → IsTaken true (answers flag packets) client.number t other → Stands service (on g (took g client is.up.message)) other }
 {
     own_answers_are_spelt();
     own_answers_stand();

@@ -10,6 +10,7 @@ ghost use Rattle.log_story.specs.Tale as tales;
 ghost use Rattle.log_story.specs.Tale.{tell};
 ghost use Rattle.step_laws.specs.Taken.{next_made};
 ghost use Rattle.stmt_map.specs.declared.client.ClientStatements.{ClientStatements};
+ghost use Rattle.client_seat.specs.Numbers.{AreNoted};
 ghost use Rattle.client_desk.specs.declared.work.Work.{Work};
 ghost use Rattle.core_tables.specs.Tables.{IsSame, Tabled, client_changed};
 ghost use Rattle.core_tables.specs.Taking.{answers, begins_anew, goes, quits};
@@ -34,7 +35,8 @@ pub fn own_answers_stand()
     ensures { (service : Service) (g : Ground) (t other : Tabled) (client : tales.Client) (row : Client) → Stands service g t
         → (is : IsUpOf g t client row) (flag : ℕ) (payloads : List (List ℕ)) (packets : List ℕ) (statements : ClientStatements)
         → route_of g client ≡ None → own_of g client ≡ Some payloads → packets ≡ spellings row.desk.seat.first payloads
-        → is_reset is.up.message ≡ false → IsSame other (client_changed client.number (answers flag packets statements) t)
+        → is_reset is.up.message ≡ false → AreNoted true is.up.message.payload row.desk.seat.statements statements
+        → IsSame other (client_changed client.number (answers flag packets statements) t)
         → Stands service (on g (took g client is.up.message)) other }
 {
     seats_stand();
@@ -47,6 +49,7 @@ pub fn resets_stand()
         → (is : IsUpOf g t client row) (flag : ℕ) (payloads : List (List ℕ)) (packets : List ℕ) (statements : ClientStatements)
         → route_of g client ≡ None → own_of g client ≡ Some payloads → packets ≡ spellings row.desk.seat.first payloads
         → is_reset is.up.message ≡ true → HasLives (view_on g) client.number
+        → AreNoted true is.up.message.payload row.desk.seat.statements statements
         → IsSame other (begins_anew client.number flag packets statements t) → Stands service (on g (took g client is.up.message)) other }
 {
     seats_stand();
@@ -72,7 +75,8 @@ pub fn quits_stand()
 pub fn dues_stand()
     ensures { (service : Service) (g : Ground) (t other : Tabled) (client : tales.Client) (row : Client) → Stands service g t
         → (is : IsUpOf g t client row) (flag : ℕ) (route : Route) (command : Command) (work : Work) (statements : ClientStatements)
-        → IsSent g client is.up.message route command work → IsSame other (client_changed client.number (goes flag work statements) t)
+        → IsSent g client is.up.message route command work → AreNoted false is.up.message.payload row.desk.seat.statements statements
+        → IsSame other (client_changed client.number (goes flag work statements) t)
         → Stands service (on g (took g client is.up.message)) other }
 {
     seats_stand();

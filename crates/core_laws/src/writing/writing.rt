@@ -13,7 +13,7 @@ ghost use Rattle.core_stands.specs.Grounds.{Ground, on};
 ghost use Rattle.core_stands.specs.Stands.{Stands};
 ghost use Rattle.core_laws.specs.writing.Planned.{IsPlanned};
 
-use crate::parting::same_stands;
+use crate::parting::{clients_at_stay, same_stands};
 use desk_laws::{coming_stays, others_stay, outlasts_as_said, sent_stands};
 use row_laws::{rows_begin, rows_may_begin, rows_say, rows_write_on};
 
@@ -30,6 +30,7 @@ pub fn writes_stand()
     rows_begin();
     others_stay();
     coming_stays();
+    clients_at_stay();
     sent_stands();
     outlasts_as_said();
     same_stands();

@@ -2,7 +2,7 @@ use Rattle.core_laws.proofs.OfClients.Turning.{turns_found}
 use Rattle.core_laws.proofs.clients.turns.turns_find.Goals as goal
 
 pub returns : goal.returns
-returns c = λ service default first client from g t now choices halt n same is has turns.
+returns c = λ service default first client from g t now choices halt n same is has turns most enough.
     turns_found (record {
       looks = c.clients_look.ensures;
       waits = c.waits_are_idle.ensures;
@@ -13,5 +13,4 @@ returns c = λ service default first client from g t now choices halt n same is 
       dues = c.dues_stand.ensures;
       leaves = c.left_stands.ensures.ends;
       same = c.same_stands.ensures;
-      texts = c.texts_are_no_runs.ensures;
-    }) service default first client from g t now choices halt n same is has turns
+    }) service default first client from g t now choices halt n same is has turns most enough

@@ -13,5 +13,4 @@ returns c = λ service default first client from g t now choices halt is has tur
       dues = c.dues_stand.ensures;
       leaves = c.left_stands.ensures.ends;
       same = c.same_stands.ensures;
-      texts = c.texts_are_no_runs.ensures;
     }) service default first client from g t now choices halt is has turns

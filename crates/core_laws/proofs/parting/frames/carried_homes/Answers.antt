@@ -1,4 +1,5 @@
-use Rattle.core_laws.proofs.OfParting.Carrying.{home_carries, home_said, row_carries}
+use Rattle.core_laws.proofs.OfParting.Carrying.{home_carries, home_said}
+use Rattle.core_laws.proofs.OfParting.Named.{row_carries}
 use Rattle.core_laws.proofs.parting.frames.carried_homes.Goals as goal
 
 pub returns-clause-row : goal.returns-clause-row

@@ -1,0 +1,5 @@
+pub mod Keeping
+pub mod Rows
+pub mod Mapping
+pub mod Turning
+pub mod Taking
