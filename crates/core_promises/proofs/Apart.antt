@@ -13,6 +13,7 @@ use Rattle.client_seat.specs.Seats as seats
 use Rattle.server_rule.specs.Servers.{no_capabilities}
 use Rattle.server_side.specs.Account.{Account as Login}
 use Rattle.private_model.specs.Names.{ClientNo, MessageName, ServerId}
+use Rattle.private_model.specs.Story.{Key}
 use Rattle.private_model.specs.View.{Setup}
 use Rattle.link_laws.specs.Stands.{Codes}
 use Rattle.row_laws.specs.Readied.{AreClasses}
@@ -36,8 +37,12 @@ use Rattle.core_promises.proofs.Verdicts.{asks-by}
 use Rattle.core_promises.proofs.Past.{lawful_at}
 use Rattle.core_promises.proofs.Who.{decided_by, terms_by, who_at}
 
-abbrev no_codes : Codes
-no_codes key = None
+-- a key is its own number
+abbrev its_key : Codes
+its_key key = Some key
+
+abbrev no_key : Key
+no_key = record { text = []; place = record { schema = []; settings = defaults } }
 
 schema_same : (default : List ℕ) (named : Option (List ℕ)) → routers.schema_named default named ≡ seats.schema_named default named
 schema_same default None = refl
@@ -82,7 +87,7 @@ module _ (router : Router) (log : Log) (t : Tabled) (roomy : ClientNo → Bool)
   abbrev base : Setup
   base = record {
     reads = router.reads;
-    keys = λ key. record { text = []; place = record { schema = []; settings = defaults } };
+    keys = λ key. unwrap_or (core.decided.keys key) no_key;
     accounts = λ c. record { user = []; capabilities = no_capabilities };
     places = λ c. record { schema = []; settings = defaults };
     stored = λ server. [];
@@ -95,10 +100,11 @@ module _ (router : Router) (log : Log) (t : Tabled) (roomy : ClientNo → Bool)
     whole : AreWhoTheySay terms log
     whole = moment-last (AreWhoTheySay terms) log (who_at router plan base log stored)
 
-    fitting : Fits (setup_in terms) no_codes plan router.proxy.default_schema (tale_of (setup_in terms) plan log)
+    fitting : Fits core.decided.keys (setup_in terms) its_key plan router.proxy.default_schema (tale_of (setup_in terms) plan log)
     fitting = record {
       classes = classes;
-      apart = λ a b number is other. absurd (none-some number is);
+      named = λ key. refl;
+      keyed = λ k key was. ap (λ (o : Option Key). unwrap_or o no_key) was;
       who = λ k d within.
           let client : Client = slice_index_or (tale_of (setup_in terms) plan log).clients k d in
           who_so terms client (opening_of (talk_of plan client)) (whole k d within);
@@ -107,9 +113,9 @@ module _ (router : Router) (log : Log) (t : Tabled) (roomy : ClientNo → Bool)
 
     keeps : KeepsApart terms log
     keeps =
-        let rests = core.rests (setup_in terms) no_codes plan (itself core.decided (length log)) fitting in
-        let judged : JudgesSo terms log = judges (setup_in terms) no_codes plan (itself core.decided (length log)) fitting in
-        let safe = core.safe (setup_in terms) no_codes plan (itself core.decided (length log)) fitting in
+        let rests = core.rests (setup_in terms) its_key plan (itself core.decided (length log)) fitting in
+        let judged : JudgesSo terms log = judges (setup_in terms) its_key plan (itself core.decided (length log)) fitting in
+        let safe = core.safe (setup_in terms) its_key plan (itself core.decided (length log)) fitting in
         record {
           router = record { service = rests.stands.service_is; room = rests.stands.room_is };
           fits = fits;
@@ -121,7 +127,7 @@ module _ (router : Router) (log : Log) (t : Tabled) (roomy : ClientNo → Bool)
           asks = asks-by terms log judged;
           judges = judged;
           speaks = speaks;
-          waits = waited terms no_codes (itself core.decided (length log)) fitting;
+          waits = waited terms its_key (itself core.decided (length log)) fitting;
         }
 
   pub apart : Separates router log

@@ -14,12 +14,13 @@ use Rattle.query_rules.specs.declared.rule.Rule.{Rule}
 use Rattle.server_rule.specs.Classes.{router_reads}
 use Rattle.session_state.specs.Pins.{reads_own}
 use Rattle.session_state.specs.declared.pin.Pin.{Pin}
+use Rattle.session_state.specs.declared.place.Place.{Place}
 use Rattle.private_model.specs.Names.{ClientNo, Hostgroup}
 use Rattle.log_story.specs.Plan.{Route, com_query}
 use Rattle.router_promises.specs.Errors as error
 use Rattle.router_promises.specs.Verdicts.{Goes, Tells, Verdict, Wanted, is_connection_id}
 use Rattle.message_judge.specs.Judging as judging
-use Rattle.core_promises.specs.Judges.{IsVerdictFor, Knowledge, Rulebook, goes_by, verdict_on}
+use Rattle.core_promises.specs.Judges.{IsVerdictFor, Knowledge, Rulebook, Situation, goes_by, transaction_of, verdict_on}
 use Rattle.core_promises.specs.Wrong.{StaysIn}
 
 abbrev IsThere : (home : Hostgroup) → Verdict → Type 0
@@ -59,45 +60,65 @@ classed home class None wanted is = by (is_connection_id class.shape) where
   by false = is
 
 -- by what is known of its client
-module _ (rules : List Rule) (known : Knowledge) (home : Hostgroup) (closed : known.standing.transaction ≡ None) where
-  hostgroup-is : (class : Class) (otherwise : Hostgroup) → (class.reads_id || class.reads_diag) ≡ false → otherwise ≡ home
-      → judging.hostgroup_for known.caller known.standing class otherwise ≡ home
-  hostgroup-is class otherwise unread is =
-      ap (λ (h : Option Hostgroup). unwrap_or h (if class.reads_id || class.reads_diag then unwrap_or known.caller.last known.caller.home else otherwise)) closed
-      ∙ ap (λ (b : Bool). if b then unwrap_or known.caller.last known.caller.home else otherwise) unread
-      ∙ is
+module _ (rules : List Rule) (known : Knowledge) (home : Hostgroup) where
+  -- where a query goes that the rules leave so
+  abbrev GoesThere : Routed → Type 0
+  GoesThere routed =
+      judging.hostgroup_for known.caller known.standing (router_reads.class routed.text) routed.hostgroup ≡ home
 
-  ruled : (routed : Routed) (why : Option Stop) → StaysIn home routed
+  ruled : (routed : Routed) (why : Option Stop) → GoesThere routed
       → IsDraftThere home (judging.ruled router_reads known.caller known.standing routed None why)
-  unfolding router_reads
-  ruled routed None stays =
-      classed home (router_reads.class routed.text) (router_reads.class routed.text).refusal _
-      (hostgroup-is (router_reads.class routed.text) routed.hostgroup stays.reads stays.hostgroup)
-  ruled routed (Some (stop.Error text)) stays = tt
-  ruled routed (Some (stop.Ok text)) stays = tt
+  ruled routed None there = classed home (router_reads.class routed.text) (router_reads.class routed.text).refusal _ there
+  ruled routed (Some (stop.Error text)) there = tt
+  ruled routed (Some (stop.Ok text)) there = tt
 
-  asked : (text : List ℕ) → StaysIn home (judging.pass_of rules known.caller text)
+  asked : (text : List ℕ) → GoesThere (judging.pass_of rules known.caller text)
       → IsDraftThere home (judging.asks router_reads rules known.caller known.standing text).draft
-  asked text stays = by (is_connection_id (router_reads.class text).shape) where
+  asked text there = by (is_connection_id (router_reads.class text).shape) where
     by : (asks : Bool)
         → IsDraftThere home (if asks then judging.still known.caller (judging.connection_id known.caller known.standing)
         else judging.by_pass router_reads known.caller known.standing (judging.pass_of rules known.caller text) None).draft
     by true = tt
-    by false = ruled (judging.pass_of rules known.caller text) (judging.pass_of rules known.caller text).stop stays
+    by false = ruled (judging.pass_of rules known.caller text) (judging.pass_of rules known.caller text).stop there
 
-  query-there : (text : List ℕ) → StaysIn home (judging.pass_of rules known.caller text) → IsThere home (verdict_on rules known (com_query ∷ text))
-  query-there text stays = drafted home known (judging.asks router_reads rules known.caller known.standing text).draft (asked text stays)
+  query-there : (text : List ℕ) → GoesThere (judging.pass_of rules known.caller text) → IsThere home (verdict_on rules known (com_query ∷ text))
+  query-there text there = drafted home known (judging.asks router_reads rules known.caller known.standing text).draft (asked text there)
 
-pub goes-home : (book : Rulebook) (user : List ℕ) (c : ClientNo) (text : List ℕ) (route : Route)
-    (for : IsVerdictFor book user c (com_query ∷ text) (goes_by route)) → for.known.standing.transaction ≡ None
-    → ((ask : Ask) → ask.text ≡ text → ask.user ≡ user → ask.default_hostgroup ≡ book.home user → is_first_flag book.rules ask.flag ≡ true
-    → StaysIn (book.home user) (route_of book.rules ask)) → route.hostgroup ≡ book.home user
-goes-home book user c text route for closed stays =
-    subst (IsThere (book.home user)) (sym for.is)
-    (query-there book.rules for.known (book.home user) closed text (stays (record {
-      user = for.known.caller.user;
-      schema = for.known.caller.place.schema;
-      flag = for.known.caller.flag;
-      text = text;
-      default_hostgroup = for.known.caller.home;
-    }) refl for.login for.home for.flag))
+  closed-there : known.standing.transaction ≡ None → (routed : Routed) → StaysIn home routed → GoesThere routed
+  unfolding router_reads
+  closed-there closed routed stays =
+      let class : Class = router_reads.class routed.text in
+      let other : Hostgroup = unwrap_or known.caller.last known.caller.home in
+      ap (λ (h : Option Hostgroup). unwrap_or h (if class.reads_id || class.reads_diag then other else routed.hostgroup)) closed
+      ∙ ap (λ (b : Bool). if b then other else routed.hostgroup) stays.reads
+      ∙ stays.hostgroup
+
+  open-there : known.standing.transaction ≡ Some home → (routed : Routed) → GoesThere routed
+  open-there opened routed =
+      let class : Class = router_reads.class routed.text in
+      ap (λ (h : Option Hostgroup). unwrap_or h
+      (if class.reads_id || class.reads_diag then unwrap_or known.caller.last known.caller.home else routed.hostgroup)) opened
+
+module _ (book : Rulebook) (situation : Situation) (c : ClientNo) (text : List ℕ) (route : Route)
+    (for : IsVerdictFor book situation c (com_query ∷ text) (goes_by route)) where
+  pub goes-home : transaction_of book situation ≡ None
+      → ((ask : Ask) → ask.text ≡ text → ask.user ≡ situation.user → ask.schema ≡ situation.place.schema → ask.default_hostgroup ≡ book.home situation.user
+      → is_first_flag book.rules ask.flag ≡ true → StaysIn (book.home situation.user) (route_of book.rules ask)) → route.hostgroup ≡ book.home situation.user
+  goes-home closed stays =
+      let ask : Ask = record {
+        user = for.known.caller.user;
+        schema = for.known.caller.place.schema;
+        flag = for.known.caller.flag;
+        text = text;
+        default_hostgroup = for.known.caller.home;
+      } in
+      subst (IsThere (book.home situation.user)) (sym for.is)
+      (query-there book.rules for.known (book.home situation.user) text
+      (closed-there book.rules for.known (book.home situation.user) (for.transaction ∙ closed) (route_of book.rules ask)
+      (stays ask refl for.login (ap (λ (p : Place). p.schema) for.place) for.home for.flag)))
+
+  pub stays-open : (hostgroup : Hostgroup) → transaction_of book situation ≡ Some hostgroup → route.hostgroup ≡ hostgroup
+  stays-open hostgroup opened =
+      subst (IsThere hostgroup) (sym for.is)
+      (query-there book.rules for.known hostgroup text
+      (open-there book.rules for.known hostgroup (for.transaction ∙ opened) (judging.pass_of book.rules for.known.caller text)))

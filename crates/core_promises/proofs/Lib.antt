@@ -8,3 +8,4 @@ pub mod Texts
 pub mod Verdicts
 pub mod Homing
 pub mod Refusing
+pub mod Takings

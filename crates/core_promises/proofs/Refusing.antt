@@ -52,6 +52,6 @@ pub refused-past : (terms : Terms) (text why : List ℕ) (route : Route) (rule :
     → SetsNoFlag terms.router.rules → ⊥
 refused-past terms text why route rule others sends are refuses unset =
     unstopped-by terms text route sends
-    (λ ask own login first none.
+    (λ ask own login placed first none.
     none-some (sym none ∙ ap (λ (rules : List Rule). (route_of rules ask).stop) are
     ∙ stops-so (user_of sends.up) why rule refuses ask login (unset ask.flag first) others))

@@ -11,50 +11,62 @@ use Rattle.router_promises.specs.Terms.{Terms, plan_in, setup_in, tale_at}
 use Rattle.router_promises.specs.Verdicts.{Tells}
 use Rattle.router_promises.proofs.Refusals.{at-index}
 use Rattle.core_promises.specs.Asks.{IsRewritten}
-use Rattle.core_promises.specs.Judges.{AreJudged, IsJudged, IsVerdictFor, rulebook_of}
-use Rattle.core_promises.specs.Wrong.{AnswersBy, AsksFor, SendsBy, TakesUp, taken_up, user_of}
+use Rattle.core_promises.specs.Judges.{AreJudged, IsJudged, IsVerdictFor, Situation, goes_by, rulebook_of, situation_of}
+use Rattle.core_promises.specs.Wrong.{AnswersBy, AsTaken, AsksFor, SendsBy, TakesUp, taken_up, user_of}
 use Rattle.core_promises.proofs.Verdicts.{AnswersSo, GoesSo, IsPassed, answers-so, goes-so}
 
-judged-at : (terms : Terms) (payload : List ℕ) (up : TakesUp terms payload)
-    → IsJudged (rulebook_of terms.router) (user_of up) (plan_in terms) (length up.log) (taken_up up) payload
+pub judged-at : (terms : Terms) (payload : List ℕ) (up : TakesUp terms payload)
+    → IsJudged (rulebook_of terms.router) (setup_in terms) (plan_in terms) up.log (taken_up up) payload
 judged-at terms payload up =
-    let judged : AreJudged (rulebook_of terms.router) (setup_in terms) (plan_in terms) (length up.log) up.client =
-    at-index (AreJudged (rulebook_of terms.router) (setup_in terms) (plan_in terms) (length up.log)) (tale_at terms up.log).clients up.place up.client
+    let judged : AreJudged (rulebook_of terms.router) (setup_in terms) (plan_in terms) up.log up.client =
+    at-index (AreJudged (rulebook_of terms.router) (setup_in terms) (plan_in terms) up.log) (tale_at terms up.log).clients up.place up.client
     up.keeps.judges up.within up.is in
-    subst (IsJudged (rulebook_of terms.router) (user_of up) (plan_in terms) (length up.log) (taken_up up)) up.has
+    subst (IsJudged (rulebook_of terms.router) (setup_in terms) (plan_in terms) up.log (taken_up up)) up.has
     (judged up.count up.message up.taken up.there)
 
-pub sent-so : (terms : Terms) (payload : List ℕ) (route : Route) (sends : SendsBy terms payload route)
-    → GoesSo terms.router.rules (user_of sends.up) payload route.text
-sent-so terms payload route sends =
-    goes-so (rulebook_of terms.router) (user_of sends.up) (taken_up sends.up).client payload route
-    ((judged-at terms payload sends.up).goes route sends.goes)
+-- how its client stood
+abbrev pub stood : (terms : Terms) (payload : List ℕ) → TakesUp terms payload → Situation
+stood terms payload up = situation_of (setup_in terms) (judged-at terms payload up).taking.tale up.client.number
+
+pub as-stood : (terms : Terms) (payload : List ℕ) (up : TakesUp terms payload) (fact : Situation → Type 0) → AsTaken up fact → fact (stood terms payload up)
+as-stood terms payload up fact so = so (judged-at terms payload up).taking (judged-at terms payload up).taken
 
 -- what the verdict says of it
+
+pub route-for : (terms : Terms) (payload : List ℕ) (route : Route) (sends : SendsBy terms payload route)
+    → IsVerdictFor (rulebook_of terms.router) (stood terms payload sends.up) sends.up.client.number payload (goes_by route)
+route-for terms payload route sends = (judged-at terms payload sends.up).goes route sends.goes
+
+pub sent-so : (terms : Terms) (payload : List ℕ) (route : Route) (sends : SendsBy terms payload route)
+    → GoesSo terms.router.rules (user_of sends.up) (stood terms payload sends.up).place.schema payload route.text
+sent-so terms payload route sends =
+    goes-so (rulebook_of terms.router) (stood terms payload sends.up) sends.up.client.number payload route (route-for terms payload route sends)
+
 pub answer-for : (terms : Terms) (payload : List ℕ) (payloads : List (List ℕ)) → (answers : AnswersBy terms payload payloads)
-    → IsVerdictFor (rulebook_of terms.router) (user_of answers.up) (taken_up answers.up).client payload (Tells payloads)
+    → IsVerdictFor (rulebook_of terms.router) (stood terms payload answers.up) answers.up.client.number payload (Tells payloads)
 answer-for terms payload payloads answers = (judged-at terms payload answers.up).tells payloads answers.nowhere answers.answers
 
 pub answered-so : (terms : Terms) (text : List ℕ) (payloads : List (List ℕ)) (answers : AnswersBy terms (com_query ∷ text) payloads)
-    → AnswersSo terms.router.rules (user_of answers.up) text payloads
+    → AnswersSo terms.router.rules (user_of answers.up) (stood terms (com_query ∷ text) answers.up).place.schema text payloads
 answered-so terms text payloads answers =
-    answers-so (rulebook_of terms.router) (user_of answers.up) (taken_up answers.up).client text payloads
+    answers-so (rulebook_of terms.router) (stood terms (com_query ∷ text) answers.up) answers.up.client.number text payloads
     (answer-for terms (com_query ∷ text) payloads answers)
 
--- a query goes to a server only where some pass of the rules for its client's user doesn't stop it
+-- a query goes to a server only where some pass of the rules, for its client's user in its schema, doesn't stop it
 pub unstopped-by : (terms : Terms) (text : List ℕ) (route : Route) (sends : SendsBy terms (com_query ∷ text) route)
-    → ((ask : Ask) → ask.text ≡ text → ask.user ≡ user_of sends.up → is_first_flag terms.router.rules ask.flag ≡ true
-    → (route_of terms.router.rules ask).stop ≢ None) → ⊥
+    → ((ask : Ask) → ask.text ≡ text → ask.user ≡ user_of sends.up → ask.schema ≡ (stood terms (com_query ∷ text) sends.up).place.schema
+    → is_first_flag terms.router.rules ask.flag ≡ true → (route_of terms.router.rules ask).stop ≢ None) → ⊥
 unstopped-by terms text route sends stops = by route.text (sent-so terms (com_query ∷ text) route sends) where
-  by : (made : Option (List ℕ)) → GoesSo terms.router.rules (user_of sends.up) (com_query ∷ text) made → ⊥
+  by : (made : Option (List ℕ))
+      → GoesSo terms.router.rules (user_of sends.up) (stood terms (com_query ∷ text) sends.up).place.schema (com_query ∷ text) made → ⊥
   by None so = false≢true so
-  by (Some other) so = stops so.made.ask so.made.own so.login so.flag so.unstopped
+  by (Some other) so = stops so.made.ask so.made.own so.login so.placed so.flag so.unstopped
 
 -- it goes as a text that the rules made of the message's own, and that isn't refused
 pub passed-as : (terms : Terms) (payload text : List ℕ) (asks : AsksFor terms payload text)
-    → IsPassed terms.router.rules (user_of asks.sends.up) payload text
+    → IsPassed terms.router.rules (user_of asks.sends.up) (stood terms payload asks.sends.up).place.schema payload text
 passed-as terms payload text asks =
-    subst (GoesSo terms.router.rules (user_of asks.sends.up) payload) asks.as_text (sent-so terms payload asks.route asks.sends)
+    subst (GoesSo terms.router.rules (user_of asks.sends.up) (stood terms payload asks.sends.up).place.schema payload) asks.as_text (sent-so terms payload asks.route asks.sends)
 
 pub rewritten-as : (terms : Terms) (payload text : List ℕ) → AsksFor terms payload text → IsRewritten terms.router.rules payload text
 rewritten-as terms payload text asks = (passed-as terms payload text asks).made

@@ -1,5 +1,5 @@
 -- What the verdict says of a message, by its first byte.
-use Rattle.std.specs.Prelude.{◌≡◌, ◌⊎◌, ◌||◌, ℕ, Bool, true, false, nat_eq, slice_index_or, length, List, [], ◌∷◌, Option, Some, None, refl, if◌then◌else◌, unwrap_or}
+use Rattle.std.specs.Prelude.{◌≡◌, ◌⊎◌, ◌||◌, ℕ, suc, Bool, true, false, nat_eq, slice_index_or, length, List, [], ◌∷◌, Option, Some, None, refl, if◌then◌else◌, unwrap_or}
 use Rattle.std.proofs.Common.{sym, subst, ◌∙◌, inl, inr}
 use Rattle.mx_wire.specs.Log.{Log}
 use Rattle.pin_classifier.specs.Classes.{class_of}
@@ -17,8 +17,10 @@ use Rattle.reply_text.specs.Replies.{ok_payload}
 use Rattle.server_rule.specs.Classes.{router_reads}
 use Rattle.session_state.specs.Pins.{reads_own}
 use Rattle.session_state.specs.declared.pin.Pin.{Pin}
+use Rattle.session_state.specs.declared.place.Place.{Place}
 use Rattle.private_model.specs.Names.{ClientNo}
 use Rattle.private_model.specs.View.{Setup}
+use Rattle.log_story.specs.Owed.{name_of}
 use Rattle.log_story.specs.Plan.{Plan, Route, com_execute, com_field_list, com_init_db, com_long_data, com_prepare, com_query, com_reset, com_statement_reset}
 use Rattle.log_story.specs.Tale.{Client}
 use Rattle.router_promises.proofs.Refusals.{never}
@@ -29,57 +31,59 @@ use Rattle.router_promises.specs.Verdicts.{Goes, Parts, Tells, Verdict, Wanted, 
 use Rattle.message_judge.specs.Judging as judging
 use Rattle.message_judge.proofs.Commands.{split}
 use Rattle.core_promises.specs.Asks.{AsksOwnOf, AsksSo, IsRewritten, IsTextOf}
-use Rattle.core_promises.specs.Judges.{AreJudged, IsVerdictFor, JudgesSo, Knowledge, Rulebook, goes_by, rulebook_of, verdict_on}
+use Rattle.core_promises.specs.Judges.{AreJudged, IsJudged, IsVerdictFor, JudgesSo, Knowledge, Rulebook, Situation, goes_by, rulebook_of, situation_of, verdict_on}
 use Rattle.core_promises.specs.Wrong.{is_for_servers}
 
 -- What goes to a server is a query, as a text that isn't refused, and that no rule answers; or the choice of a schema, or the question for a table's columns.
 
-pub record IsPassed (rules : List Rule) (user payload text : List ℕ) : Type 0 where
+pub record IsPassed (rules : List Rule) (user schema payload text : List ℕ) : Type 0 where
   pub asks : nat_eq (slice_index_or payload 0 0) com_query ≡ true
   pub made : IsRewritten rules payload text
   pub login : made.ask.user ≡ user
+  pub placed : made.ask.schema ≡ schema
   pub free : (class_of text).refusal ≡ None
   pub flag : is_first_flag rules made.ask.flag ≡ true
   pub unstopped : (route_of rules made.ask).stop ≡ None
 
-abbrev pub GoesSo : List Rule → (user payload : List ℕ) → Option (List ℕ) → Type 0
-GoesSo rules user payload None = (nat_eq (slice_index_or payload 0 0) com_init_db || nat_eq (slice_index_or payload 0 0) com_field_list) ≡ true
-GoesSo rules user payload (Some text) = IsPassed rules user payload text
+abbrev pub GoesSo : List Rule → (user schema payload : List ℕ) → Option (List ℕ) → Type 0
+GoesSo rules user schema payload None = (nat_eq (slice_index_or payload 0 0) com_init_db || nat_eq (slice_index_or payload 0 0) com_field_list) ≡ true
+GoesSo rules user schema payload (Some text) = IsPassed rules user schema payload text
 
-abbrev pub IsSo : List Rule → (user payload : List ℕ) → Verdict → Type 0
-IsSo rules user payload (Goes wanted) = GoesSo rules user payload wanted.route.text
-IsSo rules user payload _ = Unit {0}
+abbrev pub IsSo : List Rule → (user schema payload : List ℕ) → Verdict → Type 0
+IsSo rules user schema payload (Goes wanted) = GoesSo rules user schema payload wanted.route.text
+IsSo rules user schema payload _ = Unit {0}
 
-abbrev IsDraft : List Rule → (user payload : List ℕ) → judging.Draft → Type 0
-IsDraft rules user payload (judging.Sends class wanted) = GoesSo rules user payload wanted.route.text
-IsDraft rules user payload _ = Unit {0}
+abbrev IsDraft : List Rule → (user schema payload : List ℕ) → judging.Draft → Type 0
+IsDraft rules user schema payload (judging.Sends class wanted) = GoesSo rules user schema payload wanted.route.text
+IsDraft rules user schema payload _ = Unit {0}
 
 -- A query that goes to no server is answered by an error, by a rule's OK, or by more than one payload.
 
-pub record IsByRule (rules : List Rule) (user text payload : List ℕ) : Type 0 where
+pub record IsByRule (rules : List Rule) (user schema text payload : List ℕ) : Type 0 where
   pub ask : Ask
   pub own : ask.text ≡ text
   pub login : ask.user ≡ user
+  pub placed : ask.schema ≡ schema
   pub flag : is_first_flag rules ask.flag ≡ true
   pub said : List ℕ
   pub stops : (route_of rules ask).stop ≡ Some (stop.Ok said)
   pub status : ℕ
   pub is : payload ≡ ok_payload status said
 
-abbrev pub AnswersSo : List Rule → (user text : List ℕ) → (payloads : List (List ℕ)) → Type 0
-AnswersSo rules user text [] = ⊥
-AnswersSo rules user text (payload ∷ []) = (slice_index_or payload 0 0 ≡ 255) ⊎ IsByRule rules user text payload
-AnswersSo rules user text (payload ∷ other ∷ payloads) = Unit {0}
+abbrev pub AnswersSo : List Rule → (user schema text : List ℕ) → (payloads : List (List ℕ)) → Type 0
+AnswersSo rules user schema text [] = ⊥
+AnswersSo rules user schema text (payload ∷ []) = (slice_index_or payload 0 0 ≡ 255) ⊎ IsByRule rules user schema text payload
+AnswersSo rules user schema text (payload ∷ other ∷ payloads) = Unit {0}
 
-abbrev pub IsToldSo : List Rule → (user text : List ℕ) → Verdict → Type 0
-IsToldSo rules user text Parts = ⊥
-IsToldSo rules user text (Tells payloads) = AnswersSo rules user text payloads
-IsToldSo rules user text (Goes wanted) = Unit {0}
+abbrev pub IsToldSo : List Rule → (user schema text : List ℕ) → Verdict → Type 0
+IsToldSo rules user schema text Parts = ⊥
+IsToldSo rules user schema text (Tells payloads) = AnswersSo rules user schema text payloads
+IsToldSo rules user schema text (Goes wanted) = Unit {0}
 
-abbrev IsToldDraft : List Rule → (user text : List ℕ) → judging.Draft → Type 0
-IsToldDraft rules user text judging.Ends = ⊥
-IsToldDraft rules user text (judging.Answers payloads) = AnswersSo rules user text payloads
-IsToldDraft rules user text (judging.Sends class wanted) = Unit {0}
+abbrev IsToldDraft : List Rule → (user schema text : List ℕ) → judging.Draft → Type 0
+IsToldDraft rules user schema text judging.Ends = ⊥
+IsToldDraft rules user schema text (judging.Answers payloads) = AnswersSo rules user schema text payloads
+IsToldDraft rules user schema text (judging.Sends class wanted) = Unit {0}
 
 pub record IsPlainOk (payloads : List (List ℕ)) : Type 0 where
   pub status : ℕ
@@ -104,39 +108,42 @@ module _ (rules : List Rule) (known : Knowledge) (flagged : is_first_flag rules 
   abbrev user : List ℕ
   user = known.caller.user
 
+  abbrev schema : List ℕ
+  schema = known.caller.place.schema
+
   -- of a draft, as it is admitted
 
-  sent : (payload : List ℕ) (there : Bool) (wanted : Wanted) → GoesSo rules user payload wanted.route.text → IsSo rules user payload (judging.sent_unless there wanted)
+  sent : (payload : List ℕ) (there : Bool) (wanted : Wanted) → GoesSo rules user schema payload wanted.route.text → IsSo rules user schema payload (judging.sent_unless there wanted)
   sent payload true wanted so = so
   sent payload false wanted so = tt
 
-  admitted : (payload : List ℕ) (class : Option Class) (pin : Pin) (there : Bool) (wanted : Wanted) → GoesSo rules user payload wanted.route.text
-      → IsSo rules user payload (judging.admitted class pin there wanted)
+  admitted : (payload : List ℕ) (class : Option Class) (pin : Pin) (there : Bool) (wanted : Wanted) → GoesSo rules user schema payload wanted.route.text
+      → IsSo rules user schema payload (judging.admitted class pin there wanted)
   admitted payload None pin there wanted so = sent payload there wanted so
   admitted payload (Some class) pin there wanted so = by (reads_own class pin) where
-    by : (own : Bool) → IsSo rules user payload (if own then judging.sent_unless there wanted else Tells (error.diagnostics_gone ∷ []))
+    by : (own : Bool) → IsSo rules user schema payload (if own then judging.sent_unless there wanted else Tells (error.diagnostics_gone ∷ []))
     by true = sent payload there wanted so
     by false = tt
 
-  drafted : (payload : List ℕ) (draft : judging.Draft) → IsDraft rules user payload draft → IsSo rules user payload (judging.verdict_by known.pins known.is_there draft)
+  drafted : (payload : List ℕ) (draft : judging.Draft) → IsDraft rules user schema payload draft → IsSo rules user schema payload (judging.verdict_by known.pins known.is_there draft)
   drafted payload judging.Ends so = tt
   drafted payload (judging.Answers payloads) so = tt
   drafted payload (judging.Sends class wanted) so = admitted payload class _ _ wanted so
 
-  sent-told : (text : List ℕ) (there : Bool) (wanted : Wanted) → IsToldSo rules user text (judging.sent_unless there wanted)
+  sent-told : (text : List ℕ) (there : Bool) (wanted : Wanted) → IsToldSo rules user schema text (judging.sent_unless there wanted)
   unfolding error.no_server_in
   sent-told text true wanted = tt
   sent-told text false wanted = inl refl
 
-  admitted-told : (text : List ℕ) (class : Option Class) (pin : Pin) (there : Bool) (wanted : Wanted) → IsToldSo rules user text (judging.admitted class pin there wanted)
+  admitted-told : (text : List ℕ) (class : Option Class) (pin : Pin) (there : Bool) (wanted : Wanted) → IsToldSo rules user schema text (judging.admitted class pin there wanted)
   unfolding error.diagnostics_gone
   admitted-told text None pin there wanted = sent-told text there wanted
   admitted-told text (Some class) pin there wanted = by (reads_own class pin) where
-    by : (own : Bool) → IsToldSo rules user text (if own then judging.sent_unless there wanted else Tells (error.diagnostics_gone ∷ []))
+    by : (own : Bool) → IsToldSo rules user schema text (if own then judging.sent_unless there wanted else Tells (error.diagnostics_gone ∷ []))
     by true = sent-told text there wanted
     by false = inl refl
 
-  drafted-told : (text : List ℕ) (draft : judging.Draft) → IsToldDraft rules user text draft → IsToldSo rules user text (judging.verdict_by known.pins known.is_there draft)
+  drafted-told : (text : List ℕ) (draft : judging.Draft) → IsToldDraft rules user schema text draft → IsToldSo rules user schema text (judging.verdict_by known.pins known.is_there draft)
   drafted-told text judging.Ends so = so
   drafted-told text (judging.Answers payloads) so = so
   drafted-told text (judging.Sends class wanted) so = admitted-told text class _ _ wanted
@@ -144,38 +151,38 @@ module _ (rules : List Rule) (known : Knowledge) (flagged : is_first_flag rules 
   -- a query, by the class of its text and by the rules
 
   classed : (rest text : List ℕ) (why : Option Refusal) (wanted : Wanted) → (class_of text).refusal ≡ why → wanted.route.text ≡ Some text
-      → (made : IsRewritten rules (com_query ∷ rest) text) → made.ask.user ≡ user → is_first_flag rules made.ask.flag ≡ true → (route_of rules made.ask).stop ≡ None
-      → IsDraft rules user (com_query ∷ rest) (judging.by_class (class_of text) why wanted)
-  classed rest text (Some refusal.SetsServer) wanted free is made login flag unstopped = tt
-  classed rest text (Some refusal.NamesConnection) wanted free is made login flag unstopped = tt
-  classed rest text (Some refusal.ReadsLast) wanted free is made login flag unstopped = tt
-  classed rest text None wanted free is made login flag unstopped = by (is_connection_id (class_of text).shape) where
-    by : (asks : Bool) → IsDraft rules user (com_query ∷ rest) (if asks then judging.answers_one error.names_connection else judging.Sends (Some (class_of text)) wanted)
+      → (made : IsRewritten rules (com_query ∷ rest) text) → made.ask.user ≡ user → made.ask.schema ≡ schema → is_first_flag rules made.ask.flag ≡ true → (route_of rules made.ask).stop ≡ None
+      → IsDraft rules user schema (com_query ∷ rest) (judging.by_class (class_of text) why wanted)
+  classed rest text (Some refusal.SetsServer) wanted free is made login placed flag unstopped = tt
+  classed rest text (Some refusal.NamesConnection) wanted free is made login placed flag unstopped = tt
+  classed rest text (Some refusal.ReadsLast) wanted free is made login placed flag unstopped = tt
+  classed rest text None wanted free is made login placed flag unstopped = by (is_connection_id (class_of text).shape) where
+    by : (asks : Bool) → IsDraft rules user schema (com_query ∷ rest) (if asks then judging.answers_one error.names_connection else judging.Sends (Some (class_of text)) wanted)
     by true = tt
-    by false = subst (GoesSo rules user (com_query ∷ rest)) (sym is) (record { asks = refl; made = made; login = login; free = free; flag = flag; unstopped = unstopped })
+    by false = subst (GoesSo rules user schema (com_query ∷ rest)) (sym is) (record { asks = refl; made = made; login = login; placed = placed; free = free; flag = flag; unstopped = unstopped })
 
-  ruled : (ask : Ask) (why : Option Stop) → ask.user ≡ user → is_first_flag rules ask.flag ≡ true → (route_of rules ask).stop ≡ why
-      → IsDraft rules user (com_query ∷ ask.text) (judging.ruled router_reads known.caller known.standing (route_of rules ask) None why)
+  ruled : (ask : Ask) (why : Option Stop) → ask.user ≡ user → ask.schema ≡ schema → is_first_flag rules ask.flag ≡ true → (route_of rules ask).stop ≡ why
+      → IsDraft rules user schema (com_query ∷ ask.text) (judging.ruled router_reads known.caller known.standing (route_of rules ask) None why)
   unfolding router_reads
-  ruled ask None login flag is =
-      classed ask.text (route_of rules ask).text (class_of (route_of rules ask).text).refusal _ refl refl (record { ask = ask; own = refl; is = refl }) login flag is
-  ruled ask (Some (stop.Error text)) login flag is = tt
-  ruled ask (Some (stop.Ok text)) login flag is = tt
+  ruled ask None login placed flag is =
+      classed ask.text (route_of rules ask).text (class_of (route_of rules ask).text).refusal _ refl refl (record { ask = ask; own = refl; is = refl }) login placed flag is
+  ruled ask (Some (stop.Error text)) login placed flag is = tt
+  ruled ask (Some (stop.Ok text)) login placed flag is = tt
 
-  classed-told : (text : List ℕ) (class : Class) (why : Option Refusal) (wanted : Wanted) → IsToldDraft rules user text (judging.by_class class why wanted)
+  classed-told : (text : List ℕ) (class : Class) (why : Option Refusal) (wanted : Wanted) → IsToldDraft rules user schema text (judging.by_class class why wanted)
   unfolding error.sets_server error.names_connection error.diagnostics_gone
   classed-told text class (Some refusal.SetsServer) wanted = inl refl
   classed-told text class (Some refusal.NamesConnection) wanted = inl refl
   classed-told text class (Some refusal.ReadsLast) wanted = inl refl
   classed-told text class None wanted = by (is_connection_id class.shape) where
-    by : (asks : Bool) → IsToldDraft rules user text (if asks then judging.answers_one error.names_connection else judging.Sends (Some class) wanted)
+    by : (asks : Bool) → IsToldDraft rules user schema text (if asks then judging.answers_one error.names_connection else judging.Sends (Some class) wanted)
     by true = inl refl
     by false = tt
 
-  ruled-told : (ask : Ask) (why : Option Stop) → ask.user ≡ user → is_first_flag rules ask.flag ≡ true → (route_of rules ask).stop ≡ why
-      → IsToldDraft rules user ask.text (judging.ruled router_reads known.caller known.standing (route_of rules ask) None why)
+  ruled-told : (ask : Ask) (why : Option Stop) → ask.user ≡ user → ask.schema ≡ schema → is_first_flag rules ask.flag ≡ true → (route_of rules ask).stop ≡ why
+      → IsToldDraft rules user schema ask.text (judging.ruled router_reads known.caller known.standing (route_of rules ask) None why)
   unfolding error.refused_by_rule
-  ruled-told ask None login flag is =
+  ruled-told ask None login placed flag is =
       let class : Class = router_reads.class (route_of rules ask).text in
       let wanted : Wanted = record {
         route = record (plain_route (judging.hostgroup_for known.caller known.standing class (route_of rules ask).hostgroup)) {
@@ -185,12 +192,13 @@ module _ (rules : List Rule) (known : Knowledge) (flagged : is_first_flag rules 
         key = None;
       } in
       classed-told ask.text class class.refusal wanted
-  ruled-told ask (Some (stop.Error text)) login flag is = inl refl
-  ruled-told ask (Some (stop.Ok text)) login flag is =
+  ruled-told ask (Some (stop.Error text)) login placed flag is = inl refl
+  ruled-told ask (Some (stop.Ok text)) login placed flag is =
       inr (record {
         ask = ask;
         own = refl;
         login = login;
+        placed = placed;
         flag = flag;
         said = text;
         stops = is;
@@ -207,21 +215,21 @@ module _ (rules : List Rule) (known : Knowledge) (flagged : is_first_flag rules 
         if asks then judging.still known.caller (judging.connection_id known.caller known.standing)
         else judging.by_pass router_reads known.caller known.standing (judging.pass_of rules known.caller text) None
 
-    asked : IsDraft rules user (com_query ∷ text) (judging.asks router_reads rules known.caller known.standing text).draft
+    asked : IsDraft rules user schema (com_query ∷ text) (judging.asks router_reads rules known.caller known.standing text).draft
     asked = by (is_connection_id (router_reads.class text).shape) where
-      by : (asks : Bool) → IsDraft rules user (com_query ∷ text) (asked_by asks).draft
+      by : (asks : Bool) → IsDraft rules user schema (com_query ∷ text) (asked_by asks).draft
       by true = tt
-      by false = ruled ask (route_of rules ask).stop refl flagged refl
+      by false = ruled ask (route_of rules ask).stop refl refl flagged refl
 
-    asked-told : IsToldDraft rules user text (judging.asks router_reads rules known.caller known.standing text).draft
+    asked-told : IsToldDraft rules user schema text (judging.asks router_reads rules known.caller known.standing text).draft
     asked-told = by (is_connection_id (router_reads.class text).shape) where
-      by : (asks : Bool) → IsToldDraft rules user text (asked_by asks).draft
+      by : (asks : Bool) → IsToldDraft rules user schema text (asked_by asks).draft
       by true = tt
-      by false = ruled-told ask (route_of rules ask).stop refl flagged refl
+      by false = ruled-told ask (route_of rules ask).stop refl refl flagged refl
 
   -- of any message
 
-  judged-so : (payload : List ℕ) → IsSo rules user payload (verdict_on rules known payload)
+  judged-so : (payload : List ℕ) → IsSo rules user schema payload (verdict_on rules known payload)
   judged-so [] = tt
   judged-so (byte ∷ rest) =
       split byte com_query (λ is. moved is (drafted (com_query ∷ rest) _ (asked rest)))
@@ -238,10 +246,10 @@ module _ (rules : List Rule) (known : Knowledge) (flagged : is_first_flag rules 
       (λ fetch. split byte com_reset (λ is. moved is tt)
       (λ reset. rw (query, init, fields, quit, ping, prepare, execute, long, close, resets, fetch, reset) tt))))))))))))
     where
-      moved : {k : ℕ} → byte ≡ k → IsSo rules user (k ∷ rest) (verdict_on rules known (k ∷ rest)) → IsSo rules user (byte ∷ rest) (verdict_on rules known (byte ∷ rest))
-      moved is so = subst (λ b. IsSo rules user (b ∷ rest) (verdict_on rules known (b ∷ rest))) (sym is) so
+      moved : {k : ℕ} → byte ≡ k → IsSo rules user schema (k ∷ rest) (verdict_on rules known (k ∷ rest)) → IsSo rules user schema (byte ∷ rest) (verdict_on rules known (byte ∷ rest))
+      moved is so = subst (λ b. IsSo rules user schema (b ∷ rest) (verdict_on rules known (b ∷ rest))) (sym is) so
 
-  query-told : (text : List ℕ) → IsToldSo rules user text (verdict_on rules known (com_query ∷ text))
+  query-told : (text : List ℕ) → IsToldSo rules user schema text (verdict_on rules known (com_query ∷ text))
   query-told text = drafted-told text (judging.asks router_reads rules known.caller known.standing text).draft (asked-told text)
 
 or-left : (a b : Bool) → a ≡ true → (a || b) ≡ true
@@ -253,51 +261,61 @@ or-right true b is = refl
 or-right false b is = is
 
 -- by no other command
-pub goes-not : {A : Type 0} (rules : List Rule) (whose payload : List ℕ) (text : Option (List ℕ)) → GoesSo rules whose payload text → is_for_servers (slice_index_or payload 0 0) ≡ false → A
-goes-not rules whose payload None so other = never (sym (or-right (nat_eq (slice_index_or payload 0 0) com_query) _ so) ∙ other)
-goes-not rules whose payload (Some text) so other = never (sym (or-left (nat_eq (slice_index_or payload 0 0) com_query) _ so.asks) ∙ other)
+pub goes-not : {A : Type 0} (rules : List Rule) (user schema payload : List ℕ) (text : Option (List ℕ)) → GoesSo rules user schema payload text → is_for_servers (slice_index_or payload 0 0) ≡ false → A
+goes-not rules user schema payload None so other = never (sym (or-right (nat_eq (slice_index_or payload 0 0) com_query) _ so) ∙ other)
+goes-not rules user schema payload (Some text) so other = never (sym (or-left (nat_eq (slice_index_or payload 0 0) com_query) _ so.asks) ∙ other)
 
 -- for something that is known
 
-module _ (book : Rulebook) (user : List ℕ) (c : ClientNo) where
-  pub goes-so : (payload : List ℕ) (route : Route) → IsVerdictFor book user c payload (goes_by route) → GoesSo book.rules user payload route.text
-  goes-so payload route for =
-      subst (λ (u : List ℕ). GoesSo book.rules u payload route.text) for.login
-      (subst (IsSo book.rules for.known.caller.user payload) (sym for.is) (judged-so book.rules for.known for.flag payload))
+module _ (book : Rulebook) (situation : Situation) (c : ClientNo) where
+  abbrev whose : List ℕ
+  whose = situation.user
 
-  pub answers-so : (text : List ℕ) (payloads : List (List ℕ)) → IsVerdictFor book user c (com_query ∷ text) (Tells payloads)
-      → AnswersSo book.rules user text payloads
+  abbrev where_it_stands : List ℕ
+  where_it_stands = situation.place.schema
+
+  pub goes-so : (payload : List ℕ) (route : Route) → IsVerdictFor book situation c payload (goes_by route)
+      → GoesSo book.rules whose where_it_stands payload route.text
+  goes-so payload route for =
+      subst (λ (place : Place). GoesSo book.rules whose place.schema payload route.text) for.place
+      (subst (λ (u : List ℕ). GoesSo book.rules u for.known.caller.place.schema payload route.text) for.login
+      (subst (IsSo book.rules for.known.caller.user for.known.caller.place.schema payload) (sym for.is) (judged-so book.rules for.known for.flag payload)))
+
+  pub answers-so : (text : List ℕ) (payloads : List (List ℕ)) → IsVerdictFor book situation c (com_query ∷ text) (Tells payloads)
+      → AnswersSo book.rules whose where_it_stands text payloads
   answers-so text payloads for =
-      subst (λ (u : List ℕ). AnswersSo book.rules u text payloads) for.login
-      (subst (IsToldSo book.rules for.known.caller.user text) (sym for.is) (query-told book.rules for.known for.flag text))
+      subst (λ (place : Place). AnswersSo book.rules whose place.schema text payloads) for.place
+      (subst (λ (u : List ℕ). AnswersSo book.rules u for.known.caller.place.schema text payloads) for.login
+      (subst (IsToldSo book.rules for.known.caller.user for.known.caller.place.schema text) (sym for.is) (query-told book.rules for.known for.flag text)))
 
   -- the choice of a schema is answered by a server, or refused
-  pub choice-told : (schema : List ℕ) (payloads : List (List ℕ)) → IsVerdictFor book user c (com_init_db ∷ schema) (Tells payloads)
+  pub choice-told : (schema : List ℕ) (payloads : List (List ℕ)) → IsVerdictFor book situation c (com_init_db ∷ schema) (Tells payloads)
       → IsRefusing (Tells payloads)
   choice-told schema payloads for =
       subst IsRefusing (sym for.is) (sent-refusing (for.known.is_there (unwrap_or for.known.standing.transaction for.known.caller.home)) _)
 
   -- a PING is answered OK, without a text
-  pub ping-told : (rest : List ℕ) (payloads : List (List ℕ)) → IsVerdictFor book user c (com_ping ∷ rest) (Tells payloads) → IsPlainOk payloads
+  pub ping-told : (rest : List ℕ) (payloads : List (List ℕ)) → IsVerdictFor book situation c (com_ping ∷ rest) (Tells payloads) → IsPlainOk payloads
   ping-told rest payloads for =
       subst IsPinged (sym for.is) (record { status = judging.own_status for.known.caller for.known.standing; is = refl })
 
   -- the text that it has
-  text-so : (payload : List ℕ) (text : Option (List ℕ)) → GoesSo book.rules user payload text → IsTextOf book.rules payload text
+  text-so : (payload : List ℕ) (text : Option (List ℕ)) → GoesSo book.rules whose where_it_stands payload text → IsTextOf book.rules payload text
   text-so payload None so = tt
   text-so payload (Some text) so = so.made
 
-  pub asks-text : (payload : List ℕ) (route : Route) → IsVerdictFor book user c payload (goes_by route) → IsTextOf book.rules payload route.text
+  pub asks-text : (payload : List ℕ) (route : Route) → IsVerdictFor book situation c payload (goes_by route) → IsTextOf book.rules payload route.text
   asks-text payload route for = text-so payload route.text (goes-so payload route for)
 
 -- of each client
 
-asks-own : (book : Rulebook) (setup : Setup) (plan : Plan) (moment : ℕ) (client : Client) → AreJudged book setup plan moment client
+asks-own : (book : Rulebook) (setup : Setup) (plan : Plan) (log : Log) (client : Client) → AreJudged book setup plan log client
     → AsksOwnOf book.rules plan client
-asks-own book setup plan moment client judged k message route within there goes =
-    asks-text book (setup.accounts client.number).user client.number message.payload route ((judged k message within there).goes route goes)
+asks-own book setup plan log client judged k message route within there goes =
+    let is : IsJudged book setup plan log (name_of client (suc k)) message.payload = judged k message within there in
+    asks-text book (situation_of setup is.taking.tale client.number) client.number message.payload route (is.goes route goes)
 
 pub asks-by : (terms : Terms) (log : Log) → JudgesSo terms log → AsksSo terms log
 asks-by terms log judges k d within =
-    asks-own (rulebook_of terms.router) (setup_in terms) (plan_in terms) (length log) (slice_index_or (tale_at terms log).clients k d)
+    asks-own (rulebook_of terms.router) (setup_in terms) (plan_in terms) log (slice_index_or (tale_at terms log).clients k d)
     (judges k d within)

@@ -1,24 +1,29 @@
--- What becomes of a client's message: what the promise's verdict says of it by the configuration's rules, for something that may be known of
--- its client: its user is the one with whom it logged in, and its default hostgroup that user's.
-use Rattle.std.specs.Prelude.{◌≡◌, ◌<◌, ◌||◌, ℕ, suc, nat_eq, slice_get, slice_index_or, Bool, true, All, if◌then◌else◌, length, List, [], Some, None}
+-- What becomes of a client's message: what the promise's verdict says of it by the configuration's rules, and by what is so of its client as the
+-- message is taken up.
+use Rattle.std.specs.Prelude.{◌≡◌, ◌<◌, ◌||◌, ℕ, suc, nat_eq, slice_get, slice_index_or, Bool, true, All, find, if◌then◌else◌, is_some, length, map}
+use Rattle.std.specs.Prelude.{List, [], ◌∷◌, ◌++◌, Option, Some, None}
 use Rattle.mx_wire.specs.Log.{Log}
 use Rattle.packet_frame.specs.Packets.{Framed}
 use Rattle.client_session.specs.Errors.{unknown_command}
+use Rattle.hostgroups.specs.declared.row.ServerRow.{ServerRow}
 use Rattle.query_rules.specs.Effects.{is_first_flag}
 use Rattle.query_rules.specs.declared.rule.Rule.{Rule}
 use Rattle.session_state.specs.declared.pin.Pin.{Pin}
+use Rattle.session_state.specs.declared.place.Place.{Place}
 use Rattle.server_rule.specs.Classes.{router_reads}
-use Rattle.private_model.specs.Names.{ClientNo, Hostgroup, MessageName}
-use Rattle.private_model.specs.View.{Setup}
+use Rattle.private_model.specs.Names.{ClientNo, Hostgroup, LinkId, MessageName}
+use Rattle.private_model.specs.View.{Held, Setup, present}
 use Rattle.link_laws.specs.Stands.{Codes}
 use Rattle.log_story.specs.Headline.{tale_of}
 use Rattle.log_story.specs.Owed.{messages, name_of}
 use Rattle.log_story.specs.Plan.{Plan, Route, com_execute, com_long_data, com_prepare, com_statement_reset, own_at}
-use Rattle.log_story.specs.Tale.{Client}
+use Rattle.log_story.specs.Tale.{Client, Tale, first_tale, view_of}
+use Rattle.log_story.specs.Telling.{tale_step}
 use Rattle.tale_world.specs.Decided.{Decided}
 use Rattle.core_laws.specs.entry.Tells.{Fits, IsOf}
 use Rattle.router_promises.specs.Router.{Router, home_of}
 use Rattle.router_promises.specs.Statements.{com_close}
+use Rattle.router_promises.specs.Takings.{Taking, message_in, takings_at}
 use Rattle.router_promises.specs.Terms.{Terms, plan_in, setup_in, tale_at}
 use Rattle.router_promises.specs.Verdicts.{Goes, Tells, Verdict, com_fetch, tells_one}
 use Rattle.message_judge.specs.Judging.{judged, verdict_by}
@@ -38,14 +43,38 @@ is_of_statement byte =
 abbrev pub unserved : (byte : ℕ) → Verdict
 unserved byte = if is_silent byte then Tells [] else tells_one unknown_command
 
--- What messages are judged by: rules, and each user's default hostgroup.
+-- What messages are judged by: rules, each user's default hostgroup, and the hostgroups of servers in their order.
 pub record Rulebook : Type 0 where
   pub rules : List Rule
   pub home : (user : List ℕ) → Hostgroup
+  pub hostgroups : List Hostgroup
 
 -- a configuration's
 abbrev pub rulebook_of : Router → Rulebook
-rulebook_of router = record { rules = router.rules; home = home_of router }
+rulebook_of router =
+    record { rules = router.rules; home = home_of router; hostgroups = map (λ (row : ServerRow). row.hostgroup) router.servers }
+
+-- What is so of a client in a tale: who it is, where it stands, why its sessions keep their links, and which links carry them.
+pub record Situation : Type 0 where
+  pub user : List ℕ
+  pub place : Place
+  pub pins : Hostgroup → Pin
+  pub homes : Hostgroup → Option LinkId
+
+abbrev pub held_of : Setup → Tale → ClientNo → Hostgroup → Held
+held_of setup tale c hostgroup = (view_of setup tale).held (present (view_of setup tale) c hostgroup)
+
+abbrev pub situation_of : Setup → Tale → ClientNo → Situation
+situation_of setup tale c = record {
+  user = (setup.accounts c).user;
+  place = (view_of setup tale).places c;
+  pins = λ hostgroup. (held_of setup tale c hostgroup).pin;
+  homes = λ hostgroup. (held_of setup tale c hostgroup).home;
+}
+
+-- the hostgroup of its open transaction
+abbrev pub transaction_of : Rulebook → Situation → Option Hostgroup
+transaction_of book situation = find (λ hostgroup. (situation.pins hostgroup).tx) book.hostgroups
 
 -- What may be known of a client: its user, schema, settings, flag and last hostgroup; the hostgroup of its transaction; why its sessions keep
 -- their links; and in which hostgroups there is a link or a server for it.
@@ -60,37 +89,56 @@ verdict_on rules known payload =
     if is_of_statement (slice_index_or payload 0 0) then unserved (slice_index_or payload 0 0)
     else verdict_by known.pins known.is_there (judged router_reads rules known.caller known.standing None payload).draft
 
--- It is this on a message of this client, who logged in as this user; its flag is one by which rules may be tried first.
-pub record IsVerdictFor (book : Rulebook) (user : List ℕ) (c : ClientNo) (payload : List ℕ) (verdict : Verdict) : Type 0 where
+-- It is this on a message of this client, of which this is so. There is a link for it where one carries its session; its flag is one by which
+-- rules may be tried first.
+pub record IsVerdictFor (book : Rulebook) (situation : Situation) (c : ClientNo) (payload : List ℕ) (verdict : Verdict) : Type 0 where
   pub known : Knowledge
   pub client : known.caller.number ≡ c
-  pub login : known.caller.user ≡ user
-  pub home : known.caller.home ≡ book.home user
+  pub login : known.caller.user ≡ situation.user
+  pub home : known.caller.home ≡ book.home situation.user
+  pub place : known.caller.place ≡ situation.place
+  pub transaction : known.standing.transaction ≡ transaction_of book situation
+  pub pins : known.pins ≡ situation.pins
+  pub there : (hostgroup : Hostgroup) → is_some (situation.homes hostgroup) ≡ true → known.is_there hostgroup ≡ true
   pub flag : is_first_flag book.rules known.caller.flag ≡ true
   pub is : verdict ≡ verdict_on book.rules known payload
 
 abbrev pub goes_by : Route → Verdict
 goes_by route = Goes (record { route = route; key = None })
 
+-- The messages that are taken up along a log, in order.
+abbrev pub takings_along : Setup → Plan → Tale → Log → List Taking
+takings_along setup plan tale [] = []
+takings_along setup plan tale (e ∷ log) = takings_at setup plan tale e ++ takings_along setup plan (tale_step setup plan tale e) log
+
+-- the message of this name is one of them
+pub record WasTaken (setup : Setup) (plan : Plan) (log : Log) (name : MessageName) (taking : Taking) : Type 0 where
+  pub place : ℕ
+  pub there : slice_get (takings_along setup plan first_tale log) place ≡ Some taking
+  pub named : message_in taking ≡ name
+
 -- A message that was taken up goes where the verdict says, as the text that it says; and where it goes to no server it is answered as that says,
--- if it is by now.
-pub record IsJudged (book : Rulebook) (user : List ℕ) (plan : Plan) (moment : ℕ) (name : MessageName) (payload : List ℕ) : Type 0 where
-  pub goes : (route : Route) → plan.routes name ≡ Some route → IsVerdictFor book user name.client payload (goes_by route)
-  pub tells : (payloads : List (List ℕ)) → plan.routes name ≡ None → own_at plan moment name ≡ Some payloads
-      → IsVerdictFor book user name.client payload (Tells payloads)
+-- if it is by now: by what was so of its client just before it was taken up.
+pub record IsJudged (book : Rulebook) (setup : Setup) (plan : Plan) (log : Log) (name : MessageName) (payload : List ℕ) : Type 0 where
+  pub taking : Taking
+  pub taken : WasTaken setup plan log name taking
+  pub goes : (route : Route) → plan.routes name ≡ Some route
+      → IsVerdictFor book (situation_of setup taking.tale name.client) name.client payload (goes_by route)
+  pub tells : (payloads : List (List ℕ)) → plan.routes name ≡ None → own_at plan (length log) name ≡ Some payloads
+      → IsVerdictFor book (situation_of setup taking.tale name.client) name.client payload (Tells payloads)
 
 -- of each message of a client
-abbrev pub AreJudged : Rulebook → Setup → Plan → (moment : ℕ) → Client → Type 0
-AreJudged book setup plan moment client =
+abbrev pub AreJudged : Rulebook → Setup → Plan → Log → Client → Type 0
+AreJudged book setup plan log client =
     (k : ℕ) (message : Framed) → k < client.taken → slice_get (messages plan client) k ≡ Some message
-    → IsJudged book (setup.accounts client.number).user plan moment (name_of client (suc k)) message.payload
+    → IsJudged book setup plan log (name_of client (suc k)) message.payload
 
 -- of each client
 abbrev pub JudgesSo : Terms → Log → Type 0
-JudgesSo terms log = All (AreJudged (rulebook_of terms.router) (setup_in terms) (plan_in terms) (length log)) (tale_at terms log).clients
+JudgesSo terms log = All (AreJudged (rulebook_of terms.router) (setup_in terms) (plan_in terms) log) (tale_at terms log).clients
 
 -- by each plan that has what was decided
 abbrev pub JudgesBy : Rulebook → (default : List ℕ) → Decided → Log → Type 0
 JudgesBy book default d log =
-    (setup : Setup) (codes : Codes) (plan : Plan) → IsOf d (length log) plan → Fits setup codes plan default (tale_of setup plan log)
-    → All (AreJudged book setup plan (length log)) (tale_of setup plan log).clients
+    (setup : Setup) (codes : Codes) (plan : Plan) → IsOf d (length log) plan → Fits d.keys setup codes plan default (tale_of setup plan log)
+    → All (AreJudged book setup plan log) (tale_of setup plan log).clients

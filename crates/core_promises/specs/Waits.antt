@@ -84,4 +84,4 @@ WaitsSo terms log e = WaitsBy terms log (now_at terms log) e
 abbrev pub AreDoneBy : (default : List ℕ) → Decided → Log → Type 0
 AreDoneBy default d log =
     (terms : Terms) (codes : Codes) → IsOf d (length log) (plan_in terms)
-    → Fits (setup_in terms) codes (plan_in terms) default (tale_of (setup_in terms) (plan_in terms) log) → AllLawful (WaitsSo terms) log
+    → Fits d.keys (setup_in terms) codes (plan_in terms) default (tale_of (setup_in terms) (plan_in terms) log) → AllLawful (WaitsSo terms) log

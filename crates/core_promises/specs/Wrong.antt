@@ -18,6 +18,8 @@ use Rattle.router_promises.specs.Now.{now_at, present_now}
 use Rattle.router_promises.specs.Terms.{Terms, plan_in, setup_in, tale_at}
 use Rattle.router_promises.specs.Wakes.{has_ended}
 use Rattle.router_promises.specs.Wrong.{IsWait}
+use Rattle.router_promises.specs.Takings.{Taking}
+use Rattle.core_promises.specs.Judges.{Situation, WasTaken, situation_of}
 use Rattle.core_promises.specs.Sessions.{KeepsApart}
 
 -- the entry is one of a log that keeps clients apart, behind these
@@ -78,6 +80,12 @@ taken_up up = name_of up.client (suc up.count)
 -- the user with whom its client logged in
 abbrev pub user_of : {terms : Terms} {payload : List ℕ} → TakesUp terms payload → List ℕ
 user_of {terms} up = ((setup_in terms).accounts up.client.number).user
+
+-- this is so of its client as it was taken up
+abbrev pub AsTaken : {terms : Terms} {payload : List ℕ} → TakesUp terms payload → (Situation → Type 0) → Type 0
+AsTaken {terms} up fact =
+    (taking : Taking) → WasTaken (setup_in terms) (plan_in terms) up.log (taken_up up) taking
+    → fact (situation_of (setup_in terms) taking.tale up.client.number)
 
 -- and it goes to a server by this route
 pub record SendsBy (terms : Terms) (payload : List ℕ) (route : Route) : Type 0 where

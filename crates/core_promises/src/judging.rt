@@ -1,34 +1,69 @@
 // What the verdict says of a message that goes to a server; and routers that do otherwise with one: none that keeps its clients apart does so.
 ghost use Rattle.std.specs.Prelude.{◌≡◌, ◌≢◌, ℕ, false, true, List, [], ◌∷◌, slice_index_or, Some, None};
 ghost use Rattle.core_promises.specs.Asks.{IsTextOf};
-ghost use Rattle.core_promises.specs.Judges.{IsVerdictFor, Rulebook, goes_by};
-ghost use Rattle.core_promises.specs.Wrong.{AnswersBy, AsksFor, RefusesUser, SendsBy, SetsNoFlag, StaysIn, is_for_servers, user_of};
+ghost use Rattle.core_promises.specs.Judges.{IsVerdictFor, Rulebook, Situation, goes_by, rulebook_of, situation_of, transaction_of};
+ghost use Rattle.core_promises.specs.Wrong.{AnswersBy, AsTaken, AsksFor, RefusesUser, SendsBy, SetsNoFlag, StaysIn, is_for_servers, user_of};
 ghost use Rattle.log_story.specs.Plan.{Route, com_init_db, com_query};
 ghost use Rattle.pin_classifier.specs.Classes.{class_of};
 ghost use Rattle.pin_classifier.specs.declared.class.Refusal.{Refusal};
-ghost use Rattle.private_model.specs.Names.{ClientNo};
+ghost use Rattle.private_model.specs.Names.{ClientNo, Hostgroup};
 ghost use Rattle.query_rules.specs.Effects.{is_first_flag};
 ghost use Rattle.query_rules.specs.Passing.{route_of};
 ghost use Rattle.query_rules.specs.declared.ask.Ask.{Ask};
 ghost use Rattle.query_rules.specs.declared.ask.Stop.TheVariants.{Ok as OkBy};
 ghost use Rattle.query_rules.specs.declared.rule.Rule.{Rule};
 ghost use Rattle.reply_text.specs.Replies.{ok_payload};
-ghost use Rattle.router_promises.specs.Terms.{Terms};
-ghost use Rattle.router_promises.specs.Verdicts.{com_ping};
+ghost use Rattle.router_promises.specs.Router.{home_of};
+ghost use Rattle.router_promises.specs.Takings.{Taking};
+ghost use Rattle.router_promises.specs.Terms.{Terms, setup_in};
+ghost use Rattle.router_promises.specs.Verdicts.{com_ping, held_in, transaction_in, user_in};
+
+/// What is so of a client as a message of its is taken up is what the promise of shared links knows of it then.
+pub fn situations_are_promised()
+    ensures transaction { (terms : Terms) (taking : Taking)
+        → transaction_of (rulebook_of terms.router) (situation_of (setup_in terms) taking.tale taking.client.number) ≡ transaction_in terms taking }
+    ensures user { (terms : Terms) (taking : Taking)
+        → (situation_of (setup_in terms) taking.tale taking.client.number).user ≡ user_in terms taking }
+    ensures pins { (terms : Terms) (taking : Taking) (hostgroup : Hostgroup)
+        → (situation_of (setup_in terms) taking.tale taking.client.number).pins hostgroup ≡ (held_in terms taking hostgroup).pin }
+{}
 
 /// Where the verdict says that a message goes to a server, it says so of the client's own text, or of what the rules make of that.
 pub fn verdicts_ask()
-    ensures { (book : Rulebook) (user : List ℕ) (c : ClientNo) (payload : List ℕ) (route : Route)
-        → IsVerdictFor book user c payload (goes_by route) → IsTextOf book.rules payload route.text }
+    ensures { (book : Rulebook) (situation : Situation) (c : ClientNo) (payload : List ℕ) (route : Route)
+        → IsVerdictFor book situation c payload (goes_by route) → IsTextOf book.rules payload route.text }
 {}
 
-/// A query goes to its user's default hostgroup where, by what the verdict takes to be known, no transaction is open, and where at each flag by which
-/// rules may be tried first, whatever the schema, they leave it there, as a text that reads neither an insert id nor diagnostics.
+/// A query goes to its user's default hostgroup where no transaction is open, and where at each flag by which rules may be tried first they leave it
+/// there, as a text that reads neither an insert id nor diagnostics.
 pub fn verdicts_go_home()
-    ensures { (book : Rulebook) (user : List ℕ) (c : ClientNo) (text : List ℕ) (route : Route)
-        (for : IsVerdictFor book user c (com_query ∷ text) (goes_by route)) → for.known.standing.transaction ≡ None
-        → ((ask : Ask) → ask.text ≡ text → ask.user ≡ user → ask.default_hostgroup ≡ book.home user → is_first_flag book.rules ask.flag ≡ true
-        → StaysIn (book.home user) (route_of book.rules ask)) → route.hostgroup ≡ book.home user }
+    ensures { (book : Rulebook) (situation : Situation) (c : ClientNo) (text : List ℕ) (route : Route)
+        → IsVerdictFor book situation c (com_query ∷ text) (goes_by route) → transaction_of book situation ≡ None
+        → ((ask : Ask) → ask.text ≡ text → ask.user ≡ situation.user → ask.schema ≡ situation.place.schema
+        → ask.default_hostgroup ≡ book.home situation.user → is_first_flag book.rules ask.flag ≡ true
+        → StaysIn (book.home situation.user) (route_of book.rules ask)) → route.hostgroup ≡ book.home situation.user }
+{}
+
+/// And where a transaction is open it goes to that one's hostgroup, whatever the rules say.
+pub fn verdicts_stay_in_transactions()
+    ensures { (book : Rulebook) (situation : Situation) (c : ClientNo) (text : List ℕ) (route : Route) (hostgroup : Hostgroup)
+        → IsVerdictFor book situation c (com_query ∷ text) (goes_by route) → transaction_of book situation ≡ Some hostgroup
+        → route.hostgroup ≡ hostgroup }
+{}
+
+/// A query goes elsewhere than to its user's default hostgroup, of a client that has no transaction open as it is taken up, where the rules leave it there.
+pub fn goes_elsewhere()
+    ensures { (terms : Terms) (text : List ℕ) (route : Route) (sends : SendsBy terms (com_query ∷ text) route)
+        → AsTaken sends.up (λ situation. transaction_of (rulebook_of terms.router) situation ≡ None)
+        → ((ask : Ask) → ask.text ≡ text → ask.user ≡ user_of sends.up → ask.default_hostgroup ≡ home_of terms.router (user_of sends.up)
+        → is_first_flag terms.router.rules ask.flag ≡ true → StaysIn (home_of terms.router (user_of sends.up)) (route_of terms.router.rules ask))
+        → route.hostgroup ≢ home_of terms.router (user_of sends.up) → ⊥ }
+{}
+
+/// It goes elsewhere than to the hostgroup of the transaction that its client has open.
+pub fn leaves_its_transaction()
+    ensures { (terms : Terms) (text : List ℕ) (route : Route) (sends : SendsBy terms (com_query ∷ text) route) (hostgroup : Hostgroup)
+        → AsTaken sends.up (λ situation. transaction_of (rulebook_of terms.router) situation ≡ Some hostgroup) → route.hostgroup ≢ hostgroup → ⊥ }
 {}
 
 /// A text goes to a server that is refused, whatever its client: a KILL, or a SET GLOBAL.
@@ -44,11 +79,12 @@ pub fn sends_another_command()
         → is_for_servers (slice_index_or payload 0 0) ≡ false → ⊥ }
 {}
 
-/// A query goes to a server that the rules answer for its client's user, whatever its schema, at each flag by which they may be tried first.
+/// A query goes to a server that the rules answer for its client's user, in the schema where it stands as it is taken up, at each flag by which they may be
+/// tried first.
 pub fn goes_past_a_rule()
     ensures { (terms : Terms) (text : List ℕ) (route : Route) (sends : SendsBy terms (com_query ∷ text) route)
-        → ((ask : Ask) → ask.text ≡ text → ask.user ≡ user_of sends.up → is_first_flag terms.router.rules ask.flag ≡ true
-        → (route_of terms.router.rules ask).stop ≢ None) → ⊥ }
+        → AsTaken sends.up (λ situation. (ask : Ask) → ask.text ≡ text → ask.user ≡ situation.user → ask.schema ≡ situation.place.schema
+        → is_first_flag terms.router.rules ask.flag ≡ true → (route_of terms.router.rules ask).stop ≢ None) → ⊥ }
 {}
 
 /// A query goes to a server of a client whose user the first rule refuses.
@@ -63,12 +99,13 @@ pub fn answers_nothing()
     ensures { (terms : Terms) (text : List ℕ) → AnswersBy terms (com_query ∷ text) [] → ⊥ }
 {}
 
-/// A query that no rule answers OK for its client's user, whatever its schema, at a flag by which they may be tried first, is answered OK in place of a
-/// server.
+/// A query that no rule answers OK for its client's user, in the schema where it stands as it is taken up, at a flag by which they may be tried first, is
+/// answered OK in place of a server.
 pub fn answers_for_a_server()
     ensures { (terms : Terms) (text info : List ℕ) (status : ℕ)
         (answers : AnswersBy terms (com_query ∷ text) (ok_payload status info ∷ []))
-        → ((ask : Ask) (said : List ℕ) → ask.text ≡ text → ask.user ≡ user_of answers.up → is_first_flag terms.router.rules ask.flag ≡ true
+        → AsTaken answers.up (λ situation. (ask : Ask) (said : List ℕ) → ask.text ≡ text → ask.user ≡ situation.user
+        → ask.schema ≡ situation.place.schema → is_first_flag terms.router.rules ask.flag ≡ true
         → (route_of terms.router.rules ask).stop ≢ Some (OkBy said)) → ⊥ }
 {}
 

@@ -9,8 +9,9 @@ mod waiting;
 pub use asking::{asks_other_texts, copies_a_message, rewrites_without_rules};
 pub use judging::{
     answers_a_choice, answers_a_ping_otherwise, answers_for_a_server, answers_nothing,
-    goes_past_a_rule, goes_past_a_rule_of_its_user, sends_another_command, sends_what_is_refused,
-    verdicts_ask, verdicts_go_home,
+    goes_elsewhere, goes_past_a_rule, goes_past_a_rule_of_its_user, leaves_its_transaction,
+    sends_another_command, sends_what_is_refused, situations_are_promised, verdicts_ask,
+    verdicts_go_home, verdicts_stay_in_transactions,
 };
 pub use sessions::{apart_is_private, cores_keep_apart};
 pub use waiting::{

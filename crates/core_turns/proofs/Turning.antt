@@ -99,6 +99,7 @@ module _ (service : Service) (default : List ℕ) (c : ClientNo) (old between : 
           packets = is.packets;
           statements = is.statements;
           spelt = is.spelt;
+          noted = is.noted;
           makes = makes-so (is_reset message) is.flag is.packets is.statements new able.able.lives is.makes;
         },
         is.ruled,
@@ -117,6 +118,8 @@ module _ (service : Service) (default : List ℕ) (c : ClientNo) (old between : 
         request = is.request;
         kind = is.kind;
         hostgroup = is.at;
+        unnumbered = is.unnumbered;
+        noted = is.noted;
         same = is.same;
       };
       there = is.there;

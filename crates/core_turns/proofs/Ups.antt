@@ -1,6 +1,6 @@
 -- A message that came up, by the row of its client.
 use Rattle.std.specs.Prelude.{◌≡◌, ℕ, Bool, true, false, nat_eq, slice_index_or, IfSome, List, Option, Some, None, if◌then◌else◌}
-use Rattle.std.specs.Option.{option_and_then, option_map}
+use Rattle.std.specs.Option.{option_and_then, option_map, option_map_or}
 use Rattle.std.proofs.Common.{refl, sym, ap, subst, ◌∙◌}
 use Rattle.mx_base.specs.Fields.{number_at}
 use Rattle.mx_base.specs.declared.names.ClientNo.{ClientNo}
@@ -19,14 +19,18 @@ use Rattle.row_laws.specs.Readied.{AreClasses}
 use Rattle.client_seat.specs.Numbers.{Numbered, number_in}
 use Rattle.client_seat.specs.Requests.{Asked, Runs, Says, args_by, asked_in, run_in, text_in}
 use Rattle.stmt_map.specs.declared.client.ClientStatements.{ClientStatements}
-use Rattle.core_laws.specs.clients.Found.{user_in}
-use Rattle.core_tables.specs.Tables.{IsSame, Tabled}
-use Rattle.core_tables.specs.Taking.{IsDue, asked_of, found_of, text_work}
+use Rattle.private_model.proofs.Maps.{same_number}
+use Rattle.client_seat.specs.declared.seat.Seat.{Seat}
+use Rattle.core_tables.specs.Parting.{left_in, left_row, parted_in}
+use Rattle.core_tables.specs.Tables.{IsSame, Tabled, client_put}
+use Rattle.core_tables.specs.Taking.{AreNotedIn, IsDue, asked_of, found_of, text_work}
 use Rattle.core_tables.specs.declared.client.Client.{Client}
 use Rattle.router_promises.specs.Verdicts.{Tells}
 use Rattle.core_promises.specs.Judges.{IsVerdictFor, Rulebook, goes_by}
+use Rattle.core_promises.specs.Ruled.{situation_at}
 use Rattle.core_turns.specs.Judged.{IsSendable, route_by}
 use Rattle.core_turns.specs.Taken.{IsAnswered, IsDueThere, OnUp, answered_so}
+use Rattle.core_laws.proofs.OfTaking.Joining.{noted_there}
 
 -- the row is the one that is there
 pub on-up : (t : Tabled) (c : ClientNo) (row : Client) (fact : Client → Framed → Type 0) → t.clients c ≡ Some row
@@ -40,13 +44,30 @@ pub payload-at : (payload : List ℕ) (found : Option Framed) (message : Framed)
     → IfSome found (λ (m : Framed). payload ≡ m.payload) → payload ≡ message.payload
 payload-at payload found message at is = subst (λ (o : Option Framed). IfSome o (λ (m : Framed). payload ≡ m.payload)) at is
 
+-- A client that leaves its sessions keeps its message, and what it has prepared.
+
+abbrev unseated : Seat → Seat
+unseated seat = seat
+
+left-there : (c : ClientNo) (t : Tabled) (row : Client) → t.clients c ≡ Some row → (left_in c unseated t).clients c ≡ Some (left_row unseated row)
+left-there c t row there =
+    ap (λ (found : Option Client). (option_map_or (λ (x : Client). client_put c (Some (left_row unseated x)) (parted_in x.desk.sessions t)) found t).clients c) there
+    ∙ ap (λ (b : Bool). if b then Some (left_row unseated row) else (parted_in row.desk.sessions t).clients c) (same_number c.0)
+
+pub left-noted : (refused : Bool) (c : ClientNo) (t : Tabled) (statements : ClientStatements)
+    → AreNotedIn refused ((left_in c (λ (seat : Seat). seat) t).clients c) statements → AreNotedIn refused (t.clients c) statements
+left-noted refused c t statements noted = by (t.clients c) refl where
+  by : (found : Option Client) → t.clients c ≡ found → AreNotedIn refused found statements
+  by None at = tt
+  by (Some row) at = subst (λ (o : Option Client). AreNotedIn refused o statements) (left-there c t row at) noted
+
 -- The router answers it.
 pub answer-so : (anew : Bool) (book : Rulebook) (c : ClientNo) (flag : ℕ) (said packets : List ℕ) (statements : ClientStatements) (payloads : List (List ℕ)) (old new : Tabled)
     → IsAnswer book.rules c payloads → OnUp c old (λ row message. packets ≡ spellings row.desk.seat.first payloads) → said ≡ packets
     → OnUp c old (λ row message. anew ≡ nat_eq (slice_index_or message.payload 0 0) 0x1F)
-    → IsSame new (answered_so anew c flag said statements old)
-    → OnUp c old (λ row message. IsVerdictFor book (user_in row.desk.seat.phase) c message.payload (Tells payloads) → IsAnswered book c row message old new)
-answer-so anew book c flag said packets statements payloads old new own spelt same is made = λ row there message found ruled. record {
+    → AreNotedIn true (old.clients c) statements → IsSame new (answered_so anew c flag said statements old)
+    → OnUp c old (λ row message. IsVerdictFor book (situation_at row.desk) c message.payload (Tells payloads) → IsAnswered book c row message old new)
+answer-so anew book c flag said packets statements payloads old new own spelt same is noted made = λ row there message found ruled. record {
   payloads = payloads;
   own = own;
   ruled = ruled;
@@ -54,6 +75,7 @@ answer-so anew book c flag said packets statements payloads old new own spelt sa
   packets = said;
   statements = statements;
   spelt = same ∙ spelt row there message found;
+  noted = noted_there true old c row message statements there found noted;
   makes = subst (λ (b : Bool). IsSame new (answered_so b c flag said statements old)) (is row there message found) made;
 }
 
@@ -93,10 +115,10 @@ record IsSendsAs (form : Form) (command : Command) : Type 0 where
 pub due-there : (book : Rulebook) (hostgroup : Hostgroup) (ordinal flag since : ℕ) (text : Option (List ℕ)) (multiplex : Option Bool) (form : Form) (c : ClientNo) (old new : Tabled)
     → OnUp c old (λ row message. IsSendable message.payload text form)
     → IsDue flag text (text_work ordinal hostgroup since multiplex form) c old new
-    → OnUp c old (λ row message. IsVerdictFor book (user_in row.desk.seat.phase) c message.payload (goes_by (route_by hostgroup text multiplex))
+    → OnUp c old (λ row message. IsVerdictFor book (situation_at row.desk) c message.payload (goes_by (route_by hostgroup text multiplex))
     → IsDueThere hostgroup ordinal book c row message old new)
 due-there book hostgroup ordinal flag since text multiplex form c old new sendable due =
-    on-up old c due.row (λ row message. IsVerdictFor book (user_in row.desk.seat.phase) c message.payload (goes_by (route_by hostgroup text multiplex))
+    on-up old c due.row (λ row message. IsVerdictFor book (situation_at row.desk) c message.payload (goes_by (route_by hostgroup text multiplex))
     → IsDueThere hostgroup ordinal book c row message old new) due.there
     (λ message found ruled.
     let sends : IsSendable message.payload text form = sendable due.row due.there message found in
@@ -127,5 +149,7 @@ due-there book hostgroup ordinal flag since text multiplex form c old new sendab
       };
       kind = refl;
       at = refl;
+      unnumbered = refl;
+      noted = noted_there false old c due.row message due.taken.statements due.there found due.taken.noted;
       same = due.taken.same;
     })

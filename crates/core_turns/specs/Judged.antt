@@ -25,7 +25,7 @@ use Rattle.message_judge.specs.declared.caller.Standing.{Standing}
 use Rattle.message_judge.specs.declared.draft.Draft.{Draft}
 use Rattle.message_judge.specs.declared.draft.Draft.TheVariants as drafts
 use Rattle.message_judge.specs.declared.told.Told.{Told}
-use Rattle.core_promises.specs.Judges.{IsVerdictFor, Rulebook, goes_by, is_of_statement, unserved}
+use Rattle.core_promises.specs.Judges.{IsVerdictFor, Rulebook, Situation, goes_by, is_of_statement, transaction_of, unserved}
 use Rattle.core_turns.specs.declared.judged.Verdict.{Verdict}
 use Rattle.core_turns.specs.declared.judged.Verdict.TheVariants as verdicts
 
@@ -69,13 +69,15 @@ IsOwnVerdict rules _ = Unit {0}
 
 -- What becomes of a message is what the promise's verdict says.
 
--- something that may be known of its client makes this draft
-pub record IsDraftFor (book : Rulebook) (user : List ℕ) (c : ClientNo) (payload : List ℕ) (draft : Draft) : Type 0 where
+-- something that may be known of its client, of which this is so, makes this draft
+pub record IsDraftFor (book : Rulebook) (situation : Situation) (c : ClientNo) (payload : List ℕ) (draft : Draft) : Type 0 where
   pub caller : Caller
   pub standing : Standing
   pub client : caller.number ≡ c
-  pub login : caller.user ≡ user
-  pub home : caller.home ≡ book.home user
+  pub login : caller.user ≡ situation.user
+  pub home : caller.home ≡ book.home situation.user
+  pub place : caller.place ≡ situation.place
+  pub transaction : standing.transaction ≡ transaction_of book situation
   pub flag : is_first_flag book.rules caller.flag ≡ true
   pub is : draft_of caller None draft ≡ (judged router_reads book.rules caller standing None payload).draft
 
@@ -87,8 +89,8 @@ IsUnserved byte (Some told) = (is_of_statement byte ≡ true) × ((number : ℕ)
 abbrev pub route_by : Hostgroup → (text : Option (List ℕ)) → (multiplex : Option Bool) → Route
 route_by hostgroup text multiplex = record { hostgroup = hostgroup; text = text; key = 0; number = 0; multiplex = multiplex; mirror = None }
 
-abbrev pub IsAsPromised : Rulebook → (user : List ℕ) → ClientNo → (payload : List ℕ) → Verdict → Type 0
-IsAsPromised book user c payload verdicts.Quits = Unit {0}
-IsAsPromised book user c payload (verdicts.Answers told) = IsVerdictFor book user c payload (Tells (payloads_of c.0 told))
-IsAsPromised book user c payload (verdicts.Sends hostgroup text multiplex form) =
-    IsVerdictFor book user c payload (goes_by (route_by hostgroup text multiplex))
+abbrev pub IsAsPromised : Rulebook → Situation → ClientNo → (payload : List ℕ) → Verdict → Type 0
+IsAsPromised book situation c payload verdicts.Quits = Unit {0}
+IsAsPromised book situation c payload (verdicts.Answers told) = IsVerdictFor book situation c payload (Tells (payloads_of c.0 told))
+IsAsPromised book situation c payload (verdicts.Sends hostgroup text multiplex form) =
+    IsVerdictFor book situation c payload (goes_by (route_by hostgroup text multiplex))

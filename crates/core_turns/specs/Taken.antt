@@ -13,17 +13,18 @@ use Rattle.client_desk.specs.declared.work.Work.{Work}
 use Rattle.stmt_map.specs.declared.client.ClientStatements.{ClientStatements}
 use Rattle.desk_laws.specs.Stands.{IsRequest}
 use Rattle.row_laws.specs.Readied.{AreClasses}
-use Rattle.core_laws.specs.clients.Found.{user_in}
 use Rattle.core_laws.specs.taking.Takes.{is_reset}
 use Rattle.core_tables.specs.Tables.{IsSame, Tabled, client_changed}
 use Rattle.core_tables.specs.Taking.{answers, begins_anew, found_of, goes}
 use Rattle.core_tables.specs.declared.client.Client.{Client}
 use Rattle.router_promises.specs.Verdicts.{Tells}
 use Rattle.core_promises.specs.Judges.{IsVerdictFor, Rulebook, goes_by}
+use Rattle.core_promises.specs.Ruled.{situation_at}
 use Rattle.core_turns.specs.declared.turn.Stop.{Stop}
 use Rattle.core_turns.specs.declared.turn.Stop.TheVariants as stops
 use Rattle.core_turns.specs.declared.turn.Turn.{Turn}
 use Rattle.core_turns.specs.declared.turn.Turn.TheVariants as turns
+use Rattle.client_seat.specs.Numbers.{AreNoted}
 
 -- a fact of the client's row, and of the message that came up there
 abbrev pub OnUp : ClientNo → Tabled → (Client → Framed → Type 0) → Type 0
@@ -38,11 +39,12 @@ answered_so false c flag packets statements t = client_changed c (answers flag p
 pub record IsAnswered (book : Rulebook) (c : ClientNo) (row : Client) (message : Framed) (old new : Tabled) : Type 0 where
   pub payloads : List (List ℕ)
   pub own : IsAnswer book.rules c payloads
-  pub ruled : IsVerdictFor book (user_in row.desk.seat.phase) c message.payload (Tells payloads)
+  pub ruled : IsVerdictFor book (situation_at row.desk) c message.payload (Tells payloads)
   pub flag : ℕ
   pub packets : List ℕ
   pub statements : ClientStatements
   pub spelt : packets ≡ spellings row.desk.seat.first payloads
+  pub noted : AreNoted true message.payload row.desk.seat.statements statements
   pub makes : IsSame new (answered_so (is_reset message) c flag packets statements old)
 
 -- It goes to a server in this hostgroup alone, as the verdict says: a statement of it is due.
@@ -50,7 +52,7 @@ pub record IsDueThere (hostgroup : Hostgroup) (ordinal : ℕ) (book : Rulebook) 
   pub route : Route
   pub there : route.hostgroup ≡ hostgroup
   pub single : route.mirror ≡ None
-  pub ruled : IsVerdictFor book (user_in row.desk.seat.phase) c message.payload (goes_by route)
+  pub ruled : IsVerdictFor book (situation_at row.desk) c message.payload (goes_by route)
   pub flag : ℕ
   pub command : Command
   pub work : Work
@@ -59,6 +61,8 @@ pub record IsDueThere (hostgroup : Hostgroup) (ordinal : ℕ) (book : Rulebook) 
   pub request : (reads : Reads) → AreClasses reads → IsRequest reads ordinal route.key command route.multiplex work
   pub kind : work.command ≡ Plain
   pub at : work.hostgroup ≡ route.hostgroup
+  pub unnumbered : route.number ≡ 0
+  pub noted : AreNoted false message.payload row.desk.seat.statements statements
   pub same : IsSame new (client_changed c (goes flag work statements) old)
 
 -- The client says that it quits, which changes nothing yet.

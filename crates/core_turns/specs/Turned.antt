@@ -17,10 +17,9 @@ use Rattle.core_tables.specs.Arrivals.{looked, turn}
 use Rattle.core_tables.specs.Tables.{IsSame, Tabled}
 use Rattle.core_tables.specs.Taking.{IsUpOr}
 use Rattle.core_tables.specs.declared.client.Client.{Client}
-use Rattle.core_laws.specs.clients.Found.{user_at}
 use Rattle.core_laws.specs.clients.Turns.{Answers, Choice, ComesUp, Ends, Goes, GoesBy, Halt, IsLookedAt, IsTurn, MayLeave, Quits, Rests, RestsThere, Turns, Waits, WaitsThere, waits_at}
 use Rattle.core_promises.specs.Judges.{IsVerdictFor, Rulebook, goes_by}
-use Rattle.core_promises.specs.Ruled.{AreRuled, IsRuled}
+use Rattle.core_promises.specs.Ruled.{AreRuled, IsRuled, situation_up}
 use Rattle.core_turns.specs.declared.turn.Stop.{Stop}
 use Rattle.core_turns.specs.declared.turn.Stop.TheVariants as stops
 use Rattle.core_turns.specs.declared.turn.Turn.{Turn}
@@ -101,7 +100,7 @@ pub record IsDueIn (hostgroup : Hostgroup) (book : Rulebook) (service : Service)
   pub goes : GoesBy service default route c old new
   pub there : route.hostgroup ≡ hostgroup
   pub single : route.mirror ≡ None
-  pub ruled : IsVerdictFor book (user_at service default goes.up.row) c goes.up.message.payload (goes_by route)
+  pub ruled : IsVerdictFor book (situation_up service default goes.up.row) c goes.up.message.payload (goes_by route)
 
 abbrev pub IsTurned : Turn → Rulebook → Service → (default : List ℕ) → ClientNo → (old new : Tabled) → Type 0
 IsTurned (turns.Stops stop) book service default c old new = StopsSo (halt_of stop) service default c old new

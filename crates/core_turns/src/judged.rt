@@ -1,5 +1,5 @@
 // What becomes of a message that came up.
-ghost use Rattle.std.specs.Prelude.{◌≡◌, ℕ, false, true, nat_eq, drop, List, None, IfOk, IfSome, Option};
+ghost use Rattle.std.specs.Prelude.{◌≡◌, ℕ, false, true, is_some, nat_eq, drop, List, None, IfOk, IfSome, Option};
 ghost use Rattle.std.specs.Option.{option_copied};
 ghost use Rattle.log_story.specs.Plan.{com_init_db};
 ghost use Rattle.link_state.specs.Classes as link_classes;
@@ -13,11 +13,11 @@ ghost use Rattle.query_rules.specs.declared.rule.Rule.{Rule};
 ghost use Rattle.mx_base.specs.declared.names.ClientNo.{ClientNo};
 ghost use Rattle.core_laws.specs.clients.Found.{user_in};
 ghost use Rattle.core_promises.specs.Judges.{Rulebook, is_of_statement};
-ghost use Rattle.core_promises.specs.Ruled.{book_of};
+ghost use Rattle.core_promises.specs.Ruled.{book_of, situation_at};
 ghost use Rattle.core_service.specs.Serves.{home_in};
 ghost use Rattle.core_turns.specs.Judged.{IsAsPromised, IsDraftFor, IsDraftOn, IsOwnVerdict, IsSayable, IsSendable, IsUnserved, IsVerdictOn, byte_of};
 
-use client_desk::Desk;
+use client_desk::{Desk, Session};
 use core_service::Service;
 use hostgroups::Servers;
 use link_state::{Form, use_class};
@@ -97,6 +97,7 @@ fn caller_of(
     ensures client { IfOk result (λ caller. caller.number ≡ client) }
     ensures login { IfOk result (λ caller. caller.user ≡ user_in desk.now.seat.phase) }
     ensures home { IfOk result (λ caller. caller.home ≡ home_in service.now.users (user_in desk.now.seat.phase)) }
+    ensures place { IfOk result (λ caller. caller.place ≡ desk.now.seat.place) }
     ensures flag { IfOk result (λ caller. is_first_flag (rules_of service.now.rules) caller.flag ≡ true) }
 {
     let user = user_of(alloc, desk)?;
@@ -191,6 +192,17 @@ fn form_of(alloc: Global, payload: &[u8], class: ClassOf) -> Result<Form, OutOfM
     }
 }
 
+// Whether there is a link or a server for a session in this hostgroup.
+fn is_there(servers: &Servers, session: Session, hostgroup: Hostgroup) -> bool
+    ensures { is_some session.home ≡ true → result ≡ true }
+{
+    if session.home.is_some() {
+        true
+    } else {
+        servers.online(hostgroup)
+    }
+}
+
 // It goes to a server, where it may.
 fn sent(
     alloc: Global,
@@ -203,11 +215,11 @@ fn sent(
     requires unnumbered { going.number ≡ None }
     ensures is { IfOk result (λ verdict. IsVerdictOn payload.now verdict) }
     ensures own { IfOk result (λ verdict. (rules : List Rule) → IsOwnVerdict rules verdict) }
-    ensures promised { IfOk result (λ verdict. is_of_statement (byte_of payload.now) ≡ false → (book : Rulebook) (user : List ℕ) (c : ClientNo)
-        → IsDraftFor book user c payload.now (drafts.Sends going) → IsAsPromised book user c payload.now verdict) }
+    ensures promised { IfOk result (λ verdict. is_of_statement (byte_of payload.now) ≡ false → (book : Rulebook) (c : ClientNo)
+        → IsDraftFor book (situation_at desk.now) c payload.now (drafts.Sends going) → IsAsPromised book (situation_at desk.now) c payload.now verdict) }
 {
     let session = desk.session(going.hostgroup);
-    let is_there = session.home.is_some() || servers.online(going.hostgroup);
+    let is_there = is_there(servers, session, going.hostgroup);
     if let Some(why) = admit(
         class_of(&going.class),
         going.hostgroup,
@@ -242,8 +254,8 @@ fn verdict_of(
     requires { IsDraftOn payload.now draft }
     ensures is { IfOk result (λ verdict. IsVerdictOn payload.now verdict) }
     ensures own { IfOk result (λ verdict. (rules : List Rule) → IsOwnDraft rules draft → IsOwnVerdict rules verdict) }
-    ensures promised { IfOk result (λ verdict. is_of_statement (byte_of payload.now) ≡ false → (book : Rulebook) (user : List ℕ) (c : ClientNo)
-        → IsDraftFor book user c payload.now draft → IsAsPromised book user c payload.now verdict) }
+    ensures promised { IfOk result (λ verdict. is_of_statement (byte_of payload.now) ≡ false → (book : Rulebook) (c : ClientNo)
+        → IsDraftFor book (situation_at desk.now) c payload.now draft → IsAsPromised book (situation_at desk.now) c payload.now verdict) }
 {
     match draft {
         Draft::Ends => Ok(Verdict::Quits),
@@ -262,11 +274,11 @@ fn drafted(
 ) -> Result<Judged, OutOfMemory>
     ensures is { IfOk result (λ judged. IsDraftOn payload.now judged.draft) }
     ensures own { IfOk result (λ judged. IsOwnDraft (rules_of service.now.rules) judged.draft) }
-    ensures known { IfOk result (λ judged. IsDraftFor (book_of service.now) (user_in desk.now.seat.phase) client payload.now judged.draft) }
+    ensures known { IfOk result (λ judged. IsDraftFor (book_of service.now) (situation_at desk.now) client payload.now judged.draft) }
 {
     let caller = caller_of(alloc, service, desk, client)?;
     let standing = Standing {
-        transaction: desk.transaction(&service.ranks),
+        transaction: desk.transaction(service.hostgroups.as_slice()),
         next_number: None,
     };
     judge(alloc, &service.rules, &caller, standing, None, payload)
@@ -283,7 +295,7 @@ pub(crate) fn judged(
 ) -> Result<Judgement, OutOfMemory>
     ensures is { IfOk result (λ judgement. IsVerdictOn payload.now judgement.verdict) }
     ensures own { IfOk result (λ judgement. IsOwnVerdict (rules_of service.now.rules) judgement.verdict) }
-    ensures promised { IfOk result (λ judgement. IsAsPromised (book_of service.now) (user_in desk.now.seat.phase) client payload.now judgement.verdict) }
+    ensures promised { IfOk result (λ judgement. IsAsPromised (book_of service.now) (situation_at desk.now) client payload.now judgement.verdict) }
 {
     if let Some(told) = unprepared(payload) {
         return Ok(Judgement {

@@ -10,9 +10,8 @@ ghost use Rattle.marked_tables.specs.Goes.{GoesOn};
 ghost use Rattle.message_judge.specs.Told.{IsOwnTold, payloads_of};
 ghost use Rattle.query_rules.specs.Passing.{rules_of};
 ghost use Rattle.router_promises.specs.Verdicts.{Tells};
-ghost use Rattle.core_laws.specs.clients.Found.{user_in};
 ghost use Rattle.core_promises.specs.Judges.{IsVerdictFor, Rulebook, goes_by};
-ghost use Rattle.core_promises.specs.Ruled.{book_of};
+ghost use Rattle.core_promises.specs.Ruled.{book_of, situation_at};
 ghost use Rattle.core_turns.specs.Judged.{IsAsPromised, IsOwnVerdict, IsSendable, IsVerdictOn, route_by};
 ghost use Rattle.core_turns.specs.Taken.{IsAnswered, IsDueThere, IsTakenUp, OnUp};
 
@@ -44,7 +43,7 @@ fn judged_of(
     ensures own { IfOk result (λ judgement. OnUp client (tables_of tables.now)
         (λ row message. IsOwnVerdict (rules_of service.now.rules) judgement.verdict)) }
     ensures promised { IfOk result (λ judgement. OnUp client (tables_of tables.now)
-        (λ row message. IsAsPromised (book_of service.now) (user_in row.desk.seat.phase) client message.payload judgement.verdict)) }
+        (λ row message. IsAsPromised (book_of service.now) (situation_at row.desk) client message.payload judgement.verdict)) }
 {
     let Some(row) = tables.clients.get(&client.0) else {
         unreachable!()
@@ -111,7 +110,7 @@ fn answer(
     requires { IsUpOr ((tables_of marked.old.tables).clients client) }
     ensures is { OnOk result ((book : Rulebook) → IsOwnTold book.rules told.now
         → OnUp client (tables_of marked.old.tables)
-        (λ row message. IsVerdictFor book (user_in row.desk.seat.phase) client message.payload (Tells (payloads_of client.0 told.now))
+        (λ row message. IsVerdictFor book (situation_at row.desk) client message.payload (Tells (payloads_of client.0 told.now))
         → IsAnswered book client row message (tables_of marked.old.tables) (tables_of marked.new.tables))) }
     ensures goes { OnOk result (GoesOn marked.old marked.new) }
 {
@@ -148,7 +147,7 @@ fn becomes_due(
     requires sendable { OnUp client (tables_of marked.old.tables)
         (λ row message. IsSendable message.payload text form) }
     ensures is { OnOk result ((book : Rulebook) → OnUp client (tables_of marked.old.tables)
-        (λ row message. IsVerdictFor book (user_in row.desk.seat.phase) client message.payload (goes_by (route_by hostgroup text multiplex))
+        (λ row message. IsVerdictFor book (situation_at row.desk) client message.payload (goes_by (route_by hostgroup text multiplex))
         → IsDueThere hostgroup ordinal book client row message (tables_of marked.old.tables) (tables_of marked.new.tables))) }
     ensures goes { OnOk result (GoesOn marked.old marked.new) }
 {

@@ -1,6 +1,9 @@
-use Rattle.std.specs.Prelude.{None}
-use Rattle.std.proofs.Common.{refl, ap}
+use Rattle.std.specs.Prelude.{None, List, find}
+use Rattle.std.proofs.Common.{refl, ap, ◌∙◌}
 use Rattle.std.proofs.lemmas.Result.{IfOk-weaker}
+use Rattle.client_desk.specs.Desks.{session_of}
+use Rattle.client_desk.specs.Sessions.{is_open}
+use Rattle.mx_base.specs.declared.names.Hostgroup.{Hostgroup}
 use Rattle.query_rules.specs.Passing.{rules_of}
 use Rattle.message_judge.specs.Judging.{Judged}
 use Rattle.core_turns.proofs.Drafts.{drafted-so}
@@ -19,6 +22,9 @@ returns-clause-known c = IfOk-weaker c.judge.result _ _
       client = c.in_ok-caller.ensures.client;
       login = c.in_ok-caller.ensures.login;
       home = c.in_ok-caller.ensures.home;
+      place = c.in_ok-caller.ensures.place;
+      transaction = c.transaction.ensures
+          ∙ ap (λ (hs : List Hostgroup). find (λ h. is_open (session_of c.args.desk.now h)) hs) c.as_slice.ensures;
       flag = c.in_ok-caller.ensures.flag;
       is = ap (λ (j : Judged). j.draft) is;
     }) c.judge.ensures.is
