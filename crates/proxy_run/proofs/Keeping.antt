@@ -66,7 +66,7 @@ fits-of log follows = lawful-each MayFollow (AllLawful Fits) log (λ l e may fit
 
 -- what its messages are judged by is what the configuration has
 book-is : (config : Config) (service : Service) → ServesBy config service → book_of service ≡ rulebook_of (router_by config service)
-book-is config service by = λ i. record { rules = rules_of service.rules; home = λ user. by.homes user i }
+book-is config service by = λ i. record { rules = rules_of service.rules; home = λ user. by.homes user i; hostgroups = by.hostgroups i }
 
 -- what a router of a log has, by how clients log in, the default schema, and what messages are judged by
 record Served (setup : Setup) (default : List ℕ) (book : Rulebook) (log : Log) (t : Tabled) (roomy : ClientNo → Bool) : Type 0 where

@@ -1,5 +1,6 @@
 pub mod Fates
 pub mod Recording
+pub mod Covering
 pub mod Judging
 pub mod Keeping
 pub mod Speaking

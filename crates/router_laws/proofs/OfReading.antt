@@ -1,4 +1,5 @@
 pub mod Unsound
+pub mod Lent
 pub mod Lawfully
 pub mod Untouched
 pub mod Hearing

@@ -46,6 +46,7 @@ use Rattle.shared_core.specs.Follows.{Keeps}
 use Rattle.shared_core.specs.Stands.{Carries, Loses, Moves, StandsFor, is_roomy, tables}
 use Rattle.shared_core.specs.declared.roomy.Roomy.{Roomy}
 use Rattle.shared_core.specs.declared.router.Router.{Router}
+use Rattle.client_seat.specs.Numbers.{number_in}
 
 -- The laws by which a router goes on.
 
@@ -172,10 +173,12 @@ keeps_marked r m goes = record { goes = goes; roomy = refl; came = refl; asked =
 
 -- it is received with its seat
 pub received : (by : ClientStatements → Seat) (link : LinkId) (c : ClientNo) (seat : Seat) (note : ClientNote) (t now : Tabled)
-    → seat ≡ by seat.statements → IsSame now (came c link seat note t) → IsReceived by link c t now
-received by link c seat note t now its same = record {
+    → seat ≡ by seat.statements → (is_ended seat.phase ≡ false → (number : ℕ) → number_in seat.statements number ≡ None)
+    → IsSame now (came c link seat note t) → IsReceived by link c t now
+received by link c seat note t now its none same = record {
   statements = seat.statements;
   note = note;
+  none = λ on. none (ap (λ (s : Seat). is_ended s.phase) its ∙ on);
   same = subst (λ (s : Seat). IsSame now (came c link s note t)) its same;
 }
 

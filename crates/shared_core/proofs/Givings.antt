@@ -14,33 +14,67 @@ use Rattle.core_tables.specs.Parting.{given_to, given_up, given_up_in}
 use Rattle.core_tables.specs.Tables.{IsSame, Tabled}
 use Rattle.core_tables.specs.declared.client.Client.{Client}
 use Rattle.core_laws.proofs.OfParting.Alone.{nobody_so, one_so}
+use Rattle.core_laws.specs.parting.Partings.{IsAtWork}
 use Rattle.core_laws.specs.clients.Going.{GivenUp, Going, IsCalled, is_going, told_to}
 use Rattle.own_words.specs.Own.{IsFailure}
-use Rattle.router_laws.specs.reading.Givings.{MayBeGivenUp}
+use Rattle.router_laws.specs.reading.Givings.{IsLentBut, MayBeGivenUp, if_lent}
 use Rattle.router_laws.specs.links.Loses.{IsGivenUpWith}
 use Rattle.router_laws.specs.wakes.Calling.{IsUnsent}
 use Rattle.shared_core.proofs.Tabling.{same_by, tables_are}
 use Rattle.shared_core.specs.Follows.{HasAnswered, HasCalled, HasFollowed, HasGiven, IsFor, called_by, told_client, up_client}
-use Rattle.shared_core.specs.Rows.{WorkIsBroken, home_at, home_in}
+use Rattle.shared_core.specs.Rows.{IsLentNoOther, WorkIsAside, WorkIsAsideWith, WorkIsBroken, WorkIsUnsent, home_at, home_in, lent_home_at}
 
 -- What may be given up.
 
-pub unsent-aside : (c : ClientNo) (t : Tabled) → IsUnsent c t → MayBeGivenUp c t
+-- where its session is, by its row
+home-so : (c : ClientNo) (t : Tabled) (row : Client) (work : Work) → IsAtWork t c row work → home_at c t ≡ (session_of row.desk work.hostgroup).home
+home-so c t row work is =
+    ap (λ (found : Option Client). option_and_then home_in found) is.there
+    ∙ ap (λ (found : Option Work). option_and_then (λ (w : Work). (session_of row.desk w.hostgroup).home) found) is.in_work
+
+lent-so : (l : LinkId) (c : ClientNo) (t : Tabled) (row : Client) (work : Work) → IsAtWork t c row work → IsLentNoOther l c t → IsLentBut l t row work
+lent-so l c t row work is lent =
+    subst (λ (home : Option LinkId). IfSome (option_and_then (if_lent t) home) (λ (other : LinkId). other ≡ l)) (home-so c t row work is)
+    (by (lent_home_at c t) lent) where
+      by : (found : Option LinkId) → IfSome found (λ (home : LinkId). nat_eq home.0 l.0 ≡ true) → IfSome found (λ (home : LinkId). home ≡ l)
+      by None is_none = tt
+      by (Some home) same = link_of home l same
+
+pub unsent-so : (c : ClientNo) (t : Tabled) → WorkIsUnsent c t → lent_home_at c t ≡ None → IsUnsent c t
+unsent-so c t is lent = record {
+  row = is.row;
+  work = is.work;
+  at_work = is.at_work;
+  unsent = is.unsent;
+  unlent = ap (option_and_then (if_lent t)) (sym (home-so c t is.row is.work is.at_work)) ∙ lent;
+}
+
+pub aside-so : (l : LinkId) (c : ClientNo) (t : Tabled) → IsLentNoOther l c t → WorkIsAside c t → MayBeGivenUp l c t
+aside-so l c t lent is =
+    record { row = is.row; work = is.work; at_work = is.at_work; aside = is.aside; lent = lent-so l c t is.row is.work is.at_work lent }
+
+pub aside-with-so : (l : LinkId) (c : ClientNo) (t : Tabled) → IsLentNoOther l c t → WorkIsAsideWith l c t → IsGivenUpWith l c t
+aside-with-so l c t lent is =
+    record { row = is.row; work = is.work; at_work = is.at_work; aside = is.aside; lent = lent-so l c t is.row is.work is.at_work lent }
+
+-- where it is aside
+
+pub unsent-aside : (c : ClientNo) (t : Tabled) → WorkIsUnsent c t → WorkIsAside c t
 unsent-aside c t is = record { row = is.row; work = is.work; at_work = is.at_work; aside = inl is.unsent }
 
-pub broken-aside : (c : ClientNo) (t : Tabled) → WorkIsBroken c t → MayBeGivenUp c t
+pub broken-aside : (c : ClientNo) (t : Tabled) → WorkIsBroken c t → WorkIsAside c t
 broken-aside c t is = record { row = is.row; work = is.work; at_work = is.at_work; aside = inr is.broken }
 
-pub unsent-with : (l : LinkId) (c : ClientNo) (t : Tabled) → IsUnsent c t → IsGivenUpWith l c t
+pub unsent-with : (l : LinkId) (c : ClientNo) (t : Tabled) → WorkIsUnsent c t → WorkIsAsideWith l c t
 unsent-with l c t is = record { row = is.row; work = is.work; at_work = is.at_work; aside = inl is.unsent }
 
-pub home-with : (l home : LinkId) (c : ClientNo) (t : Tabled) → Some home ≡ home_at c t → nat_eq home.0 l.0 ≡ true → IsGivenUpWith l c t
+pub home-with : (l home : LinkId) (c : ClientNo) (t : Tabled) → Some home ≡ home_at c t → nat_eq home.0 l.0 ≡ true → WorkIsAsideWith l c t
 home-with l home c t at same = by (t.clients c) refl (sym at) where
-  by : (found : Option Client) → t.clients c ≡ found → option_and_then home_in found ≡ Some home → IsGivenUpWith l c t
+  by : (found : Option Client) → t.clients c ≡ found → option_and_then home_in found ≡ Some home → WorkIsAsideWith l c t
   by None there is = absurd (let e = is in cc)
   by (Some row) there is = in_it row.desk.work refl is where
     in_it : (work : Option Work) → row.desk.work ≡ work
-        → option_and_then (λ (w : Work). (session_of row.desk w.hostgroup).home) work ≡ Some home → IsGivenUpWith l c t
+        → option_and_then (λ (w : Work). (session_of row.desk w.hostgroup).home) work ≡ Some home → WorkIsAsideWith l c t
     in_it None none on = absurd (let e = on in cc)
     in_it (Some work) some on = record {
       row = row;

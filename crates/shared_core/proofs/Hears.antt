@@ -46,7 +46,7 @@ abbrev pub Hears : Type 0
 Hears =
     (book : Rulebook) (service : Setup) (default : List ℕ) (l : LinkId) (bytes : List ℕ) (clock : ℕ) (given : Option GivenUp) (going : Option Going)
     (server : Server) (said : Said) (old heard mid freed now : Tabled) → old.links l ≡ Some server → server.row.lost ≡ false
-    → server.row.link.spoilt ≡ false → IsHeard l bytes clock said heard old → MayGiveUp given heard
+    → server.row.link.spoilt ≡ false → IsHeard l bytes clock said heard old → MayGiveUp l given heard
     → IsSame mid (given_up_in (told_to given) heard) → IsSame freed (freed_in l mid)
     → IsCalled (name_in server.row.link.state.carries) given freed (option_map (λ (g : Going). g.client) going)
     → (goes : GoesSo going service default freed now) → IsRuledOn book going service default freed now goes
@@ -67,23 +67,23 @@ Routes =
 
 -- What is given up may be, and who is called for that goes on still.
 
-may_of : (name : Option SessionName) (heard : Tabled) (told : Option GivenUp) (given : Option GiveUp) → told_client told ≡ up_client given
-    → IfSome given (λ up. MayBeGiven name up.client heard) → MayGiveUp told heard
-may_of name heard None given its may = tt
-may_of name heard (Some up) None its may = absurd (none-some up.client (sym its))
-may_of name heard (Some up) (Some give) its may =
-    subst (λ (c : ClientNo). MayBeGivenUp c heard) (sym (same_Some up.client give.client its)) may.may
+may_of : (link : LinkId) (name : Option SessionName) (heard : Tabled) (told : Option GivenUp) (given : Option GiveUp) → told_client told ≡ up_client given
+    → IfSome given (λ up. MayBeGiven link name up.client heard) → MayGiveUp link told heard
+may_of link name heard None given its may = tt
+may_of link name heard (Some up) None its may = absurd (none-some up.client (sym its))
+may_of link name heard (Some up) (Some give) its may =
+    subst (λ (c : ClientNo). MayBeGivenUp link c heard) (sym (same_Some up.client give.client its)) may.may
 
 pub its_then : (name : Option SessionName) (c : ClientNo) (heard freed : Tabled) → is_going (freed.clients c) ≡ is_going (heard.clients c)
     → IsFor name c heard → IsFor name c freed
 its_then None c heard freed still is = still ∙ is
 its_then (Some n) c heard freed still is = is
 
-for_then : (name : Option SessionName) (heard freed : Tabled) (given : Option GiveUp)
-    → ((c : ClientNo) → is_going (freed.clients c) ≡ is_going (heard.clients c)) → IfSome given (λ up. MayBeGiven name up.client heard)
+for_then : (link : LinkId) (name : Option SessionName) (heard freed : Tabled) (given : Option GiveUp)
+    → ((c : ClientNo) → is_going (freed.clients c) ≡ is_going (heard.clients c)) → IfSome given (λ up. MayBeGiven link name up.client heard)
     → IfSome given (λ up. IsFor name up.client freed)
-for_then name heard freed None still may = tt
-for_then name heard freed (Some up) still may = its_then name up.client heard freed (still up.client) may.its
+for_then link name heard freed None still may = tt
+for_then link name heard freed (Some up) still may = its_then name up.client heard freed (still up.client) may.its
 
 -- The link is neither lost nor spoilt, as it is read.
 
@@ -102,7 +102,7 @@ server_of (Some server) some = (server, refl)
 -- All of it.
 pub heard_so : Hears → StillGoes → (service : Service) (link : LinkId) (bytes : List ℕ) (old new : Router) (name : Option SessionName) (said : Said)
     (given : Option GiveUp) (heard mid freed : Tabled) → name ≡ carried_at ((tables old).links link)
-    → IsHeard link bytes old.clock said heard (tables old) → IfSome given (λ up. MayBeGiven name up.client heard) → HasGiven given heard mid
+    → IsHeard link bytes old.clock said heard (tables old) → IfSome given (λ up. MayBeGiven link name up.client heard) → HasGiven given heard mid
     → IsSame freed (freed_in link mid)
     → ((told : Option GivenUp) → told_client told ≡ up_client given → IfSome given (λ up. IsFor name up.client freed)
     → HasCalled service name told freed (tables new)) → IsSome ((tables old).links link) → reads_on old.marked link ≡ true
@@ -114,12 +114,12 @@ heard_so hears still service link bytes old new name said given heard mid freed 
     let sound : is_sound at.0.row ≡ true = (both (is_sound at.0.row) (is_free (tables old) link (name_in at.0.row.link.state.carries)) read).0 in
     let two : (not at.0.row.lost ≡ true) × (not at.0.row.link.spoilt ≡ true) = both (not at.0.row.lost) (not at.0.row.link.spoilt) sound in
     let goes_on : HasCalled service name gives.told freed (tables new) =
-    calls gives.told gives.its (for_then name heard freed given (λ c. still link gives.told heard mid freed c gives.same frees) may) in
+    calls gives.told gives.its (for_then link name heard freed given (λ c. still link gives.told heard mid freed c gives.same frees) may) in
     let named : name ≡ name_in at.0.row.link.state.carries = carried ∙ ap carried_at at.1 in
     let all : HearsRuled (book_of service) service.setup service.default_schema link bytes old.clock gives.told goes_on.going (tables old)
     (tables new) =
     hears (book_of service) service.setup service.default_schema link bytes old.clock gives.told goes_on.going at.0 said (tables old) heard mid
-    freed (tables new) at.1 (unlike at.0.row.lost two.0) (unlike at.0.row.link.spoilt two.1) is (may_of name heard gives.told given gives.its may)
+    freed (tables new) at.1 (unlike at.0.row.lost two.0) (unlike at.0.row.link.spoilt two.1) is (may_of link name heard gives.told given gives.its may)
     gives.same frees
     (subst (λ (n : Option SessionName). IsCalled n gives.told freed (option_map (λ (g : Going). g.client) goes_on.going)) named goes_on.called)
     goes_on.goes goes_on.ruled in

@@ -18,9 +18,8 @@ use Rattle.core_tables.specs.Tables.{Tabled}
 use Rattle.core_tables.specs.declared.client.Client.{Client}
 use Rattle.core_tables.specs.declared.server.Server.{Server}
 use Rattle.core_laws.specs.parting.Partings.{is_sound}
-use Rattle.router_laws.specs.wakes.Calling.{IsUnsent}
 use Rattle.router_laws.specs.wakes.Settling.{MayBegin, MayState}
-use Rattle.shared_core.specs.Rows.{HasLives, WorkIsBroken, has_two_lives, home_at, home_in, is_stated, is_unsound_in, same_name, work_at}
+use Rattle.shared_core.specs.Rows.{HasLives, WorkIsBroken, WorkIsUnsent, has_two_lives, home_at, home_in, is_stated, is_unsound_in, same_name, work_at}
 
 left-of : (a b : Bool) → (a && b) ≡ true → a ≡ true
 left-of true b is = refl
@@ -62,9 +61,9 @@ lives-so desk all few h =
 
 -- a statement in work
 
-pub unsent-so : (c : ClientNo) (t : Tabled) (work : Work) → Some work ≡ work_at c t → not work.sent ≡ true → IsUnsent c t
+pub unsent-so : (c : ClientNo) (t : Tabled) (work : Work) → Some work ≡ work_at c t → not work.sent ≡ true → WorkIsUnsent c t
 unsent-so c t work at unsent = by (t.clients c) refl (sym at) where
-  by : (found : Option Client) → t.clients c ≡ found → option_and_then (λ (row : Client). row.desk.work) found ≡ Some work → IsUnsent c t
+  by : (found : Option Client) → t.clients c ≡ found → option_and_then (λ (row : Client). row.desk.work) found ≡ Some work → WorkIsUnsent c t
   by None there is = absurd (let e = is in cc)
   by (Some row) there is =
       record { row = row; work = work; at_work = record { there = there; in_work = is }; unsent = not-true work.sent unsent }

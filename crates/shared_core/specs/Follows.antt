@@ -153,9 +153,9 @@ IsFor None c t = is_going (t.clients c) ≡ true
 
 -- What may be given up as bytes come on a link, and as a link is lost.
 
-pub record MayBeGiven (name : Option SessionName) (c : ClientNo) (t : Tabled) : Type 0 where
+pub record MayBeGiven (link : LinkId) (name : Option SessionName) (c : ClientNo) (t : Tabled) : Type 0 where
   pub its : IsFor name c t
-  pub may : MayBeGivenUp c t
+  pub may : MayBeGivenUp link c t
 
 pub record MayBeGivenWith (link : LinkId) (name : Option SessionName) (c : ClientNo) (t : Tabled) : Type 0 where
   pub its : IsFor name c t

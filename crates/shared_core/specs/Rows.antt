@@ -1,5 +1,5 @@
 -- What is tested of clients and of links.
-use Rattle.std.specs.Prelude.{◌≡◌, ◌<◌, ◌^◌, ℕ, suc, Bool, false, not, ◌&&◌, nat_eq, nat_lt, Option}
+use Rattle.std.specs.Prelude.{◌≡◌, ◌<◌, ◌^◌, ℕ, suc, Bool, true, false, not, ◌&&◌, nat_eq, nat_lt, ◌⊎◌, IfSome, Option, Some}
 use Rattle.std.specs.Option.{option_and_then, option_map_or}
 use Rattle.mx_base.specs.declared.names.ClientNo.{ClientNo}
 use Rattle.mx_base.specs.declared.names.Hostgroup.{Hostgroup}
@@ -13,7 +13,7 @@ use Rattle.core_tables.specs.Tables.{Tabled}
 use Rattle.core_tables.specs.declared.client.Client.{Client}
 use Rattle.core_tables.specs.declared.server.Server.{Server}
 use Rattle.core_laws.specs.parting.Partings.{IsAtWork, is_sound}
-use Rattle.router_laws.specs.reading.Givings.{IsBroken}
+use Rattle.router_laws.specs.reading.Givings.{IsBroken, if_lent}
 
 -- there are lives for it to leave its sessions twice
 abbrev pub HasLives : Desk → Type 0
@@ -33,6 +33,13 @@ home_in row = option_and_then (λ (work : Work). (session_of row.desk work.hostg
 abbrev pub home_at : ClientNo → Tabled → Option LinkId
 home_at c t = option_and_then home_in (t.clients c)
 
+-- the link that is lent to that session, if one is
+abbrev pub lent_home_at : ClientNo → Tabled → Option LinkId
+lent_home_at c t = option_and_then (if_lent t) (home_at c t)
+
+abbrev pub IsLentNoOther : LinkId → ClientNo → Tabled → Type 0
+IsLentNoOther l c t = IfSome (lent_home_at c t) (λ (home : LinkId). nat_eq home.0 l.0 ≡ true)
+
 -- it is in the hostgroup of this session
 abbrev pub is_worked_in : SessionName → Tabled → Bool
 is_worked_in name t = option_map_or (λ (work : Work). nat_eq work.hostgroup.0 name.hostgroup.0) (work_at name.client t) false
@@ -48,6 +55,27 @@ same_name a b = nat_eq a.client.0 b.client.0 && (nat_eq a.hostgroup.0 b.hostgrou
 abbrev pub is_stated : SessionName → Client → Bool
 is_stated name row =
     option_map_or (λ (work : Work). not work.sent && same_name name (name_of row.desk work.hostgroup)) row.desk.work false
+
+-- it wasn't sent
+pub record WorkIsUnsent (c : ClientNo) (t : Tabled) : Type 0 where
+  pub row : Client
+  pub work : Work
+  pub at_work : IsAtWork t c row work
+  pub unsent : work.sent ≡ false
+
+-- or the link broke to which it was sent, or that is this one
+
+pub record WorkIsAside (c : ClientNo) (t : Tabled) : Type 0 where
+  pub row : Client
+  pub work : Work
+  pub at_work : IsAtWork t c row work
+  pub aside : (work.sent ≡ false) ⊎ IsBroken t row work
+
+pub record WorkIsAsideWith (l : LinkId) (c : ClientNo) (t : Tabled) : Type 0 where
+  pub row : Client
+  pub work : Work
+  pub at_work : IsAtWork t c row work
+  pub aside : (work.sent ≡ false) ⊎ ((session_of row.desk work.hostgroup).home ≡ Some l)
 
 -- the link broke to which it was sent
 pub record WorkIsBroken (c : ClientNo) (t : Tabled) : Type 0 where

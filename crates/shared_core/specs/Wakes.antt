@@ -16,7 +16,7 @@ use Rattle.shared_core.specs.Follows.{AreRising, is_of}
 use Rattle.shared_core.specs.Stands.{is_roomy}
 use Rattle.shared_core.specs.declared.roomy.Roomy.{Roomy}
 
--- it goes on, and its statement in work wasn't sent
+-- it goes on, and its statement in work wasn't sent, nor is a link lent for it
 pub record IsWaiting (c : ClientNo) (t : Tabled) : Type 0 where
   pub going : is_going (t.clients c) ≡ true
   pub unsent : IsUnsent c t

@@ -7,7 +7,7 @@ ghost use Rattle.shared_core.specs.Follows.{HasAnswered, HasCalled, HasGiven, Is
 ghost use Rattle.shared_core.specs.Stands.{tables};
 
 use crate::router::Router;
-use crate::rows::{home_of_work, is_broken, is_unsent};
+use crate::rows::{is_aside, is_aside_with, is_lent_no_other};
 use core_policy::GiveUp;
 use core_service::{Failure, Service, payload_of};
 use mx_base::{ClientNo, LinkId, OutOfMemory};
@@ -56,43 +56,42 @@ impl Router {
         }
     }
 
-    // It wasn't sent, or the link broke to which it was.
-    fn is_aside(&self, client: ClientNo) -> bool
-        ensures { result ≡ true → MayBeGivenUp client (tables self.now) }
+    // It wasn't sent, or the link broke to which it was; and no other link than this one is lent to its session.
+    fn is_aside(&self, link: LinkId, client: ClientNo) -> bool
+        ensures { result ≡ true → MayBeGivenUp link client (tables self.now) }
     {
-        if is_unsent(&self.marked.tables, client) {
-            true
+        if is_lent_no_other(&self.marked.tables, link, client) {
+            is_aside(&self.marked.tables, client)
         } else {
-            is_broken(&self.marked.tables, client)
+            false
         }
     }
 
-    // It wasn't sent, or it was to this link.
+    // It wasn't sent, or it was to this link; and no other is lent to its session.
     fn is_aside_with(&self, link: LinkId, client: ClientNo) -> bool
         ensures { result ≡ true → IsGivenUpWith link client (tables self.now) }
     {
-        if is_unsent(&self.marked.tables, client) {
-            return true;
-        }
-        match home_of_work(&self.marked.tables, client) {
-            Some(home) => home.0 == link.0,
-            None => false,
+        if is_lent_no_other(&self.marked.tables, link, client) {
+            is_aside_with(&self.marked.tables, link, client)
+        } else {
+            false
         }
     }
 
     /// What may be given up of a statement by what was heard on a link that carries this session.
     pub(crate) fn may_give(
         &self,
+        link: LinkId,
         name: Option<SessionName>,
         given: Option<GiveUp>,
     ) -> Option<GiveUp>
-        ensures { IfSome result (λ up. MayBeGiven name up.client (tables self.now)) }
+        ensures { IfSome result (λ up. MayBeGiven link name up.client (tables self.now)) }
     {
         let up = given?;
         if !self.is_for(name, up.client) {
             return None;
         }
-        if self.is_aside(up.client) {
+        if self.is_aside(link, up.client) {
             Some(up)
         } else {
             None

@@ -47,7 +47,7 @@ impl Router {
         let verdict = self
             .policy
             .heard(&self.marked.tables, link, name, said, cut, self.clock)?;
-        let given = self.may_give(name, verdict.given);
+        let given = self.may_give(link, name, verdict.given);
         self.gives(given)?;
         self.free(link);
         self.call(service, name, given, verdict.ends)

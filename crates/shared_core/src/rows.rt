@@ -8,9 +8,12 @@ ghost use Rattle.core_laws.specs.clients.Going.{is_going};
 ghost use Rattle.core_laws.specs.clients.Turns.{waits_at};
 ghost use Rattle.client_seat.specs.Seats.{is_ended};
 ghost use Rattle.core_tables.specs.Parting.{name_in, present_in};
+ghost use Rattle.core_tables.specs.Passing.{is_lent};
 ghost use Rattle.core_tables.specs.Tables.{tables_of};
 ghost use Rattle.router_laws.specs.links.Closes.{IsFarewellNext};
-ghost use Rattle.shared_core.specs.Rows.{HasLives, WorkIsBroken, has_two_lives, home_at, is_stated, is_unsound_in, is_worked_in, same_name, work_at};
+ghost use Rattle.shared_core.specs.Rows.{HasLives, IsLentNoOther, WorkIsAside, WorkIsAsideWith, WorkIsBroken, WorkIsUnsent, has_two_lives, home_at};
+ghost use Rattle.shared_core.specs.Rows.{is_stated, is_unsound_in, is_worked_in, lent_home_at, same_name, work_at};
+ghost use Rattle.router_laws.specs.reading.Givings.{if_lent, is_lent_in};
 ghost use Rattle.router_laws.specs.wakes.Calling.{IsUnsent};
 ghost use Rattle.router_laws.specs.wakes.Settling.{IsStepBy, MayBegin, MayState};
 
@@ -105,9 +108,9 @@ pub(crate) fn work_of(tables: &Tables, client: ClientNo) -> Option<&Work>
     }
 }
 
-/// Whether a client has a statement in work that wasn't sent.
-pub(crate) fn is_unsent(tables: &Tables, client: ClientNo) -> bool
-    ensures { result ≡ true → IsUnsent client (tables_of tables.now) }
+// Whether a client has a statement in work that wasn't sent.
+fn is_unsent(tables: &Tables, client: ClientNo) -> bool
+    ensures { result ≡ true → WorkIsUnsent client (tables_of tables.now) }
 {
     match work_of(tables, client) {
         Some(work) => !work.sent,
@@ -128,6 +131,66 @@ pub(crate) fn home_of_work(tables: &Tables, client: ClientNo) -> Option<LinkId>
     }
 }
 
+// Whether a link is lent.
+
+fn is_lent(carries: Carried) -> bool
+    ensures { result ≡ is_lent carries }
+{
+    match carries {
+        Carried::Lent(_) => true,
+        _ => false,
+    }
+}
+
+fn is_lent_on(tables: &Tables, link: LinkId) -> bool
+    ensures { result ≡ is_lent_in link (tables_of tables.now) }
+{
+    match server_of(tables, link) {
+        Some(server) => is_lent(server.row.link.state.carries),
+        None => false,
+    }
+}
+
+fn if_lent(tables: &Tables, link: LinkId) -> Option<LinkId>
+    ensures { result ≡ if_lent (tables_of tables.now) link }
+{
+    if is_lent_on(tables, link) {
+        Some(link)
+    } else {
+        None
+    }
+}
+
+// The link that is lent to the session of a client's statement in work, if one is.
+fn lent_home(tables: &Tables, client: ClientNo) -> Option<LinkId>
+    ensures { result ≡ lent_home_at client (tables_of tables.now) }
+{
+    match home_of_work(tables, client) {
+        Some(link) => if_lent(tables, link),
+        None => None,
+    }
+}
+
+/// Whether a client has a statement in work that wasn't sent, and for which no link is lent.
+pub(crate) fn is_unserved(tables: &Tables, client: ClientNo) -> bool
+    ensures { result ≡ true → IsUnsent client (tables_of tables.now) }
+{
+    match lent_home(tables, client) {
+        Some(_) => false,
+        None => is_unsent(tables, client),
+    }
+}
+
+/// Whether no other link than this one is.
+pub(crate) fn is_lent_no_other(tables: &Tables, link: LinkId, client: ClientNo) -> bool
+    ensures { result ≡ true → IsLentNoOther link client (tables_of tables.now) }
+{
+    match lent_home(tables, client) {
+        Some(home) => home.0 == link.0,
+        None => true,
+    }
+}
+
 /// Whether no reply comes any more to what stands on a link: it is spoilt or lost, or its client left the session there.
 fn is_unsound(tables: &Tables, link: LinkId) -> bool
     ensures { result ≡ is_unsound_in link (tables_of tables.now) }
@@ -140,12 +203,36 @@ fn is_unsound(tables: &Tables, link: LinkId) -> bool
     }
 }
 
-/// Whether the link broke that carries the session of a client's statement in work.
-pub(crate) fn is_broken(tables: &Tables, client: ClientNo) -> bool
+// Whether the link broke that carries the session of a client's statement in work.
+fn is_broken(tables: &Tables, client: ClientNo) -> bool
     ensures { result ≡ true → WorkIsBroken client (tables_of tables.now) }
 {
     match home_of_work(tables, client) {
         Some(link) => is_unsound(tables, link),
+        None => false,
+    }
+}
+
+/// Whether a client's statement in work wasn't sent, or the link broke to which it was.
+pub(crate) fn is_aside(tables: &Tables, client: ClientNo) -> bool
+    ensures { result ≡ true → WorkIsAside client (tables_of tables.now) }
+{
+    if is_unsent(tables, client) {
+        true
+    } else {
+        is_broken(tables, client)
+    }
+}
+
+/// Whether it wasn't sent, or it was to this link.
+pub(crate) fn is_aside_with(tables: &Tables, link: LinkId, client: ClientNo) -> bool
+    ensures { result ≡ true → WorkIsAsideWith link client (tables_of tables.now) }
+{
+    if is_unsent(tables, client) {
+        return true;
+    }
+    match home_of_work(tables, client) {
+        Some(home) => home.0 == link.0,
         None => false,
     }
 }

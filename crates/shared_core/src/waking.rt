@@ -12,7 +12,7 @@ ghost use Rattle.shared_core.specs.Wakes.{AreCalled, HasWoken, HaveGivenUp, IsWa
 
 use crate::roomy::Roomy;
 use crate::router::Router;
-use crate::rows::is_unsent;
+use crate::rows::is_unserved;
 use core_policy::GiveUp;
 use core_service::Service;
 use mx_base::{ClientNo, OutOfMemory};
@@ -86,11 +86,11 @@ impl Router {
         }
     }
 
-    /// Whether a client goes on and has a statement in work that wasn't sent.
+    /// Whether a client goes on and has a statement in work that wasn't sent, and for which no link is lent.
     pub(crate) fn is_waiting(&self, client: ClientNo) -> bool
         ensures { result ≡ true → IsWaiting client (tables self.now) }
     {
-        self.is_there(client) && is_unsent(&self.marked.tables, client)
+        self.is_there(client) && is_unserved(&self.marked.tables, client)
     }
 
     // Those of them who are there and go on, as they came.

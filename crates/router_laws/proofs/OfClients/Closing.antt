@@ -53,12 +53,12 @@ use Rattle.core_laws.specs.entry.Calms.{IsLostOf}
 use Rattle.core_laws.specs.entry.Entries as entries
 use Rattle.core_laws.specs.entry.Entries.{AreSpared, behind}
 use Rattle.core_laws.specs.entry.Kinds.{IsStill}
-use Rattle.core_laws.specs.entry.Safe.{has_runs}
 use Rattle.router_laws.proofs.OfClients.Linking.{alone_there, client_there, is_client_row, known, leaves_there, off_server, unwritten}
 use Rattle.router_laws.specs.clients.Behind.{IsDueBehind, IsEntered}
 use Rattle.router_laws.specs.clients.Parts.{PartsSo}
 use Rattle.router_laws.specs.clients.Plans.{IsDecided, nobody}
 use Rattle.router_laws.specs.clients.Speaks.{IsLinkOf}
+use Rattle.core_laws.proofs.OfPrepared.Rows.{are_prepared, rows_same}
 
 abbrev pub Homing : Type 0
 Homing = (g : Ground) (t : Tabled) (service : Service) → Stands service g t → AreHomed (view_on g).links (view_on g).held
@@ -214,6 +214,8 @@ module _ (service : Service) (g : Ground) (t now : Tabled) (link : LinkId) (c : 
     servers = λ l. servers l (now.links l) (gone.servers l) (λ other named. absurd (none-some other named)) (spares_row l (now.links l) refl);
     homes = record { carried = gone.homes.carried; home = gone.homes.home };
     lawful = (gone.lawful, tt);
+    prepared = are_prepared g left g.over g.fresh now now gone.clients (λ m. refl) gone.prepared (λ client seated. seated) (rows_same now now (λ n. refl));
+    duly = gone.duly;
   })
 
 -- The entry.
@@ -295,14 +297,8 @@ module _ (service : Service) (g : Ground) (t now : Tabled) (roomy : ClientNo →
       comes = λ x seated come. absurd come;
     }
 
-    runless : has_runs g.tale.story ≡ false → has_runs (behind g e over).tale.story ≡ false
-    runless none = ap (λ (tale : Tale). has_runs tale.story) step_is ∙ none
-
     pub closed_entered : Rests service (behind g e over) now roomy
     closed_entered = subst (λ (x : ClientNo → Bool). Rests service (behind g e x) now roomy) (sym same_over) closed_rests
 
     pub closed_due : IsDueBehind g log e nobody over now
     closed_due = due_so
-
-    pub closed_runless : has_runs g.tale.story ≡ false → has_runs (behind g e over).tale.story ≡ false
-    closed_runless = runless

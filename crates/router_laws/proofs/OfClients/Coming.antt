@@ -55,7 +55,6 @@ use Rattle.core_laws.proofs.OfEntry.Uneventful.{Makes, none_counted, not_called,
 use Rattle.core_laws.specs.entry.Dues.{IsCome, written_by}
 use Rattle.core_laws.specs.entry.Entries.{IsOfNobody, behind}
 use Rattle.core_laws.specs.entry.Kinds.{IsStill, IsUneventful}
-use Rattle.core_laws.specs.entry.Safe.{has_runs}
 use Rattle.core_laws.specs.entry.Tells.{ground}
 use Rattle.router_laws.proofs.OfClients.Closing.{left_undone}
 use Rattle.router_laws.proofs.OfClients.Continuing.{all_were}
@@ -226,9 +225,6 @@ module _ (service : Service) (g : Ground) (t now : Tabled) (roomy : ClientNo →
     step_is : tale_step g.setup g.plan g.tale here ≡ counted (record g.tale { clients = g.tale.clients ++ newest g link salt ∷ [] })
     step_is = step_alone service g t roomy port link salt c rests count decided.still kept going decided.ends undone
 
-    pub served_runless : has_runs g.tale.story ≡ false → has_runs (behind g here over).tale.story ≡ false
-    served_runless none = ap (λ (tale : Tale). has_runs tale.story) step_is ∙ none
-
     pub served_due : IsDueBehind g log here nobody over now
     served_due = record {
       writes = λ x seated. inl (unwritten here refl x.link);
@@ -345,9 +341,6 @@ module _ (service : Service) (g : Ground) (t now : Tabled) (roomy : ClientNo →
         (record { aside = tt; keeps = (seated_of (IsStill g) g.tale x there decided.still).keeps; idle = idle }))
         (λ x apart full. full)
         (λ x there mine is full. absurd (true≢false (sym (ap over (sym (client-true new.number x.number mine)) ∙ over_its) ∙ is)))
-
-    pub away_runless : has_runs g.tale.story ≡ false → has_runs (behind g at over).tale.story ≡ false
-    away_runless none = ap (λ (tale : Tale). has_runs tale.story) step_away ∙ none
 
     and_true : (a : Bool) → (a && true) ≡ true → a ≡ true
     and_true true is = refl

@@ -53,10 +53,8 @@ use Rattle.core_laws.proofs.OfEntry.Uneventful.{Counting, Testing}
 use Rattle.core_laws.specs.entry.Entries.{behind}
 use Rattle.core_laws.specs.entry.Freeing.{all_freed}
 use Rattle.core_laws.specs.entry.Kinds.{IsStill}
-use Rattle.core_laws.specs.entry.Safe.{has_runs}
 use Rattle.core_laws.proofs.OfClients.Ending.{ends_so, leaves_so}
 use Rattle.core_laws.proofs.OfClients.Facts.{has_lives}
-use Rattle.core_laws.proofs.OfClients.Following.{freed_runs}
 use Rattle.core_laws.specs.clients.Follows.{AreHomesOf}
 use Rattle.router_laws.proofs.OfClients.Closing.{left_undone}
 use Rattle.router_laws.proofs.OfClients.Duing.{moment_more}
@@ -151,9 +149,6 @@ module _ (service : Service) (g : Ground) (t : Tabled) (roomy : ClientNo → Boo
   rising3 =
       subst (λ (ls : List LinkId). Ascend (λ l. l.0) ls)
       (sym (kept_in g.setup g.plan (λ (tale : Tale). tale.links) (λ story tale. refl) links tale2)) rising
-
-  pub runs3 : has_runs g.tale.story ≡ false → has_runs tale3.story ≡ false
-  runs3 none = freed_runs g.setup g.plan links tale2 ∙ none
 
   abbrev seats_in : List tales.Client → Type 0
   seats_in xs = filter (λ (x : tales.Client). is_client x.number client.number) xs ≡ client ∷ []
@@ -416,9 +411,6 @@ module _ (service : Service) (g : Ground) (t now : Tabled) (roomy room : ClientN
         ap (λ (tale : Tale). tale.clients) step_is
         ∙ clients3 service g t roomy link c so.row rests so.its e loss nobody_on decided.still links so.ends.homes homed over so.ends.left so.between
         (first_stands law alike) still_left so.ends.freed counting testing alike frees rising
-
-    pub at_once_runless : has_runs g.tale.story ≡ false → has_runs (behind g e over).tale.story ≡ false
-    at_once_runless none = ap (λ (tale : Tale). has_runs tale.story) step_is ∙ freed_runs g.setup g.plan links (counted left_tale) ∙ none
 
   and_left : (a b : Bool) → (a && b) ≡ true → a ≡ true
   and_left true b is = refl

@@ -27,13 +27,14 @@ use Rattle.tale_world.specs.Tested.{Passes}
 use Rattle.core_tables.specs.Tables.{Tabled}
 use Rattle.core_stands.specs.Grounds.{Ground}
 use Rattle.core_stands.specs.Stands.{Rests, Stands}
+use Rattle.run_laws.specs.Tells.{GetsBytes}
 use Rattle.core_laws.proofs.OfEntry.Going.{tale_more}
 use Rattle.core_laws.proofs.OfEntry.Safely.{log_goes_on}
 use Rattle.core_laws.specs.entry.Cores.{GoesOn, IsSafely, with_entry}
 use Rattle.core_laws.specs.entry.Dues.{AreSilent, AreWrittenTo}
 use Rattle.core_laws.specs.entry.Entries.{behind}
 use Rattle.core_laws.specs.entry.Grows.{IsHeardMore}
-use Rattle.core_laws.specs.entry.Safe.{IsSafe, has_runs}
+use Rattle.core_laws.specs.entry.Safe.{IsSafe}
 use Rattle.core_laws.specs.entry.Speaks.{IsSilent, IsSilentOrSpoken}
 use Rattle.core_laws.specs.entry.Tells.{ground}
 use Rattle.router_laws.proofs.OfClients.Continuing.{all_there}
@@ -43,6 +44,11 @@ use Rattle.router_laws.specs.clients.Continues.{IsThere}
 use Rattle.router_laws.specs.clients.Plans.{IsDecided, over_by}
 
 -- Entries of no link to a server.
+
+-- nothing is read of a server at an entry that is of no link to one
+pub off_gets : (tale : Tale) (e : Entry) → IsOffServers tale e → GetsBytes tale e
+off_gets tale (entry.Got link bytes) off = λ there. absurd (true≢false (sym there ∙ off))
+off_gets tale _ off = tt
 
 module _ (setup : Setup) (plan : Plan) (tale : Tale) where
   off_passes : (e : Entry) → IsOffServers tale e → Passes setup plan tale e
@@ -131,10 +137,10 @@ module _ (service : Service) (setup : Setup) (codes : Codes) (plan : Plan) (log 
     silent : AreSilent with
     silent = λ k d within. wordless (slice_index_or with.tale.clients k d)
 
-    safely : IsOffServers g.tale e → has_runs (tale_step setup plan g.tale e).story ≡ false → IsSafely setup plan log e now
-    safely off none = record {
+    safely : IsOffServers g.tale e → IsSafely setup plan log e now
+    safely off = record {
       passes = off_passes setup plan g.tale e off;
-      runless = ap (λ (tale : Tale). has_runs tale.story) (tale_more setup plan log e) ∙ none;
+      gets = off_gets g.tale e off;
       closes = off_closes setup plan g.tale e off;
       spoken = subst (λ (tale : Tale). (l : LinkId) → is_to_server tale l ≡ true → IsSilentOrSpoken setup plan g.tale e tale now l)
           (sym (tale_more setup plan log e)) (off_spoken setup plan g.tale e now off);
@@ -148,5 +154,5 @@ module _ (service : Service) (setup : Setup) (codes : Codes) (plan : Plan) (log 
           subst (λ (x : Ground). AreWrittenTo x (with_entry log e)) (sym with_is)
           (written_behind service g t now roomy log e whose (over_by new) rests (is.rests rests).stands decided (is.due rests) to);
       safe = λ rests behind_it to safe.
-          log_goes_on service setup codes plan new log e now safe (safely (is.off rests) (is.runless rests safe.runless)) behind_it.stands silent to;
+          log_goes_on service setup codes plan new log e now safe (safely (is.off rests)) behind_it.stands silent to;
     }

@@ -18,9 +18,12 @@ use Rattle.core_laws.proofs.OfEntry.Going.{tale_more}
 use Rattle.core_laws.specs.clients.Found.{AreFoundAt}
 use Rattle.core_laws.specs.clients.Turns.{Choice, Halt, Turns}
 use Rattle.core_laws.specs.entry.Cores.{with_entry}
+use Rattle.core_promises.proofs.Takings.{Covers}
+use Rattle.router_promises.specs.Takings.{Taking, takings_at}
 use Rattle.router_laws.proofs.OfClients.Counting.{one_seated}
 use Rattle.router_laws.proofs.OfClients.Entering.{log_numbers}
 use Rattle.router_laws.proofs.OfClients.LetIn.{told_there}
+use Rattle.router_laws.proofs.OfDecisions.Covering.{found_covered}
 
 module _ (setup : Setup) (plan : Plan) (log : Log) (e : Entry) (said x : Client) (seated : IsSeated (told setup plan (tale_of setup plan log) e) said)
     (there : IsSeated (tale_of setup plan (with_entry log e)) x) (number : x.number ≡ said.number) where
@@ -37,9 +40,12 @@ module _ (setup : Setup) (plan : Plan) (log : Log) (e : Entry) (said x : Client)
       ∙ (λ i. messages plan (record said { number = later.2.number i; salt = later.2.salt i; read = later.2.read i }))
 
   pub found_then : (choices : List Choice) (halt : Halt) (service : Service) (default : List ℕ) (c : ClientNo) (mid turned : Tabled)
-      (turns : Turns choices halt service default c mid turned) (k : ℕ) → said.taken ≡ k
-      → AreFoundAt choices halt service default c mid turned turns (setup.accounts c).user (messages plan said) said.taken
-      → AreFoundAt choices halt service default c mid turned turns (setup.accounts c).user (messages plan x) k
-  found_then choices halt service default c mid turned turns k taken found =
-      subst (λ (ms : List Framed). AreFoundAt choices halt service default c mid turned turns (setup.accounts c).user ms k) (sym messages_then)
-      (subst (AreFoundAt choices halt service default c mid turned turns (setup.accounts c).user (messages plan said)) taken found)
+      (turns : Turns choices halt service default c mid turned) (k : ℕ) → said.taken ≡ k → (takings : List Taking)
+      → Covers setup c takings (takings_at setup plan (tale_of setup plan log) e)
+      → AreFoundAt choices halt service default c mid turned turns setup takings (messages plan said) said.taken
+      → AreFoundAt choices halt service default c mid turned turns setup (takings_at setup plan (tale_of setup plan log) e) (messages plan x) k
+  found_then choices halt service default c mid turned turns k taken takings covers found =
+      let others : List Taking = takings_at setup plan (tale_of setup plan log) e in
+      subst (λ (ms : List Framed). AreFoundAt choices halt service default c mid turned turns setup others ms k) (sym messages_then)
+      (subst (AreFoundAt choices halt service default c mid turned turns setup others (messages plan said)) taken
+      (found_covered setup c takings others covers choices halt service default mid turned turns (messages plan said) said.taken found))

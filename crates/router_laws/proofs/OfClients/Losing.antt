@@ -57,10 +57,8 @@ use Rattle.core_laws.proofs.OfEntry.Uneventful.{Counting, Testing, counted_rests
 use Rattle.core_laws.specs.entry.Entries.{IsOfNobody, behind}
 use Rattle.core_laws.specs.entry.Freeing.{all_freed}
 use Rattle.core_laws.specs.entry.Kinds.{IsStill}
-use Rattle.core_laws.specs.entry.Safe.{has_runs}
 use Rattle.core_laws.proofs.OfClients.Ending.{ends_so, leaves_so}
 use Rattle.core_laws.proofs.OfClients.Facts.{has_lives}
-use Rattle.core_laws.proofs.OfClients.Following.{freed_runs}
 use Rattle.core_laws.specs.clients.Turns.{MayLeave}
 use Rattle.router_laws.proofs.OfClients.Closing.{left_undone, over_there}
 use Rattle.router_laws.proofs.OfClients.Duing.{ended_before, moment_more}
@@ -254,9 +252,6 @@ module _ (service : Service) (g : Ground) (t now : Tabled) (roomy : ClientNo →
 
     pub again_clients : (tale_step g.setup g.plan g.tale e).clients ≡ g.tale.clients
     again_clients = ap (λ (tale : Tale). tale.clients) step_is
-
-    pub again_runless : has_runs g.tale.story ≡ false → has_runs (behind g e over).tale.story ≡ false
-    again_runless none = ap (λ (tale : Tale). has_runs tale.story) step_is ∙ none
 
   pub again_due : IsDueBehind g log e nobody over now
   again_due = record {

@@ -129,6 +129,7 @@ module _ (service : Service) (default : List ℕ) (g : Ground) (t now : Tabled) 
     answered = idle;
     coming = subst (λ (work : Option Work). IsWorkingOr g it so.row work) workless going.working;
     collation = refl;
+    statements = refl;
   }
 
   leaving : Places → IsLeaving after it (begun_anew seat)

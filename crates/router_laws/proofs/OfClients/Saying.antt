@@ -49,7 +49,7 @@ use Rattle.core_laws.specs.entry.Dues.{EndsSaying, IsSaidLast}
 use Rattle.core_laws.specs.entry.Entries as entries
 use Rattle.core_laws.specs.entry.Entries.{AreSpared, TellsOf, behind}
 use Rattle.core_laws.specs.entry.Kinds.{IsSpeaking, IsStill}
-use Rattle.core_laws.specs.entry.Safe.{IsSafe, has_runs}
+use Rattle.core_laws.specs.entry.Safe.{IsSafe}
 use Rattle.core_laws.specs.entry.Tells.{ground}
 use Rattle.core_laws.proofs.OfClients.Keeping.{follows_keep_rows}
 use Rattle.core_laws.specs.clients.Chosen.{PlanHas}
@@ -341,7 +341,3 @@ module _ (service : Service) (default : List ℕ) (setup : Setup) (codes : Codes
         subst (λ (p : WordPlace). IsSaidLast p g.plan was)
         (sym (plans.said word
         (sym (λ i. word_at g.plan (moment_more setup plan g.tale e i) ((on.number ∙ sym same) i)) ∙ at))) tt
-
-  pub spoken_runless : IsFollowed service g e said freed (said.taken + count_by choices halt) over room now → has_runs g.tale.story ≡ false
-      → has_runs (behind g e over).tale.story ≡ false
-  spoken_runless followed none = followed.runless (ap (λ (tale : Tale). has_runs tale.story) told_is ∙ none)

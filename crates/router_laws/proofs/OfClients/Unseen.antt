@@ -14,7 +14,7 @@ use Rattle.private_model.specs.Names.{ClientNo, SessionName}
 use Rattle.private_model.specs.Story.{BecameDue, Broke, Capture, Dropped, Due, End, Freed, Gone, Happening, Heard, Left, LoggedIn, Mirrored, Own, Prep, Question, Ran, Sent, Statement, Story, Sync, Unprepared, for_statement, is_client, is_name, put}
 use Rattle.private_model.specs.View.{Answered, Asked, Held, Joined, Quiet, Setup, Stage, View, first_view, place_after, present, session_in, view_after, view_heard, view_step}
 use Rattle.client_desk.specs.declared.session.Session.{Session}
-use Rattle.desk_laws.specs.Spares.{SparesAnswered, SparesAsked, SparesToCome, answered_for, asked_for, is_of, touches}
+use Rattle.desk_laws.specs.Spares.{SparesAnswered, SparesAsked, SparesSent, SparesToCome, answered_for, asked_for, is_of, touches}
 use Rattle.desk_laws.specs.Stands.{AreSessions, AreToCome, name_at}
 use Rattle.core_laws.specs.parting.Frames.{AreHomed, asker_at}
 use Rattle.router_laws.proofs.OfClients.Walking.{AllKnown, AskedIn, KnownIn}
@@ -114,15 +114,23 @@ module _ (setup : Setup) (view : View) (c : ClientNo) (homed : AreHomed view.lin
     spares_asked (End m) apart = tt
     spares_asked (Capture m) apart = tt
 
+    spares_sent : (question : Question) → is_of c (asked_for question) ≡ false → SparesSent view c 1 question
+    spares_sent (Statement m due) apart = inl apart
+    spares_sent (Prep m key text) apart = tt
+    spares_sent (Sync m command) apart = tt
+    spares_sent (Own command) apart = tt
+    spares_sent (End m) apart = tt
+    spares_sent (Capture m) apart = tt
+
     spares_answered : (stage : Stage) → is_of c (answered_for stage) ≡ false → SparesAnswered c 1 stage
     spares_answered Quiet apart = tt
     spares_answered (Asked question) apart = tt
     spares_answered (Answered question) apart = spares_asked question apart
 
     spared : (e : Happening) → MayCome setup view e → KnownIn n view e → SparesToCome view c 1 e
-    spared (Sent link question) may known = spares_asked question (asked_apart link question may.fits known)
+    spared (Sent link question) may known = spares_sent question (asked_apart link question may.fits known)
     spared (Heard link reply) may known = spares_answered (view.links link).stage (answered_apart link (view.links link).stage refl)
-    spared (BecameDue client hostgroup ordinal key command multiplex) may known = tt
+    spared (BecameDue client hostgroup ordinal key command multiplex) may known = other_client client known
     spared (Left client) may known = tt
     spared (Mirrored client job) may known = tt
     spared (Freed link) may known = tt

@@ -49,7 +49,6 @@ use Rattle.core_laws.proofs.OfEntry.Uneventful.{Counting, Makes, Testing, counte
 use Rattle.core_laws.specs.entry.Dues.{IsWrittenBy, written_by}
 use Rattle.core_laws.specs.entry.Entries.{behind}
 use Rattle.core_laws.specs.entry.Kinds.{IsStill, IsUneventful}
-use Rattle.core_laws.specs.entry.Safe.{has_runs}
 use Rattle.router_laws.proofs.OfClients.Linking.{client_there, is_client_row, known, link_is, none_written, off_server}
 use Rattle.router_laws.specs.clients.Behind.{IsDueBehind}
 use Rattle.router_laws.specs.clients.Plans.{IsDecided, nobody}
@@ -295,9 +294,6 @@ module _ (service : Service) (g : Ground) (t now : Tabled) (roomy room : ClientN
           rested = wide.rested;
           calm = λ k d within. calm_so _ (counted_seats new.tale wide.stands.clients.counted k d within) (wide.calm k d within);
         })
-
-    pub wrote_runless : has_runs g.tale.story ≡ false → has_runs (behind g e over).tale.story ≡ false
-    wrote_runless none = ap (λ (tale : Tale). has_runs tale.story) step_is ∙ none
 
   -- what is written to it
 

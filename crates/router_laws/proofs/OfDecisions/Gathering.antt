@@ -54,7 +54,7 @@ login_new log e deeds l login fits is = let both : None ≡ Some login = is in a
 
 module _ (default : List ℕ) (d : Decided) (n : Counts) (log : Log) (e : Entry) (all : Deeds) (setup : Setup) (codes : Codes) (plan : Plan)
     (recorded : IsRecorded d n log) (may : MayFollow log e) (of : IsOf (decided_with all n log e d) (length (with_entry log e)) plan)
-    (fits : Fits setup codes plan default (tale_of setup plan log)) (counts : AreCountsOf n (tale_of setup plan log))
+    (fits : Fits d.keys setup codes plan default (tale_of setup plan log)) (counts : AreCountsOf n (tale_of setup plan log))
     (ungiven : AreUngiven (ground setup codes plan d log) (λ c. is_some (all.given c))) where
   abbrev g : Ground
   g = ground setup codes plan d log

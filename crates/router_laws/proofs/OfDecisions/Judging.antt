@@ -16,7 +16,9 @@ use Rattle.link_laws.specs.Stands.{Codes}
 use Rattle.log_story.specs.Headline.{tale_of}
 use Rattle.log_story.specs.Owed.{messages, name_of, talk_of}
 use Rattle.log_story.specs.Plan.{OwnAnswer, Plan, Route, own_at}
-use Rattle.log_story.specs.Tale.{Client, Tale, first_tale}
+use Rattle.log_story.specs.Tale.{Client, Tale, first_tale, view_of}
+use Rattle.client_desk.specs.declared.desk.Desk.{Desk}
+use Rattle.desk_laws.specs.Stands.{message_at}
 use Rattle.log_story.specs.Telling.{tale_step}
 use Rattle.step_laws.proofs.Seating.{counted_seats}
 use Rattle.step_laws.specs.Seats.{IsSeated}
@@ -26,12 +28,14 @@ use Rattle.core_tables.specs.Tables.{Tabled}
 use Rattle.core_laws.proofs.OfEntry.Going.{tale_more}
 use Rattle.core_laws.proofs.OfEntry.Growing.{messages_more}
 use Rattle.core_laws.proofs.OfEntry.Lists.{seated_of}
-use Rattle.core_laws.specs.clients.Found.{AreFoundAt, IsFoundAt, user_at}
-use Rattle.core_laws.specs.clients.Turns.{Answers, Choice, Goes, Halt, IsTurn, Turns}
+use Rattle.core_laws.specs.clients.Found.{AreFoundAt, IsAmong, IsFound, IsFoundIn, IsLastAmong, desk_up}
+use Rattle.core_laws.specs.clients.Turns.{Answers, Choice, Ends, Goes, Halt, IsTurn, Quits, Rests, Turns, Waits}
 use Rattle.core_laws.specs.entry.Cores.{with_entry}
 use Rattle.core_laws.specs.entry.Tells.{Fits, IsOf}
-use Rattle.core_promises.specs.Judges.{AreJudged, IsJudged, IsVerdictFor, Rulebook, goes_by}
-use Rattle.core_promises.specs.Ruled.{AreRuled, IsRuled, book_of}
+use Rattle.core_promises.proofs.Takings.{taken_before, taken_now}
+use Rattle.core_promises.specs.Judges.{AreJudged, IsJudged, IsVerdictFor, Rulebook, Situation, goes_by, situation_of}
+use Rattle.core_promises.specs.Ruled.{AreRuled, IsRuled, book_of, situation_at}
+use Rattle.router_promises.specs.Takings.{Taking, takings_at}
 use Rattle.router_promises.specs.Verdicts.{Tells, Verdict}
 use Rattle.shared_router.proofs.Furthering.{IsWithin, within_step}
 use Rattle.shared_router.proofs.Looked.{Each, each-all}
@@ -43,94 +47,144 @@ use Rattle.router_laws.proofs.OfDecisions.Listing.{is_tale_of}
 use Rattle.router_laws.proofs.OfDecisions.Planning.{fate_so, own_so}
 use Rattle.router_laws.proofs.OfDecisions.Recording.{one_more}
 use Rattle.router_laws.specs.clients.Continues.{HasCome, WasThere}
-use Rattle.router_laws.specs.decisions.Judges.{AreSent, IsJudgedThen, JudgedFrom, JudgesThen, verdict_of}
+use Rattle.router_laws.specs.decisions.Judges.{AreSent, IsJudgedAs, IsJudgedThen, JudgedFrom, JudgesThen}
 use Rattle.router_laws.specs.decisions.Deeds.{Counts, Deeds, Fate, Word, among, counts_with, decided_by, decided_with, fate_at, fate_in, fate_of, is_quitting, known_with, no_deeds, no_fate, parting, taken_by, taking}
 use Rattle.router_laws.specs.decisions.Records.{AreCountsOf, IsRecorded}
 
 -- Of a client's messages that came up at its turns, where these are by the verdict.
 
 module _ (book : Rulebook) (setup : Setup) (plan : Plan) (client : Client) where
-  abbrev user : List ℕ
-  user = (setup.accounts client.number).user
+  -- as it was found to stand
+  stood_as : (c : ClientNo) (desk : Desk) (up : Framed) (tale : Tale) (found : Option Framed)
+      → IsFoundIn c desk up (setup.accounts c).user (view_of setup tale) found → situation_at desk ≡ situation_of setup tale c
+  stood_as c desk up tale found at = λ i. record {
+    user = at.login i;
+    place = sym at.place i;
+    pins = λ h. (sym (at.held h) i).pin;
+    homes = λ h. (sym (at.held h) i).home;
+  }
 
-  judged_as : (served : List ℕ) (c : ClientNo) → client.number ≡ c → served ≡ (setup.accounts c).user → (up message : Framed) → Some up ≡ Some message
-      → (verdict : Verdict) → IsVerdictFor book served c up.payload verdict
-      → IsVerdictFor book user client.number message.payload verdict
-  judged_as served c number login up message same verdict is =
-      subst (λ (m : Framed). IsVerdictFor book user client.number m.payload verdict) (same_Some up message same)
-      (subst (λ (x : ClientNo). IsVerdictFor book (setup.accounts x).user x up.payload verdict) (sym number)
-      (subst (λ (u : List ℕ). IsVerdictFor book u c up.payload verdict) login is))
+  judged_as : (c : ClientNo) → client.number ≡ c → (desk : Desk) (up : Framed) (tale : Tale) (found : Option Framed)
+      → IsFoundIn c desk up (setup.accounts c).user (view_of setup tale) found → (message : Framed) → found ≡ Some message → (verdict : Verdict)
+      → IsVerdictFor book (situation_at desk) c up.payload verdict
+      → IsVerdictFor book (situation_of setup tale client.number) client.number message.payload verdict
+  judged_as c number desk up tale found at message is verdict ruled =
+      subst (λ (m : Framed). IsVerdictFor book (situation_of setup tale client.number) client.number m.payload verdict)
+      (same_Some up message (sym at.message_is ∙ is))
+      (subst (λ (x : ClientNo). IsVerdictFor book (situation_of setup tale x) x up.payload verdict) (sym number)
+      (subst (λ (s : Situation). IsVerdictFor book s c up.payload verdict) (stood_as c desk up tale found at) ruled))
+
+  its_name : (takings : List Taking) (c : ClientNo) → client.number ≡ c → (k : ℕ) (taking : Taking) → IsAmong takings (message_at c (suc k)) taking
+      → IsAmong takings (name_of client (suc k)) taking
+  its_name takings c number k taking = subst (λ (n : ClientNo). IsAmong takings (message_at n (suc k)) taking) (sym number)
 
   judged_one : (choice : Choice) (service : Serving) (default : List ℕ) (c : ClientNo) → client.number ≡ c → (old new : Tabled)
-      (turn : IsTurn choice service default c old new) (found : Option Framed)
-      → IsFoundAt choice service default c old new turn (setup.accounts c).user found
-      → IsRuled book choice service default c old new turn → (message : Framed) → found ≡ Some message
-      → IsVerdictFor book user client.number message.payload (verdict_of choice)
-  judged_one (Goes route) service default c number old new turn found at ruled message is =
-      judged_as (user_at service default turn.up.row) c number at.login turn.up.message message (sym at.message_is ∙ is) (goes_by route) ruled
-  judged_one (Answers payloads) service default c number old new turn found at ruled message is =
-      judged_as (user_at service default turn.up.row) c number at.login turn.up.message message (sym at.message_is ∙ is) (Tells payloads) ruled
+      (turn : IsTurn choice service default c old new) (takings : List Taking) (k : ℕ)
+      → IsFound choice service default c old new turn setup takings (slice_get (messages plan client) k) k
+      → IsRuled book choice service default c old new turn → IsJudgedAs book setup plan client takings k choice
+  judged_one (Goes route) service default c number old new turn takings k found ruled = record {
+    taking = found.taking;
+    among = its_name takings c number k found.taking found.among;
+    is = λ message at.
+        judged_as c number (desk_up service default turn.up.row) turn.up.message found.taking.tale (slice_get (messages plan client) k) found.at message at
+        (goes_by route) ruled;
+  }
+  judged_one (Answers payloads) service default c number old new turn takings k found ruled = record {
+    taking = found.taking;
+    among = its_name takings c number k found.taking found.among;
+    is = λ message at.
+        judged_as c number (desk_up service default turn.up.row) turn.up.message found.taking.tale (slice_get (messages plan client) k) found.at message at
+        (Tells payloads) ruled;
+  }
 
-  pub judged_by : (k : ℕ) (choices : List Choice) (halt : Halt) (service : Serving) (default : List ℕ) (c : ClientNo) → client.number ≡ c
-      → (old new : Tabled) (turns : Turns choices halt service default c old new)
-      → AreFoundAt choices halt service default c old new turns (setup.accounts c).user (messages plan client) k
-      → AreRuled book choices halt service default c old new turns → JudgedFrom book setup plan client k choices
-  judged_by k [] halt service default c number old new turns found ruled = tt
-  judged_by k (choice ∷ others) halt service default c number old new turns found ruled = (
-    judged_one choice service default c number old turns.0 turns.1 (slice_get (messages plan client) k) found.0 ruled.0,
-    judged_by (suc k) others halt service default c number turns.0 new turns.2 found.1 ruled.1,
+  pub judged_by : (takings : List Taking) (k : ℕ) (choices : List Choice) (halt : Halt) (service : Serving) (default : List ℕ) (c : ClientNo)
+      → client.number ≡ c → (old new : Tabled) (turns : Turns choices halt service default c old new)
+      → AreFoundAt choices halt service default c old new turns setup takings (messages plan client) k
+      → AreRuled book choices halt service default c old new turns → JudgedFrom book setup plan client takings k choices halt
+  judged_by takings k [] halt service default c number old new turns found ruled =
+      subst (λ (n : ClientNo). IsLastAmong halt takings (message_at n (suc k))) (sym number) found
+  judged_by takings k (choice ∷ others) halt service default c number old new turns found ruled = (
+    judged_one choice service default c number old turns.0 turns.1 takings k found.0 ruled.0,
+    judged_by takings (suc k) others halt service default c number turns.0 new turns.2 found.1 ruled.1,
   )
 
   -- so what is decided of each is
 
-  pub record IsFated (k : ℕ) (fate : Fate) : Type 0 where
+  pub record IsFated (takings : List Taking) (k : ℕ) (fate : Fate) : Type 0 where
+    pub taking : Taking
+    pub among : IsAmong takings (name_of client (suc k)) taking
     pub goes : (message : Framed) (route : Route) → slice_get (messages plan client) k ≡ Some message → fate.route ≡ Some route
-        → IsVerdictFor book user client.number message.payload (goes_by route)
+        → IsVerdictFor book (situation_of setup taking.tale client.number) client.number message.payload (goes_by route)
     pub tells : (message : Framed) (payloads : List (List ℕ)) → slice_get (messages plan client) k ≡ Some message
         → option_map (λ (answer : OwnAnswer). answer.payloads) fate.own ≡ Some payloads
-        → IsVerdictFor book user client.number message.payload (Tells payloads)
+        → IsVerdictFor book (situation_of setup taking.tale client.number) client.number message.payload (Tells payloads)
 
-  judged_first : (k : ℕ) (choice : Choice) (others : List Choice) → JudgedFrom book setup plan client k (choice ∷ others) → IsFated k (fate_of choice)
-  judged_first k (Goes mine) others judged = record {
-    goes = λ message route at is.
-        subst (λ (r : Route). IsVerdictFor book user client.number message.payload (goes_by r)) (same_Some mine route is) (judged.0 message at);
-    tells = λ message payloads at is. none_some None payloads refl is;
-  }
-  judged_first k (Answers mine) others judged = record {
-    goes = λ message route at is. none_some None route refl is;
-    tells = λ message payloads at is.
-        subst (λ (p : List (List ℕ)). IsVerdictFor book user client.number message.payload (Tells p)) (same_Some mine payloads is) (judged.0 message at);
-  }
+  module _ (takings : List Taking) where
+    judged_first : (k : ℕ) (choice : Choice) → IsJudgedAs book setup plan client takings k choice → IsFated takings k (fate_of choice)
+    judged_first k (Goes mine) judged = record {
+      taking = judged.taking;
+      among = judged.among;
+      goes = λ message route at is.
+          subst (λ (r : Route). IsVerdictFor book (situation_of setup judged.taking.tale client.number) client.number message.payload (goes_by r))
+          (same_Some mine route is) (judged.is message at);
+      tells = λ message payloads at is. none_some None payloads refl is;
+    }
+    judged_first k (Answers mine) judged = record {
+      taking = judged.taking;
+      among = judged.among;
+      goes = λ message route at is. none_some None route refl is;
+      tells = λ message payloads at is.
+          subst (λ (p : List (List ℕ)). IsVerdictFor book (situation_of setup judged.taking.tale client.number) client.number message.payload (Tells p))
+          (same_Some mine payloads is) (judged.is message at);
+    }
 
-  unfated : (k : ℕ) → IsFated k no_fate
-  unfated k = record {
-    goes = λ message route at is. none_some None route refl is;
-    tells = λ message payloads at is. none_some None payloads refl is;
-  }
+    unfated : (k : ℕ) (taking : Taking) → IsAmong takings (name_of client (suc k)) taking → IsFated takings k no_fate
+    unfated k taking among = record {
+      taking = taking;
+      among = among;
+      goes = λ message route at is. none_some None route refl is;
+      tells = λ message payloads at is. none_some None payloads refl is;
+    }
 
-  judged_if : (b : Bool) (k : ℕ) (fate : Fate) → (if b then Some no_fate else None) ≡ Some fate → IsFated k fate
-  judged_if true k fate is = subst (IsFated k) (same_Some no_fate fate is) (unfated k)
-  judged_if false k fate is = none_some None fate refl is
+    at_same : (first k : ℕ) → nat_eq (suc k) (suc first) ≡ true → first ≡ k
+    at_same first k same = let here : suc k ≡ suc first = eqb-true (suc k) (suc first) same in omega (arith, here)
 
-  pub judged_at : (choices : List Choice) (halt : Halt) (first k : ℕ) (fate : Fate) → JudgedFrom book setup plan client first choices
-      → fate_in choices halt (suc first) (suc k) ≡ Some fate → IsFated k fate
-  judged_at [] halt first k fate judged is = judged_if (is_quitting halt && nat_eq (suc k) (suc first)) k fate is
-  judged_at (choice ∷ others) halt first k fate judged is =
-      by (nat_eq (suc k) (suc first)) refl is (judged_at others halt (suc first) k fate judged.1) where
-        by : (b : Bool) → nat_eq (suc k) (suc first) ≡ b → (if b then Some (fate_of choice) else fate_in others halt (suc (suc first)) (suc k)) ≡ Some fate
-            → (fate_in others halt (suc (suc first)) (suc k) ≡ Some fate → IsFated k fate) → IsFated k fate
-        by true same has later =
-            let here : suc k ≡ suc first = eqb-true (suc k) (suc first) same in
-            let at : first ≡ k = omega (arith, here) in
-            subst (λ (i : ℕ). IsFated i fate) at (subst (IsFated first) (same_Some (fate_of choice) fate has) (judged_first first choice others judged))
-        by false other has later = later has
+    judged_last : (halt : Halt) (first k : ℕ) (fate : Fate) → IsLastAmong halt takings (name_of client (suc first))
+        → (if is_quitting halt && nat_eq (suc k) (suc first) then Some no_fate else None) ≡ Some fate → IsFated takings k fate
+    judged_last Waits first k fate last is = none_some None fate refl is
+    judged_last Rests first k fate last is = none_some None fate refl is
+    judged_last Ends first k fate last is = none_some None fate refl is
+    judged_last Quits first k fate last is = by (nat_eq (suc k) (suc first)) refl is where
+      by : (b : Bool) → nat_eq (suc k) (suc first) ≡ b → (if b then Some no_fate else None) ≡ Some fate → IsFated takings k fate
+      by true same has =
+          subst (IsFated takings k) (same_Some no_fate fate has)
+          (subst (λ (n : ℕ). IsFated takings n no_fate) (at_same first k same) (unfated first last.0 last.1))
+      by false other has = none_some None fate refl has
 
-  pub judged_none : (k : ℕ) (choices : List Choice) → choices ≡ [] → JudgedFrom book setup plan client k choices
-  judged_none k choices none = subst (JudgedFrom book setup plan client k) (sym none) tt
+    pub judged_at : (choices : List Choice) (halt : Halt) (first k : ℕ) (fate : Fate) → JudgedFrom book setup plan client takings first choices halt
+        → fate_in choices halt (suc first) (suc k) ≡ Some fate → IsFated takings k fate
+    judged_at [] halt first k fate judged is = judged_last halt first k fate judged is
+    judged_at (choice ∷ others) halt first k fate judged is =
+        by (nat_eq (suc k) (suc first)) refl is (judged_at others halt (suc first) k fate judged.1) where
+          by : (b : Bool) → nat_eq (suc k) (suc first) ≡ b
+              → (if b then Some (fate_of choice) else fate_in others halt (suc (suc first)) (suc k)) ≡ Some fate
+              → (fate_in others halt (suc (suc first)) (suc k) ≡ Some fate → IsFated takings k fate) → IsFated takings k fate
+          by true same has later =
+              subst (λ (n : ℕ). IsFated takings n fate) (at_same first k same)
+              (subst (IsFated takings first) (same_Some (fate_of choice) fate has) (judged_first first choice judged.0))
+          by false other has later = later has
 
-  judged_among : (b : Bool) (k : ℕ) (choices : List Choice) → JudgedFrom book setup plan client k choices → JudgedFrom book setup plan client k (if b then choices else [])
-  judged_among true k choices judged = judged
-  judged_among false k choices judged = tt
+    pub judged_none : (k : ℕ) (choices : List Choice) (halt : Halt) → taken_by choices halt ≡ 0 → JudgedFrom book setup plan client takings k choices halt
+    judged_none k [] Waits none = tt
+    judged_none k [] Rests none = tt
+    judged_none k [] Ends none = tt
+    judged_none k [] Quits none = absurd (omega (arith, none))
+    judged_none k (choice ∷ others) halt none = absurd (omega (arith, none))
+
+    judged_among : (b : Bool) (k : ℕ) (choices : List Choice) (halt : Halt) → JudgedFrom book setup plan client takings k choices halt
+        → JudgedFrom book setup plan client takings k (if b then choices else []) (if b then halt else Rests)
+    judged_among true k choices halt judged = judged
+    judged_among false k choices halt judged = tt
 
 -- whose deeds give nobody up
 pub none_sent : (plan : Plan) (tale : Tale) (given : ClientNo → Option (List ℕ)) → ((c : ClientNo) → given c ≡ None)
@@ -138,45 +192,46 @@ pub none_sent : (plan : Plan) (tale : Tale) (given : ClientNo → Option (List �
 none_sent plan tale given none = λ k dflt within some.
     false_true (is_some (given (slice_index_or tale.clients k dflt).number)) (ap is_some (none (slice_index_or tale.clients k dflt).number)) some
 
--- and call nobody
-pub judges_none : (service : Service) (log : Log) (e : Entry) (d : Decided) (n : Counts) (deeds : Deeds) → ((c : ClientNo) → deeds.calls c ≡ [])
-    → ((c : ClientNo) → deeds.given c ≡ None) → JudgesThen service log e d n deeds
+-- and take up nothing
+pub judges_none : (service : Service) (log : Log) (e : Entry) (d : Decided) (n : Counts) (deeds : Deeds)
+    → ((c : ClientNo) → taken_by (deeds.calls c) (deeds.halts c) ≡ 0) → ((c : ClientNo) → deeds.given c ≡ None) → JudgesThen service log e d n deeds
 judges_none service log e d n deeds none ungiven setup codes plan of fits = record {
-  takes = λ client seated. judged_none (book_of service) setup plan client (n.taken client.number) (deeds.calls client.number) (none client.number);
+  takes = λ client seated.
+      judged_none (book_of service) setup plan client (takings_at setup plan (tale_of setup plan log) e) (n.taken client.number) (deeds.calls client.number)
+      (deeds.halts client.number) (none client.number);
   gives = none_sent plan (tale_of setup plan log) deeds.given ungiven;
 }
 
-none_either : (choices : List Choice) → choices ≡ [] → (b : Bool) → (if b then choices else choices) ≡ []
-none_either choices none true = none
-none_either choices none false = none
+none_either : (b : Bool) → taken_by (if b then [] else []) (if b then Rests else Rests) ≡ 0
+none_either true = refl
+none_either false = refl
 
-pub judges_of_none : (service : Service) (log : Log) (e : Entry) (d : Decided) (n : Counts) (c : ClientNo) (halt : Halt) (last : Option (Option Word))
-    → JudgesThen service log e d n (parting c last (taking c [] halt no_deeds))
-judges_of_none service log e d n c halt last =
-    judges_none service log e d n (parting c last (taking c [] halt no_deeds)) (λ x. none_either [] refl (nat_eq c.0 x.0)) (λ x. refl)
-
-pub none_taken : (choices : List Choice) (halt : Halt) → taken_by choices halt ≡ 0 → choices ≡ []
-none_taken [] halt none = refl
-none_taken (choice ∷ others) halt none = absurd (omega (arith, none))
+pub judges_of_none : (service : Service) (log : Log) (e : Entry) (d : Decided) (n : Counts) (c : ClientNo) (last : Option (Option Word))
+    → JudgesThen service log e d n (parting c last (taking c [] Rests no_deeds))
+judges_of_none service log e d n c last =
+    judges_none service log e d n (parting c last (taking c [] Rests no_deeds)) (λ x. none_either (nat_eq c.0 x.0)) (λ x. refl)
 
 -- who takes them up alone
 pub judges_taking : (service : Service) (log : Log) (e : Entry) (d : Decided) (n : Counts) (c : ClientNo) (choices : List Choice) (halt : Halt)
     (last : Option (Option Word))
     → ((setup : Setup) (codes : Codes) (plan : Plan) → IsOf (decided_with (parting c last (taking c choices halt no_deeds)) n log e d) (length (with_entry log e)) plan
-    → Fits setup codes plan service.default_schema (tale_of setup plan (with_entry log e)) → (client : Client)
+    → Fits (decided_with (parting c last (taking c choices halt no_deeds)) n log e d).keys setup codes plan service.default_schema (tale_of setup plan (with_entry log e)) → (client : Client)
     → IsSeated (tale_of setup plan (with_entry log e)) client → client.number ≡ c
-    → JudgedFrom (book_of service) setup plan client (n.taken c) choices)
+    → JudgedFrom (book_of service) setup plan client (takings_at setup plan (tale_of setup plan log) e) (n.taken c) choices halt)
     → JudgesThen service log e d n (parting c last (taking c choices halt no_deeds))
 judges_taking service log e d n c choices halt last judged setup codes plan of fits = record {
   takes = λ client seated. by client seated (nat_eq c.0 client.number.0) refl;
   gives = none_sent plan (tale_of setup plan log) (λ x. None) (λ x. refl);
 } where
   by : (client : Client) → IsSeated (tale_of setup plan (with_entry log e)) client → (b : Bool) → nat_eq c.0 client.number.0 ≡ b
-      → JudgedFrom (book_of service) setup plan client (n.taken client.number) (if b then choices else [])
+      → JudgedFrom (book_of service) setup plan client (takings_at setup plan (tale_of setup plan log) e) (n.taken client.number) (if b then choices else [])
+      (if b then halt else Rests)
   by client seated false other = tt
   by client seated true its =
       let same : c ≡ client.number = client_of c client.number its in
-      subst (λ (x : ClientNo). JudgedFrom (book_of service) setup plan client (n.taken x) choices) same (judged setup codes plan of fits client seated (sym same))
+      subst (λ (x : ClientNo).
+      JudgedFrom (book_of service) setup plan client (takings_at setup plan (tale_of setup plan log) e) (n.taken x) choices halt) same
+      (judged setup codes plan of fits client seated (sym same))
 
 -- No more was taken up of a client than its messages.
 
@@ -213,7 +268,7 @@ given_among false given some = false_true false refl some
 module _ (service : Service) (log : Log) (e : Entry) (d : Decided) (n : Counts) (deeds : Deeds) (recorded : IsRecorded d n log) (setup : Setup) (plan : Plan)
     (of : IsOf (decided_with deeds n log e d) (length (with_entry log e)) plan)
     (before : AreCountsOf n (tale_of setup plan log)) (counts : AreCountsOf (counts_with deeds n log e) (tale_of setup plan (with_entry log e)))
-    (was : All (AreJudged (book_of service) setup plan (length log)) (tale_of setup plan log).clients)
+    (was : All (AreJudged (book_of service) setup plan log) (tale_of setup plan log).clients)
     (judged : IsJudgedThen service log e n deeds setup plan) where
   abbrev book : Rulebook
   book = book_of service
@@ -240,8 +295,15 @@ module _ (service : Service) (log : Log) (e : Entry) (d : Decided) (n : Counts) 
     abbrev name : MessageName
     name = name_of client (suc k)
 
-    abbrev IsJudgedAt : (moment : ℕ) → Type 0
-    IsJudgedAt moment = IsJudged book (setup.accounts c).user plan moment name message.payload
+    abbrev IsJudgedBy : Log → Type 0
+    IsJudgedBy past = IsJudged book setup plan past name message.payload
+
+    abbrev takings : List Taking
+    takings = takings_at setup plan old e
+
+    -- its moment is that of the log
+    own_now : own_at plan (length (with_entry log e)) name ≡ own_at plan now name
+    own_now = ap (λ (moment : ℕ). own_at plan moment name) (one_more log e)
 
     -- It was taken up before: what is given up goes to a server, so else it is answered as it was.
 
@@ -271,18 +333,20 @@ module _ (service : Service) (log : Log) (e : Entry) (d : Decided) (n : Counts) 
         by true true given last =
             false_true (is_some (plan.routes name)) (ap is_some unrouted) (sent given (eqb-true (suc k) (n.taken c) last))
 
-      old_judged : client.salt ≡ x.salt → (more : List ℕ) → client.read ≡ x.read ++ more → IsJudgedAt now
+      old_judged : client.salt ≡ x.salt → (more : List ℕ) → client.read ≡ x.read ++ more → IsJudgedBy (with_entry log e)
       old_judged salt more read =
           let within : x.taken ≤ length (messages plan x) = seated_of (IsWithin setup plan) old x there (within_of setup plan log) in
           let early : k < x.taken = omega (arith, less, count, named) in
           let there_at : slice_get (messages plan x) k ≡ Some message =
           sym (message_stays plan x client more k number salt read (omega (arith, early, within))) ∙ at in
-          let so_far : IsJudgedAt (length log) =
-          subst (λ (m : ClientNo). IsJudged book (setup.accounts m).user plan (length log) (record { client = m; ordinal = suc k }) message.payload) (sym number)
-          (seated_of (AreJudged book setup plan (length log)) old x there was k message early there_at) in
+          let so_far : IsJudgedBy log =
+          subst (λ (m : ClientNo). IsJudged book setup plan log (record { client = m; ordinal = suc k }) message.payload) (sym number)
+          (seated_of (AreJudged book setup plan log) old x there was k message early there_at) in
           record {
+            taking = so_far.taking;
+            taken = taken_before setup plan log e name so_far.taking so_far.taken;
             goes = so_far.goes;
-            tells = λ payloads unrouted own. so_far.tells payloads unrouted (sym (own_stays unrouted) ∙ own);
+            tells = λ payloads unrouted own. so_far.tells payloads unrouted (sym (own_stays unrouted) ∙ sym own_now ∙ own);
           }
 
     came_by : (by : Entry) → HasCome old by client → n.taken c ≡ 0
@@ -292,36 +356,38 @@ module _ (service : Service) (log : Log) (e : Entry) (d : Decided) (n : Counts) 
         (recorded.strangers c (omega (arith, last, size))).untaken
     came_by by come = absurd come
 
-    taken_before : k < n.taken c → WasThere plan old e client ⊎ HasCome old e client → IsJudgedAt now
-    taken_before less (inl x) =
+    taken_up_before : k < n.taken c → WasThere plan old e client ⊎ HasCome old e client → IsJudgedBy (with_entry log e)
+    taken_up_before less (inl x) =
         old_judged x.was x.seated x.continued.number less x.continued.salt x.continued.more x.continued.read
-    taken_before less (inr come) = let none : n.taken c ≡ 0 = came_by e come in absurd (omega (arith, less, none))
+    taken_up_before less (inr come) = let none : n.taken c ≡ 0 = came_by e come in absurd (omega (arith, less, none))
 
     -- it is taken up now
 
     abbrev known : Bool
     known = nat_le c.0 (known_with log e)
 
-    taken_then : k < client.taken → n.taken c ≤ k → (found : Option Fate) → fate_at made n name ≡ found → is_some found ≡ true → IsJudgedAt now
+    taken_then : k < client.taken → n.taken c ≤ k → (found : Option Fate) → fate_at made n name ≡ found → is_some found ≡ true → IsJudgedBy (with_entry log e)
     taken_then less least None is some = false_true false refl some
     taken_then less least (Some mine) is some =
         let has : HasFate plan now name mine = fate_so d n log e made (length log) plan recorded refl of_now name mine is (omega (arith, least)) in
-        let fated : IsFated book setup plan client k mine =
-        judged_at book setup plan client (made.calls c) (made.halts c) (n.taken c) k mine
-        (judged_among book setup plan client known (n.taken c) (deeds.calls c) (judged.takes client seated)) is in
+        let fated : IsFated book setup plan client takings k mine =
+        judged_at book setup plan client takings (made.calls c) (made.halts c) (n.taken c) k mine
+        (judged_among book setup plan client takings known (n.taken c) (deeds.calls c) (deeds.halts c) (judged.takes client seated)) is in
         record {
+          taking = fated.taking;
+          taken = taken_now setup plan log e name fated.taking fated.among;
           goes = λ route goes. fated.goes message route at (sym has.routed ∙ goes);
-          tells = λ payloads unrouted own. fated.tells message payloads at (sym has.own ∙ own);
+          tells = λ payloads unrouted own. fated.tells message payloads at (sym has.own ∙ sym own_now ∙ own);
         }
 
-    each : k < client.taken → IsJudgedAt now
+    each : k < client.taken → IsJudgedBy (with_entry log e)
     each less = by (nat_lt k (n.taken c)) refl where
       count_now : client.taken ≡ n.taken c + taken_by (made.calls c) (made.halts c)
       count_now = seated_of (λ (y : Client). y.taken ≡ (counts_with deeds n log e).taken y.number) new client seated counts.taken
 
-      by : (b : Bool) → nat_lt k (n.taken c) ≡ b → IsJudgedAt now
+      by : (b : Bool) → nat_lt k (n.taken c) ≡ b → IsJudgedBy (with_entry log e)
       by true early =
-          taken_before (ltb-true k (n.taken c) early)
+          taken_up_before (ltb-true k (n.taken c) early)
           (seated_of (λ (z : Client). WasThere plan old e z ⊎ HasCome old e z) (tale_step setup plan old e) client
           (subst (λ (tale : Tale). IsSeated tale client) (tale_more setup plan log e) seated)
           (all_were setup plan old e (is_tale_of setup plan log).counted))
@@ -330,8 +396,7 @@ module _ (service : Service) (log : Log) (e : Entry) (d : Decided) (n : Counts) 
           taken_then less least (fate_at made n name) refl
           (fate_there (made.calls c) (made.halts c) (suc (n.taken c)) (suc k) (omega (arith, least)) (omega (arith, less, count_now)))
 
-  pub judged_then : All (AreJudged book setup plan (length (with_entry log e))) new.clients
+  pub judged_then : All (AreJudged book setup plan (with_entry log e)) new.clients
   judged_then = λ i dflt within k message less at.
       let client : Client = slice_index_or new.clients i dflt in
-      subst (λ (moment : ℕ). IsJudged book (setup.accounts client.number).user plan moment (name_of client (suc k)) message.payload) (sym (one_more log e))
-      (each client (counted_seats new (is_tale_of setup plan (with_entry log e)).counted i dflt within) k message at less)
+      each client (counted_seats new (is_tale_of setup plan (with_entry log e)).counted i dflt within) k message at less

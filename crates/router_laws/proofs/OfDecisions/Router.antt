@@ -40,6 +40,7 @@ use Rattle.router_laws.specs.decisions.Speaks.{AreOurs}
 use Rattle.router_laws.specs.decisions.Deeds.{Counts, Deeds, among, counts_with, decided_with, known_with, no_counts}
 use Rattle.router_laws.specs.decisions.Records.{AreCountsOf, IsRecorded, first_deciding}
 use Rattle.router_laws.specs.decisions.Routers.{AreOpenJust, IsBefore, GoesSo, GoesSoBy, IsRouter, WaitsThen}
+use Rattle.run_laws.proofs.Telling.{first_tells}
 
 pub more_with : (d : Decided) (n : Counts) (log : Log) (e : Entry) (deeds : Deeds) → IsRecorded d n log
     → IsMoreBy (length log) d (decided_with deeds n log e d)
@@ -51,12 +52,15 @@ plan_before d n log e deeds plan recorded of =
     of_before d (decided_with deeds n log e d) (length log) plan (more_with d n log e deeds recorded)
     (subst (λ (k : ℕ). IsOf (decided_with deeds n log e d) k plan) (one_more log e) of)
 
-pub fits_before : (setup : Setup) (codes : Codes) (plan : Plan) (default : List ℕ) (log : Log) (e : Entry)
+pub fits_before : (d : Decided) (n : Counts) (log : Log) (e : Entry) (deeds : Deeds) (setup : Setup) (codes : Codes) (plan : Plan) (default : List ℕ)
+    → IsRecorded d n log
     → All (λ (client : Client). IsHeardMore (tale_of setup plan (with_entry log e)) client) (tale_of setup plan log).clients
-    → Fits setup codes plan default (tale_of setup plan (with_entry log e)) → Fits setup codes plan default (tale_of setup plan log)
-fits_before setup codes plan default log e heard fits = record {
+    → Fits (decided_with deeds n log e d).keys setup codes plan default (tale_of setup plan (with_entry log e))
+    → Fits d.keys setup codes plan default (tale_of setup plan log)
+fits_before d n log e deeds setup codes plan default recorded heard fits = record {
   classes = fits.classes;
-  apart = fits.apart;
+  named = fits.named;
+  keyed = λ k key was. fits.keyed k key ((more_with d n log e deeds recorded).keys k key was);
   who = all_before setup plan default (tale_of setup plan log) (tale_of setup plan (with_entry log e)) heard fits.who;
   single = fits.single;
 }
@@ -69,15 +73,16 @@ module _ (service : Service) (log : Log) (e : Entry) (deeds : Deeds) (t now : Ta
   new = decided_with deeds router.counts log e router.core.decided
 
   module _ (setup : Setup) (codes : Codes) (plan : Plan) (of : IsOf new (length (with_entry log e)) plan)
-      (fits : Fits setup codes plan service.default_schema (tale_of setup plan (with_entry log e))) where
+      (fits : Fits new.keys setup codes plan service.default_schema (tale_of setup plan (with_entry log e))) where
     so : GoesSo service.setup setup codes plan log e router.core.decided router.counts deeds t now roomy room
     so = goes setup codes plan of fits
 
     of_then : IsOf router.core.decided (length log) plan
     of_then = plan_before router.core.decided router.counts log e deeds plan router.recorded of
 
-    fits_then : Fits setup codes plan service.default_schema (tale_of setup plan log)
-    fits_then = fits_before setup codes plan service.default_schema log e so.goes.heard fits
+    fits_then : Fits router.core.decided.keys setup codes plan service.default_schema (tale_of setup plan log)
+    fits_then =
+        fits_before router.core.decided router.counts log e deeds setup codes plan service.default_schema router.recorded so.goes.heard fits
 
     rests_then : Rests service.setup (ground setup codes plan router.core.decided log) t roomy
     rests_then = router.core.rests setup codes plan of_then fits_then
@@ -103,7 +108,7 @@ module _ (service : Service) (log : Log) (e : Entry) (deeds : Deeds) (t now : Ta
   judged_now : JudgesBy (book_of service) service.default_schema new (with_entry log e)
   judged_now setup codes plan of fits =
       let then : IsOf router.core.decided (length log) plan = of_then setup codes plan of fits in
-      let fitted : Fits setup codes plan service.default_schema (tale_of setup plan log) = fits_then setup codes plan of fits in
+      let fitted : Fits router.core.decided.keys setup codes plan service.default_schema (tale_of setup plan log) = fits_then setup codes plan of fits in
       judged_then service log e router.core.decided router.counts deeds router.recorded setup plan of (router.counted setup codes plan then fitted)
       (counts_now setup codes plan of fits) (router.judged setup codes plan then fitted) (judges setup codes plan of fits)
 
@@ -123,13 +128,13 @@ module _ (service : Service) (log : Log) (e : Entry) (deeds : Deeds) (t now : Ta
 module _ (service : Service) (log : Log) (e : Entry) (t : Tabled) (roomy : ClientNo → Bool) (deeds : Deeds) (setup : Setup)
     (codes : Codes) (plan : Plan) (router : IsRouter service log t roomy) (may : MayFollow log e)
     (of : IsOf (decided_with deeds router.counts log e router.core.decided) (length (with_entry log e)) plan)
-    (fits : Fits setup codes plan service.default_schema (tale_of setup plan (with_entry log e)))
+    (fits : Fits (decided_with deeds router.counts log e router.core.decided).keys setup codes plan service.default_schema (tale_of setup plan (with_entry log e)))
     (heard : All (λ (client : Client). IsHeardMore (tale_of setup plan (with_entry log e)) client) (tale_of setup plan log).clients) where
   of_old : IsOf router.core.decided (length log) plan
   of_old = plan_before router.core.decided router.counts log e deeds plan router.recorded of
 
-  fits_old : Fits setup codes plan service.default_schema (tale_of setup plan log)
-  fits_old = fits_before setup codes plan service.default_schema log e heard fits
+  fits_old : Fits router.core.decided.keys setup codes plan service.default_schema (tale_of setup plan log)
+  fits_old = fits_before router.core.decided router.counts log e deeds setup codes plan service.default_schema router.recorded heard fits
 
   pub stood_before : IsBefore service log e t roomy router deeds setup codes plan
   stood_before = record {
@@ -197,7 +202,7 @@ first_safe : (setup : Setup) (plan : Plan) → IsSafe setup plan []
 first_safe setup plan = record {
   tested = tt;
   unbroken = refl;
-  runless = refl;
+  told = first_tells setup plan;
   said = λ l there. false_true false refl there;
   written = none_taken (WritesDue setup plan) (none_due setup plan);
 }
@@ -227,5 +232,5 @@ router_of_none service roomy stands = record {
   open_just = λ l. refl;
   spoken = first_spoken (rules_of service.rules) service.setup;
   waited = λ terms codes of fits. tt;
-  judged = λ setup codes plan of fits. All-nil (AreJudged (book_of service) setup plan 0);
+  judged = λ setup codes plan of fits. All-nil (AreJudged (book_of service) setup plan []);
 }

@@ -67,7 +67,7 @@ module _ (service : Service) (log : Log) (t now : Tabled) (roomy : ClientNo → 
   none_called : CallsNone deeds
   none_called = record { given = λ x. refl; none_taken = λ x. nothing (nat_eq c.0 x.0) }
 
-  module _ (setup : Setup) (codes : Codes) (plan : Plan) (of : IsOf new (length (with_entry log e)) plan) (fits : FitsThen setup codes plan service.default_schema log e) where
+  module _ (setup : Setup) (codes : Codes) (plan : Plan) (of : IsOf new (length (with_entry log e)) plan) (fits : FitsThen new.keys setup codes plan service.default_schema log e) where
     abbrev pub g : Ground
     g = ground setup codes plan router.core.decided log
 
@@ -107,15 +107,15 @@ module _ (service : Service) (log : Log) (t now : Tabled) (roomy : ClientNo → 
 
   abbrev pub GoesBy : Type 0
   GoesBy =
-      (setup : Setup) (codes : Codes) (plan : Plan) (of : IsOf new (length (with_entry log e)) plan) (fits : FitsThen setup codes plan service.default_schema log e)
+      (setup : Setup) (codes : Codes) (plan : Plan) (of : IsOf new (length (with_entry log e)) plan) (fits : FitsThen new.keys setup codes plan service.default_schema log e)
       → GoesOn service.setup setup codes plan log e router.core.decided new t now roomy roomy
 
   pub comes_routed : GoesBy → AreOpenJust (with_entry log e) now → IsRouter service (with_entry log e) now roomy
   comes_routed goes =
       router_goes_on service log e deeds t now roomy roomy router may
       (deciding.ours service log e t now roomy roomy router may c [] Resting last (All-nil (IsOurs (rules_of service.rules) c)) said_ours) (λ terms codes of fits. tt)
-      (judges_of_none service log e router.core.decided router.counts c Resting last) goes_so where
-        goes_so : (setup : Setup) (codes : Codes) (plan : Plan) → IsOf new (length (with_entry log e)) plan → FitsThen setup codes plan service.default_schema log e
+      (judges_of_none service log e router.core.decided router.counts c last) goes_so where
+        goes_so : (setup : Setup) (codes : Codes) (plan : Plan) → IsOf new (length (with_entry log e)) plan → FitsThen new.keys setup codes plan service.default_schema log e
             → GoesSo service.setup setup codes plan log e router.core.decided router.counts deeds t now roomy roomy
         goes_so setup codes plan of fits =
             let was : IsBefore service log e t roomy router deeds setup codes plan =

@@ -40,6 +40,7 @@ use Rattle.router_laws.specs.clients.Continues.{HasCome, WasThere}
 use Rattle.router_laws.specs.clients.Counted.{GoesTaking, TakesOne}
 use Rattle.router_laws.specs.clients.Finds.{GoesFinding}
 use Rattle.router_laws.specs.clients.Plans.{FitsThen, IsDecided, PlansEnd, PlansTurns, ends_of, nobody, over_by}
+use Rattle.router_promises.specs.Takings.{takings_at}
 use Rattle.router_laws.proofs.OfDecisions.Judging.{judged_by, judges_taking}
 use Rattle.router_laws.proofs.OfDecisions.Gathering.{all_still, over_then, silent_at}
 use Rattle.router_laws.proofs.OfDecisions.Keeping.{more_known, recorded_then}
@@ -134,7 +135,7 @@ module _ (service : Service) (log : Log) (e : Entry) (t now : Tabled) (roomy roo
   alone : AreAlone deeds
   alone = ours_alone (rules_of service.rules) deeds ours
 
-  module _ (setup : Setup) (codes : Codes) (plan : Plan) (of : IsOf new (length (with_entry log e)) plan) (fits : FitsThen setup codes plan service.default_schema log e) where
+  module _ (setup : Setup) (codes : Codes) (plan : Plan) (of : IsOf new (length (with_entry log e)) plan) (fits : FitsThen new.keys setup codes plan service.default_schema log e) where
     abbrev pub g : Ground
     g = ground setup codes plan d log
 
@@ -305,13 +306,13 @@ module _ (service : Service) (log : Log) (e : Entry) (t now : Tabled) (roomy roo
 
   abbrev pub GoesBy : Type 0
   GoesBy =
-      (setup : Setup) (codes : Codes) (plan : Plan) (of : IsOf new (length (with_entry log e)) plan) (fits : FitsThen setup codes plan service.default_schema log e)
+      (setup : Setup) (codes : Codes) (plan : Plan) (of : IsOf new (length (with_entry log e)) plan) (fits : FitsThen new.keys setup codes plan service.default_schema log e)
       → GoesTaking service.setup setup codes plan log e d new t now roomy room c (taken_by choices halt)
 
   pub goes_router : WaitsThen service log e router.core.decided → JudgesThen service log e router.core.decided router.counts deeds → GoesBy → ((tale : Tale) (x : tales.Client) → HasCome tale e x → ⊥) → ((setup : Setup) (tale : Tale) → BeginsSo setup tale e deeds)
       → AreOpenJust (with_entry log e) now → IsRouter service (with_entry log e) now room
   goes_router waits judges goes uncome begins = router_goes_on service log e deeds t now roomy room router may ours waits judges goes_so where
-    goes_so : (setup : Setup) (codes : Codes) (plan : Plan) → IsOf new (length (with_entry log e)) plan → FitsThen setup codes plan service.default_schema log e
+    goes_so : (setup : Setup) (codes : Codes) (plan : Plan) → IsOf new (length (with_entry log e)) plan → FitsThen new.keys setup codes plan service.default_schema log e
         → GoesSo service.setup setup codes plan log e d router.counts deeds t now roomy room
     goes_so setup codes plan of fits =
         let taking_it : GoesTaking service.setup setup codes plan log e d new t now roomy room c (taken_by choices halt) = goes setup codes plan of fits in
@@ -333,7 +334,7 @@ module _ (service : Service) (log : Log) (e : Entry) (t now : Tabled) (roomy roo
     abbrev pub FindsBy : Type 0
     FindsBy =
         (setup : Setup) (codes : Codes) (plan : Plan) (of : IsOf new (length (with_entry log e)) plan)
-        (fits : FitsThen setup codes plan service.default_schema log e) → Finds setup codes plan
+        (fits : FitsThen new.keys setup codes plan service.default_schema log e) → Finds setup codes plan
 
     pub finds_router : WaitsThen service log e router.core.decided → FindsBy → ((tale : Tale) (x : tales.Client) → HasCome tale e x → ⊥)
         → ((setup : Setup) (tale : Tale) → BeginsSo setup tale e deeds) → AreOpenJust (with_entry log e) now → IsRouter service (with_entry log e) now room
@@ -343,10 +344,11 @@ module _ (service : Service) (log : Log) (e : Entry) (t now : Tabled) (roomy roo
           subst (λ (k : ℕ). GoesTaking service.setup setup codes plan log e d new t now roomy room c k) (count_alike choices halt)
           (finds setup codes plan of fits).so.goes
 
-      judged : (setup : Setup) (codes : Codes) (plan : Plan) → IsOf new (length (with_entry log e)) plan → FitsThen setup codes plan service.default_schema log e
+      judged : (setup : Setup) (codes : Codes) (plan : Plan) → IsOf new (length (with_entry log e)) plan → FitsThen new.keys setup codes plan service.default_schema log e
           → (client : tales.Client) → IsSeated (tale_of setup plan (with_entry log e)) client → client.number ≡ c
-          → JudgedFrom (book_of service) setup plan client (router.counts.taken c) choices
+          → JudgedFrom (book_of service) setup plan client (takings_at setup plan (tale_of setup plan log) e) (router.counts.taken c) choices halt
       judged setup codes plan of fits client seated number =
-          judged_by (book_of service) setup plan client (router.counts.taken c) choices halt service.setup service.default_schema c number mid turned turns
+          judged_by (book_of service) setup plan client (takings_at setup plan (tale_of setup plan log) e) (router.counts.taken c) choices halt service.setup
+          service.default_schema c number mid turned turns
           ((finds setup codes plan of fits).so.finds (before setup codes plan of fits).rests (router.counts.taken c) (finds setup codes plan of fits).next
           client seated number) ruled

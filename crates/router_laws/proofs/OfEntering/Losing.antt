@@ -55,14 +55,14 @@ use Rattle.router_laws.specs.entering.Rooms.{OthersLack}
 
 abbrev Again : Type 0
 Again = (service : Serving) (default : List ℕ) (setup : Setup) (codes : Codes) (plan : Plan) (log : Log) (e : Entry) (old new : Decided)
-    (t now : Tabled) (roomy : ClientNo → Bool) (link : LinkId) (c : ClientNo) → FitsThen setup codes plan default log e → IsLossOf link e
+    (t now : Tabled) (roomy : ClientNo → Bool) (link : LinkId) (c : ClientNo) → FitsThen new.keys setup codes plan default log e → IsLossOf link e
     → IsSafe setup plan log → IsDecided (ground setup codes plan old log) nobody (over_by new) → LeavesAgain link c t now
     → GoesTaking service setup codes plan log e old new t now roomy roomy c 0
 
 abbrev AtOnce : Type 0
 AtOnce = (service : Serving) (default : List ℕ) (setup : Setup) (codes : Codes) (plan : Plan) (log : Log) (e : Entry) (old new : Decided)
     (t now : Tabled) (roomy room : ClientNo → Bool) (link : LinkId) (c : ClientNo) (links : List LinkId)
-    → FitsThen setup codes plan default log e → IsLossOf link e → IsSafe setup plan log
+    → FitsThen new.keys setup codes plan default log e → IsLossOf link e → IsSafe setup plan log
     → PlansEnd (ground setup codes plan old log) log c (over_by new) → LeavesAtOnce link links c roomy t now
     → ((other : ClientNo) → is_client c other ≡ false → room other ≡ false → roomy other ≡ false)
     → GoesTaking service setup codes plan log e old new t now roomy room c 0
@@ -70,7 +70,7 @@ AtOnce = (service : Serving) (default : List ℕ) (setup : Setup) (codes : Codes
 abbrev Going : Type 0
 Going = (service : Serving) (default : List ℕ) (setup : Setup) (codes : Codes) (plan : Plan) (log : Log) (e : Entry) (old new : Decided)
     (t now : Tabled) (roomy room : ClientNo → Bool) (link : LinkId) (c : ClientNo) (links : List LinkId) (ordinal : ℕ) (choices : List Choice)
-    (halt : Halt) (parting : Parting) → FitsThen setup codes plan default log e → IsLossOf link e → IsSafe setup plan log
+    (halt : Halt) (parting : Parting) → FitsThen new.keys setup codes plan default log e → IsLossOf link e → IsSafe setup plan log
     → PlansTurns service (ground setup codes plan old log) log c ordinal choices halt parting (over_by new)
     → (so : LeavesGoing service default link links ordinal choices halt parting c t now)
     → ((other : ClientNo) → is_client c other ≡ false → room other ≡ false → roomy other ≡ false)
@@ -91,7 +91,7 @@ pub again_routed : Again → (service : Service) (log : Log) (e : Entry) (t now 
     → IsRouter service (with_entry log e) now roomy
 again_routed law service log e t now roomy link c router may lost so =
     deciding.goes_router service log e t now roomy roomy router may c [] Resting None (All-nil (IsOurs (rules_of service.rules) c)) tt (loss_waits service log e link router.core.decided lost)
-    (judges_of_none service log e router.core.decided router.counts c Resting None)
+    (judges_of_none service log e router.core.decided router.counts c None)
     (λ setup codes plan of fits.
     let was = deciding.before service log e t now roomy roomy router may c [] Resting None (All-nil (IsOurs (rules_of service.rules) c)) tt setup codes plan of fits in
     law service.setup service.default_schema setup codes plan log e router.core.decided
@@ -105,7 +105,7 @@ pub at_once_routed : AtOnce → (service : Service) (log : Log) (e : Entry) (t n
     → LeavesAtOnce link links c roomy t now → OthersLack c roomy room → IsRouter service (with_entry log e) now room
 at_once_routed law service log e t now roomy room link c links router may lost so others =
     deciding.goes_router service log e t now roomy room router may c [] Resting (Some None) (All-nil (IsOurs (rules_of service.rules) c)) tt (loss_waits service log e link router.core.decided lost)
-    (judges_of_none service log e router.core.decided router.counts c Resting (Some None))
+    (judges_of_none service log e router.core.decided router.counts c (Some None))
     (λ setup codes plan of fits.
     let was = deciding.before service log e t now roomy room router may c [] Resting (Some None) (All-nil (IsOurs (rules_of service.rules) c)) tt setup codes plan of fits in
     let g : Ground = ground setup codes plan router.core.decided log in

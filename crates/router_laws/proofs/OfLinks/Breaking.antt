@@ -1,11 +1,10 @@
 -- A link to a server is lost: what its entry makes of the tale, and leaves of others.
-use Rattle.std.specs.Prelude.{◌≡◌, ℕ, suc, Bool, true, false, ◌||◌, All, slice_index_or, List, Option, Some, None}
+use Rattle.std.specs.Prelude.{◌≡◌, ℕ, suc, Bool, true, false, ◌||◌, All, nat_eq, slice_index_or, List, Option, Some, None}
 use Rattle.std.specs.Option.{option_map_or}
 use Rattle.std.proofs.Common.{refl, sym, ap, ◌∙◌, subst, arith}
 use Rattle.std.proofs.lemmas.Bool.{false≢true, true≢false}
 use Rattle.std.proofs.lemmas.List.Elements.{All-weaker}
 use Rattle.mx_wire.specs.declared.entry.Entry.{Entry}
-use Rattle.mx_wire.specs.declared.entry.Entry.TheVariants as entry
 use Rattle.client_session.specs.Setups.{Setup as Service}
 use Rattle.private_model.proofs.Maps.{client_of, link_of}
 use Rattle.private_model.specs.Names.{ClientNo, LinkId, SessionName}
@@ -28,7 +27,7 @@ use Rattle.core_tables.specs.Tables.{Tabled}
 use Rattle.core_tables.specs.declared.server.Server.{Server}
 use Rattle.core_stands.specs.Grounds.{Ground, on, view_on}
 use Rattle.core_stands.specs.Stands.{IsAt, Rests, Stands}
-use Rattle.core_laws.proofs.OfParting.Carrying.{row_carries}
+use Rattle.core_laws.proofs.OfParting.Named.{row_carries}
 use Rattle.core_laws.proofs.OfParting.Forgetting.{server_there}
 use Rattle.core_laws.proofs.OfWriting.Knowing.{is_servers}
 use Rattle.core_laws.proofs.OfEntry.Uneventful.{Testing, not_called}
@@ -36,6 +35,7 @@ use Rattle.core_laws.specs.entry.Calms.{IsAside, IsLostOf}
 use Rattle.core_laws.specs.entry.Entries.{AreSpared, IsSpared, TellsOf}
 use Rattle.core_laws.proofs.OfLinks.Lost.{lost_as}
 use Rattle.router_laws.specs.clients.Behind.{IsOffServers}
+use Rattle.router_laws.proofs.OfReading.Lent.{IsLentElsewhere}
 use Rattle.router_laws.proofs.OfLinks.Closings.{gone_tale}
 use Rattle.router_laws.proofs.OfLinks.Going.{IsPlain}
 use Rattle.router_laws.proofs.OfLinks.Rowing.{gone_undone}
@@ -89,11 +89,12 @@ module _ (service : Service) (g : Ground) (t : Tabled) (roomy : ClientNo → Boo
 
   -- no link is given back
 
-  module _ (testing : Testing service) (stands : Stands service (on g later) (given_up_in given (lost_in l t))) where
+  module _ (testing : Testing service) (stands : Stands service (on g later) (given_up_in given (lost_in l t)))
+      (aside : (x : LinkId) → nat_eq l.0 x.0 ≡ false → IsLentElsewhere t given x) where
     pub undone : NoneDone g.setup g.plan later
     undone x server_there =
         testing (on g later) (given_up_in given (lost_in l t)) x stands server_there
-        ∙ gone_undone service g t l given rests.stands x (sym (testing g t x rests.stands server_there) ∙ rests.rested x server_there)
+        ∙ gone_undone service g t l given rests.stands aside x (sym (testing g t x rests.stands server_there) ∙ rests.rested x server_there)
 
     pub first : links_are_freed g.setup g.plan (told_then g.setup g.plan g.tale e) ≡ later
     first =

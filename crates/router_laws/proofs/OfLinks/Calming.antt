@@ -26,7 +26,7 @@ use Rattle.router_laws.proofs.OfDecisions.Gathering.{over_then, silent_at, uneve
 use Rattle.router_laws.proofs.OfDecisions.Keeping.{recorded_then}
 use Rattle.router_laws.proofs.OfDecisions.Listing.{is_tale_of}
 use Rattle.router_laws.proofs.OfDecisions.Recording.{one_more}
-use Rattle.router_laws.proofs.OfDecisions.Judging.{judges_none, none_taken}
+use Rattle.router_laws.proofs.OfDecisions.Judging.{judges_none}
 use Rattle.router_laws.proofs.OfDecisions.Router.{router_goes_on, stood_before}
 use Rattle.router_laws.proofs.OfDecisions.Tallying.{counts_then}
 use Rattle.router_laws.proofs.OfDecisions.Working.{none_given}
@@ -67,7 +67,7 @@ module _ (service : Service) (log : Log) (e : Entry) (deeds : Deeds) (t now : Ta
     pub begins : BeginsSo setup (tale_of setup plan log) e deeds
 
   module _ (setup : Setup) (codes : Codes) (plan : Plan) (of : IsOf new (length (with_entry log e)) plan)
-      (fits : Fits setup codes plan service.default_schema (tale_of setup plan (with_entry log e))) where
+      (fits : Fits new.keys setup codes plan service.default_schema (tale_of setup plan (with_entry log e))) where
     abbrev g : Ground
     g = ground setup codes plan d log
 
@@ -114,5 +114,5 @@ module _ (service : Service) (log : Log) (e : Entry) (deeds : Deeds) (t now : Ta
       → IsRouter service (with_entry log e) now room
   calm_router makes rows =
       router_goes_on service log e deeds t now roomy room router may (idle.ours (rules_of service.rules)) waits
-      (judges_none service log e d router.counts deeds (λ c. none_taken (deeds.calls c) (deeds.halts c) (idle.takes c)) idle.none.given)
+      (judges_none service log e d router.counts deeds idle.takes idle.none.given)
       (λ setup codes plan of fits. goes_so setup codes plan of fits (makes setup codes plan (known setup codes plan of fits))) rows

@@ -2,7 +2,7 @@
 use Rattle.std.specs.Prelude.{◌≡◌, ◌<◌, ℕ, suc, Bool, true, false, not, ◌&&◌, ◌||◌, All, is_some, nat_eq, if◌then◌else◌, List, [], ◌∷◌, filter, Option, Some, None}
 use Rattle.std.specs.Option.{option_map, option_map_or}
 use Rattle.std.proofs.Common.{refl, sym, ap, ◌∙◌, subst, arith}
-use Rattle.std.proofs.lemmas.Bool.{true≢false}
+use Rattle.std.proofs.lemmas.Bool.{false≢true, true≢false}
 use Rattle.std.proofs.lemmas.List.Elements.{All-weaker}
 use Rattle.mx_wire.specs.Log.{Log}
 use Rattle.mx_wire.specs.declared.entry.Entry.{Entry}
@@ -38,7 +38,6 @@ use Rattle.core_laws.proofs.OfEntry.Uneventful.{Testing, given_same, nobody_give
 use Rattle.core_laws.specs.entry.Calms.{IsLostOf}
 use Rattle.core_laws.specs.entry.Entries.{AreCalmToo, AreSpared, IsOfNobody, IsSpared, behind}
 use Rattle.core_laws.specs.entry.Kinds.{IsStill}
-use Rattle.core_laws.specs.entry.Safe.{has_runs}
 use Rattle.core_laws.proofs.OfClients.Facts.{waits_so}
 use Rattle.core_laws.specs.clients.Turns.{waits_at}
 use Rattle.router_laws.specs.clients.Behind.{IsDueBehind, IsEntered}
@@ -89,7 +88,7 @@ module _ (service : Service) (testing : Testing service) (sames : Sames service)
   undone : NoneDone g.setup g.plan later
   undone x there =
       testing (on g later) (closed t l) x stands there
-      ∙ forgotten_undone service g t l nobody_given rests.stands x (sym (testing g t x rests.stands there) ∙ rests.rested x there)
+      ∙ forgotten_undone service g t l nobody_given rests.stands (λ other apart c row work some at home. false≢true some) x (sym (testing g t x rests.stands there) ∙ rests.rested x there)
 
   not_called_then : (x : tales.Client) → IsStill g x → is_called g.plan later.moment (view_on g) e x ≡ false
   not_called_then x still = not_called g.plan later.moment (view_on g) e x refl (still.keeps x.taken (omega arith))
@@ -177,9 +176,6 @@ module _ (service : Service) (testing : Testing service) (sames : Sames service)
 
   pub closed_clients : (tale_step g.setup g.plan g.tale e).clients ≡ g.tale.clients
   closed_clients = ap (λ (tale : Tale). tale.clients) step_is
-
-  pub closed_runs : has_runs (tale_step g.setup g.plan g.tale e).story ≡ has_runs g.tale.story
-  closed_runs = ap (λ (tale : Tale). has_runs tale.story) step_is
 
 pub closing_due : (g : Ground) (log : Log) (l : LinkId) (over : ClientNo → Bool) (now : Tabled) → IsDueBehind g log (entry.Closed l) nobody over now
 closing_due g log l over now =

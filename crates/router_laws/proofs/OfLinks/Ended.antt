@@ -51,11 +51,12 @@ use Rattle.router_laws.proofs.OfClients.Leaving.{all_theirs, left_but, theirs}
 use Rattle.router_laws.proofs.OfClients.Losing.{Alike, Ends, Frees}
 use Rattle.router_laws.proofs.OfLinks.Answering.{answering, done_less, front_then, now_alike, own, then_alike, then_answered, then_more}
 use Rattle.router_laws.proofs.OfLinks.Closings.{gone_tale}
-use Rattle.router_laws.proofs.OfLinks.Giving.{given_up_with}
+use Rattle.router_laws.proofs.OfLinks.Giving.{given_aside, given_up_with}
 use Rattle.router_laws.proofs.OfLinks.Leaving.{losing_so, present_row}
 use Rattle.router_laws.proofs.OfLinks.Rowing.{gone_undone}
 use Rattle.router_laws.proofs.OfLinks.Supposing.{row_alike, stands_alike}
 use Rattle.router_laws.specs.clients.Speaks.{IsLinkOf}
+use Rattle.router_laws.proofs.OfReading.Unsound.{lent_there}
 use Rattle.router_laws.specs.links.Loses.{GoesWithIt, IsGivenUpWith, LosesEnded}
 
 -- The laws by which it goes.
@@ -179,7 +180,13 @@ module _ (laws : Laws) (service : Service) (g : Ground) (t now : Tabled) (roomy 
       (λ i. (session_of (sym row i).desk (hostgroup i)).home) ∙ its.2
 
   may : IsGivenUpWith l c t
-  may = record { row = so.row; work = so.work; at_work = so.at_work; aside = inr at_home }
+  may = record {
+    row = so.row;
+    work = so.work;
+    at_work = so.at_work;
+    aside = inr at_home;
+    lent = lent_there l t so.row so.work at_home;
+  }
 
   name_so : (n : SessionName) → present_in l t ≡ Some n → n ≡ so.name
   name_so n at = same_Some n so.name (sym at ∙ so.carries)
@@ -247,7 +254,7 @@ module _ (laws : Laws) (service : Service) (g : Ground) (t now : Tabled) (roomy 
   undone_h : NoneDone h.setup h.plan later
   undone_h x there =
       laws.tests service (on h later) mid x lost_h there
-      ∙ gone_undone service g t l given rests.stands x (sym (laws.tests service g t x rests.stands there) ∙ rests.rested x there)
+      ∙ gone_undone service g t l given rests.stands (given_aside l (Some up) t may) x (sym (laws.tests service g t x rests.stands there) ∙ rests.rested x there)
 
   pub undone : NoneDone g.setup g.plan later
   undone x there =

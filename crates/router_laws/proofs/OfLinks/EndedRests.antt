@@ -1,4 +1,4 @@
--- Behind a loss of a link with which its client ends the tables rest, no run became due, and no message was taken up.
+-- Behind a loss of a link with which its client ends the tables rest, and no message was taken up.
 use Rattle.std.specs.Prelude.{◌≡◌, suc, Bool, true, false, ◌&&◌, ◌||◌, not, All, is_some, length, if◌then◌else◌, List, [], ◌∷◌, Some, None}
 use Rattle.std.proofs.Common.{refl, sym, ap, ◌∙◌, subst, arith, inl}
 use Rattle.std.proofs.lemmas.Bool.{true≢false}
@@ -40,13 +40,11 @@ use Rattle.core_laws.proofs.OfEntry.Composing.{rest_of_one}
 use Rattle.core_laws.proofs.OfEntry.Lists.{seated_of}
 use Rattle.core_laws.proofs.OfEntry.Uneventful.{nobody_given}
 use Rattle.core_laws.proofs.OfParting.Redesking.{IsPresent, present_so}
-use Rattle.core_laws.proofs.OfClients.Following.{freed_runs}
 use Rattle.core_laws.proofs.OfClients.Keeping.{keeps_all_freed, keeps_same}
 use Rattle.core_laws.specs.clients.Keeps.{KeepsRows}
 use Rattle.core_laws.specs.entry.Entries.{behind}
 use Rattle.core_laws.specs.entry.Freeing.{all_freed}
 use Rattle.core_laws.specs.entry.Kinds.{IsStill}
-use Rattle.core_laws.specs.entry.Safe.{has_runs}
 use Rattle.core_laws.specs.entry.Tells.{ground}
 use Rattle.router_laws.proofs.OfClients.Counting.{takes_none}
 use Rattle.router_laws.proofs.OfClients.Duing.{moment_more}
@@ -199,9 +197,6 @@ module _ (laws : Laws) (service : Service) (g : Ground) (t now : Tabled) (roomy 
   clients_same : (tale_step g.setup g.plan g.tale e).clients ≡ g.tale.clients
   clients_same = ap (λ (tale : Tale). tale.clients) step_is ∙ kept_in g.setup g.plan (λ (tale : Tale). tale.clients) (λ story tale. refl) links left
 
-  runless : has_runs g.tale.story ≡ false → has_runs (behind g e over).tale.story ≡ false
-  runless none = ap (λ (tale : Tale). has_runs tale.story) step_is ∙ freed_runs g.setup g.plan links left ∙ none
-
   -- What is due behind it.
 
   plain : IsPlain g.tale e
@@ -242,7 +237,6 @@ ended_goes laws service setup codes plan log l how old new t now roomy client li
       goes = entered_goes_on service setup codes plan log (entry_by how l) old new t now roomy roomy (ends_of client.number true) decided (record {
         rests = λ again. rests_behind laws service g t now roomy rests l how client seated links so log (over_by new) decided wordless single rising;
         due = λ again. due laws service g t now roomy rests l how client seated links so log (over_by new) decided wordless single rising;
-        runless = λ again. runless laws service g t now roomy rests l how client seated links so log (over_by new) decided wordless single rising;
         off = λ again. lost_off g.tale how l;
       });
       takes = λ again.

@@ -89,6 +89,6 @@ module _ (laws : Laws) (service : Service) (log : Log) (t now : Tabled) (roomy :
   pub ended_routed : IsRouter service (with_entry log e) now roomy
   ended_routed =
       deciding.goes_router service log e t now roomy roomy router may c [] Resting (Some None) (All-nil (IsOurs (rules_of service.rules) c)) tt (break_waits service log how l router.core.decided)
-      (judges_of_none service log e router.core.decided router.counts c Resting (Some None)) goes
+      (judges_of_none service log e router.core.decided router.counts c (Some None)) goes
       (λ tale x come. (lost_plain tale how l).comes x come) (λ setup tale. lost_begins setup tale how l _)
       (loses_open log t now how l router.open_just (ended_keeps l c links t now so))

@@ -20,7 +20,10 @@ use Rattle.core_laws.specs.parting.Frames.{client_at}
 use Rattle.core_laws.specs.parting.Partings.{AreGivenUp, is_sound}
 use Rattle.core_laws.specs.clients.Going.{GivenUp, told_to}
 use Rattle.router_laws.proofs.OfReading.Unsound.{IsSentTo, sent_so, whole_so}
+use Rattle.core_laws.proofs.OfWriting.Framing.{flipped}
+use Rattle.router_laws.proofs.OfReading.Lent.{IsLentElsewhere, lent_elsewhere}
 use Rattle.router_laws.specs.links.Loses.{IsGivenUpWith, MayGiveUpWith}
+use Rattle.router_laws.specs.reading.Givings.{IsLentBut}
 
 pub none_given_up : (excepted : LinkId → Bool) (t : Tabled) → AreGivenUp nobody_given excepted t
 none_given_up excepted t = record {
@@ -72,3 +75,13 @@ given_up_with service g t l given stands may = record {
   in_work = λ c payload is. let its = may_each l given t may c (ap is_some is) in (its.row, its.work, its.at_work);
   aside = λ c other server some there apart its. unsound service g t stands l c (may_each l given t may c some) other server there apart its;
 }
+
+-- No other link is lent to its session.
+pub given_aside : (l : LinkId) (given : Option GivenUp) (t : Tabled) → MayGiveUpWith l given t → (x : LinkId) → nat_eq l.0 x.0 ≡ false
+    → IsLentElsewhere t (told_to given) x
+given_aside l given t may x apart c row work some at home =
+    let its : IsGivenUpWith l c t = may_each l given t may c some in
+    let row_is : its.row ≡ row = same_Some its.row row (sym its.at_work.there ∙ at.there) in
+    let work_is : its.work ≡ work = same_Some its.work work (sym its.at_work.in_work ∙ ap (λ (r : Client). r.desk.work) row_is ∙ at.in_work) in
+    lent_elsewhere l x t row work (flipped l.0 x.0 apart)
+    (subst (λ (w : Work). IsLentBut l t row w) work_is (subst (λ (r : Client). IsLentBut l t r its.work) row_is its.lent)) home

@@ -49,7 +49,7 @@ module _ (service : Service) (setup : Setup) (codes : Codes) (plan : Plan) (log 
 
   module _ (decided : IsDecided g whose (over_by new)) (rested : Rests service g t roomy → Rests service (behind g e (over_by new)) now room)
       (due : Rests service g t roomy → IsDueBehind g log e whose (over_by new) now)
-      (safely : Rests service g t roomy → Stands service (behind g e (over_by new)) now → IsSafe setup plan log → IsSafely setup plan log e now) where
+      (safely : Rests service g t roomy → Stands service (behind g e (over_by new)) now → IsSafely setup plan log e now) where
     wordless : (client : Client) → over_by new client.number ≡ false → word_at plan with.tale.moment client.number ≡ None
     wordless client going =
         ap (λ (n : ℕ). word_at plan n client.number)
@@ -69,7 +69,7 @@ module _ (service : Service) (setup : Setup) (codes : Codes) (plan : Plan) (log 
               subst (λ (x : Ground). AreWrittenTo x (with_entry log e)) (sym same)
               (written_behind service g t now roomy log e whose (over_by new) rests (rested rests).stands decided (due rests) to);
           safe = λ rests behind_it to safe.
-              log_goes_on service setup codes plan new log e now safe (safely rests (rested rests).stands safe) behind_it.stands silent to;
+              log_goes_on service setup codes plan new log e now safe (safely rests (rested rests).stands) behind_it.stands silent to;
         }
 
 -- It neither reads nor writes, nobody comes, and nobody is ended.

@@ -23,6 +23,7 @@ use Rattle.core_laws.proofs.OfEntry.Lists.{seated_of}
 use Rattle.core_laws.specs.entry.Cores.{with_entry}
 use Rattle.core_laws.specs.entry.Tells.{Fits, IsOf, ground}
 use Rattle.core_laws.specs.clients.Going.{GivenUp, Going}
+use Rattle.router_promises.specs.Takings.{Taking, takings_at}
 use Rattle.router_laws.specs.clients.Continues.{HasCome, WasThere}
 use Rattle.router_laws.specs.decisions.Judges.{JudgedFrom, JudgesThen}
 use Rattle.router_laws.specs.decisions.Deeds.{decided_with}
@@ -52,7 +53,7 @@ module _ (laws : Laws) (judges : FollowsJudge) (service : Service) (log : Log) (
   module _ (it : Going) (so : LosesSo service.setup service.default_schema l given (Some it) t now) (tells : TellsSo (Some it) service.setup)
       (ruled : IsRuledOn book (Some it) service.setup service.default_schema so.lost now so.goes) (setup : Setup) (codes : Codes) (plan : Plan)
       (of : IsOf (decided_with (deeds_of given (Some it)) router.counts log e router.core.decided) (length (with_entry log e)) plan)
-      (fits : Fits setup codes plan service.default_schema (tale_of setup plan (with_entry log e))) where
+      (fits : Fits (decided_with (deeds_of given (Some it)) router.counts log e router.core.decided).keys setup codes plan service.default_schema (tale_of setup plan (with_entry log e))) where
     abbrev g : Ground
     g = ground setup codes plan router.core.decided log
 
@@ -71,28 +72,33 @@ module _ (laws : Laws) (judges : FollowsJudge) (service : Service) (log : Log) (
     number : x.number ≡ it.client
     number = somebody.number laws.losses service.setup service.default_schema g log t now roomy l how given it before.rests is so
 
-    judged : JudgedFrom book setup plan x x.taken it.choices
+    abbrev takings : List Taking
+    takings = takings_at setup plan g.tale e
+
+    judged : JudgedFrom book setup plan x takings x.taken it.choices it.halt
     judged =
         judges book service.setup service.default_schema g so.lost so.goes.turned g.fresh e x
         (losses.later laws.losses service.setup service.default_schema g log t now roomy l how given (Some it) before.rests is so)
         it.choices it.halt it.parting it.client number
         (somebody.following laws.losses service.setup service.default_schema g log t now roomy l how given it before.rests is so)
         (losses.lost_stands laws.losses service.setup service.default_schema g log t now roomy l how given (Some it) before.rests is so)
-        so.goes.turns ruled
+        fits.single so.goes.turns ruled
 
     plain : IsPlain g.tale e
     plain = lost_plain g.tale how l
 
     by_was : (y : tales.Client) → WasThere plan g.tale e y ⊎ HasCome g.tale e y
-        → JudgedFrom book setup plan y (router.counts.taken y.number) ((deeds_of given (Some it)).calls y.number)
+        → JudgedFrom book setup plan y takings (router.counts.taken y.number) ((deeds_of given (Some it)).calls y.number)
+        ((deeds_of given (Some it)).halts y.number)
     by_was y (inr come) = absurd (plain.comes y come)
     by_was y (inl was) =
         one_judged book setup plan g.tale e router.counts.taken before.counts.taken given it x
-        (somebody.seated laws.losses service.setup service.default_schema g log t now roomy l how given it before.rests is so) number judged y was.was
+        (somebody.seated laws.losses service.setup service.default_schema g log t now roomy l how given it before.rests is so) number takings judged y was.was
         was.seated was.continued (plain.reads was.was.link)
 
     one_judges : (y : tales.Client) → IsSeated (tale_of setup plan (with_entry log e)) y
-        → JudgedFrom book setup plan y (router.counts.taken y.number) ((deeds_of given (Some it)).calls y.number)
+        → JudgedFrom book setup plan y takings (router.counts.taken y.number) ((deeds_of given (Some it)).calls y.number)
+        ((deeds_of given (Some it)).halts y.number)
     one_judges y seated =
         by_was y
         (seated_of (λ (z : tales.Client). WasThere plan g.tale e z ⊎ HasCome g.tale e z) last y

@@ -44,12 +44,12 @@ use Rattle.core_laws.specs.entry.Cores.{GoesOn, IsSafely, with_entry}
 use Rattle.core_laws.specs.entry.Dues.{AreSilent, AreWrittenTo, EndsSaying, IsSaidLast}
 use Rattle.core_laws.specs.entry.Entries.{behind}
 use Rattle.core_laws.specs.entry.Grows.{IsHeardMore}
-use Rattle.core_laws.specs.entry.Safe.{IsSafe, has_runs}
+use Rattle.core_laws.specs.entry.Safe.{IsSafe}
 use Rattle.core_laws.specs.entry.Speaks.{IsSilentOrSpoken}
 use Rattle.core_laws.specs.entry.Tells.{Fits, IsOf, ground}
 use Rattle.router_laws.proofs.OfClients.Continuing.{all_were}
 use Rattle.router_laws.proofs.OfClients.Duing.{moment_more, written_with}
-use Rattle.router_laws.proofs.OfClients.Entering.{heard_always, off_spoken, with_is}
+use Rattle.router_laws.proofs.OfClients.Entering.{heard_always, off_gets, off_spoken, with_is}
 use Rattle.router_laws.proofs.OfClients.Linking.{unwritten}
 use Rattle.router_laws.specs.clients.Behind.{IsDueBehind}
 use Rattle.router_laws.specs.clients.Continues.{HasCome, IsContinued, WasThere}
@@ -98,7 +98,7 @@ pub record Laws : Type 0 where
   pub stood : (service : Service) (log : Log) (e : Entry) (t : Tabled) (roomy : ClientNo → Bool) (deeds : Deeds)
       (setup : Setup) (codes : Codes) (plan : Plan) → (router : IsRouter service log t roomy) → MayFollow log e
       → IsOf (decided_with deeds router.counts log e router.core.decided) (length (with_entry log e)) plan
-      → Fits setup codes plan service.default_schema (tale_of setup plan (with_entry log e))
+      → Fits (decided_with deeds router.counts log e router.core.decided).keys setup codes plan service.default_schema (tale_of setup plan (with_entry log e))
       → All (λ (client : tales.Client). IsHeardMore (tale_of setup plan (with_entry log e)) client) (tale_of setup plan log).clients
       → IsBefore service log e t roomy router deeds setup codes plan
   pub rise : (setup : Setup) (plan : Plan) (log : Log) → AllLawful MayFollow log → Ascend (λ l. l.0) (tale_of setup plan log).links
@@ -159,7 +159,7 @@ module _ (laws : Laws) (service : Service) (log : Log) (t now : Tabled) (roomy :
     (given : Option GivenUp) (going : Option Going) (router : IsRouter service log t roomy) (follow : MayFollow log (entry_by how l))
     (so : LosesSo service.setup service.default_schema l given going t now) (tells : TellsSo going service.setup) (setup : Setup) (codes : Codes) (plan : Plan)
     (of : IsOf (decided_with (deeds_of given going) router.counts log (entry_by how l) router.core.decided) (length (with_entry log (entry_by how l))) plan)
-    (fits : Fits setup codes plan service.default_schema (tale_of setup plan (with_entry log (entry_by how l)))) where
+    (fits : Fits (decided_with (deeds_of given going) router.counts log (entry_by how l) router.core.decided).keys setup codes plan service.default_schema (tale_of setup plan (with_entry log (entry_by how l)))) where
   abbrev e : Entry
   e = entry_by how l
 
@@ -299,10 +299,10 @@ module _ (laws : Laws) (service : Service) (log : Log) (t now : Tabled) (roomy :
 
   -- it is safe
 
-  safely : has_runs g.tale.story ≡ false → IsSafely setup plan log e now
-  safely none = record {
+  safely : IsSafely setup plan log e now
+  safely = record {
     passes = lost_passes setup plan g.tale how l;
-    runless = ap (λ (x : Tale). has_runs x.story) (tale_more setup plan log e) ∙ lost.runless none;
+    gets = off_gets g.tale e (lost_off g.tale how l);
     closes = lost_closes setup g.tale how l;
     spoken = subst (λ (x : Tale). (other : LinkId) → is_to_server x other ≡ true → IsSilentOrSpoken setup plan g.tale e x now other)
         (sym (tale_more setup plan log e)) (off_spoken setup plan g.tale e now (lost_off g.tale how l));
@@ -315,7 +315,7 @@ module _ (laws : Laws) (service : Service) (log : Log) (t now : Tabled) (roomy :
     written = λ rests behind_it to.
         subst (λ (x : Ground). AreWrittenTo x (with_entry log e)) (sym same)
         (written_with service.setup g t now roomy log e whose over before.rests lost.rests.stands kept overs due to);
-    safe = λ rests behind_it to safe. log_goes_on service.setup setup codes plan later log e now safe (safely safe.runless) behind_it.stands silent to;
+    safe = λ rests behind_it to safe. log_goes_on service.setup setup codes plan later log e now safe safely behind_it.stands silent to;
   }
 
   -- as many were taken up

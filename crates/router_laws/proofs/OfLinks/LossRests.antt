@@ -1,4 +1,4 @@
--- Behind a loss of a link to a server the tables rest, no run became due, and as many messages were taken up as was decided.
+-- Behind a loss of a link to a server the tables rest, and as many messages were taken up as was decided.
 use Rattle.std.specs.Prelude.{◌≡◌, ◌+◌, ◌||◌, ℕ, suc, Bool, true, false, filter, if◌then◌else◌, List, [], ◌∷◌, Option, Some, None}
 use Rattle.std.proofs.Common.{refl, sym, ap, ◌∙◌, subst, arith}
 use Rattle.mx_wire.specs.declared.entry.Entry.{Entry}
@@ -17,7 +17,6 @@ use Rattle.core_stands.specs.Grounds.{Ground}
 use Rattle.core_stands.specs.Stands.{Rests, Stands}
 use Rattle.core_laws.proofs.OfEntry.Resting.{one_seats}
 use Rattle.core_laws.specs.entry.Entries.{behind}
-use Rattle.core_laws.specs.entry.Safe.{has_runs}
 use Rattle.core_laws.proofs.OfClients.Following.{ended_its}
 use Rattle.core_laws.specs.clients.Following.{IsFollowed, IsFollowing, ended_by}
 use Rattle.core_laws.specs.clients.Follows.{ends_by}
@@ -102,7 +101,6 @@ module _ (laws : Laws) (follows : Follows) (service : Service) (default : List �
     somebody_lost : AreLost service g e (deeds_of given (Some it)) over room now
     somebody_lost = record {
       rests = followed.rests;
-      runless = followed.runless;
       counts = λ y was seated_y seated_was same. counts_by y was seated_y seated_was same (is_its x y.number) refl;
     }
 
@@ -116,7 +114,6 @@ module _ (laws : Laws) (follows : Follows) (service : Service) (default : List �
     nobody_lost : AreLost service g e (deeds_of given None) over room now
     nobody_lost = record {
       rests = nobody.nobody_rests laws service default g log t now roomy l how given rests is so over room overs rooms;
-      runless = λ none. ap (λ (tale : Tale). has_runs tale.story) later_alone ∙ none;
       counts = λ y was seated_y seated_was same.
           ap (λ (c : tales.Client). c.taken)
           (one_seated y was (seats last y.number) (sym seated_y)

@@ -23,7 +23,6 @@ use Rattle.core_stands.specs.Stands.{Rests, Stands}
 use Rattle.core_laws.specs.parting.Partings.{AreCounted, AreGivenUp, IsCounted, IsLosing}
 use Rattle.core_laws.proofs.OfEntry.Uneventful.{Testing}
 use Rattle.core_laws.specs.entry.Entries.{behind}
-use Rattle.core_laws.specs.entry.Safe.{has_runs}
 use Rattle.core_laws.specs.entry.Tells.{AreWhoTheySay}
 use Rattle.core_laws.specs.clients.Going.{GivenUp, Going, told_to}
 use Rattle.router_laws.specs.decisions.Deeds.{Deeds, taken_by}
@@ -53,10 +52,9 @@ pub record IsLoss (service : Service) (default : List ℕ) (g : Ground) (log : L
   pub rising : Ascend (λ l. l.0) g.tale.links
   pub tells : TellsSo going service
 
--- The tables rest behind the entry, no run became due, and as many messages were taken up as was decided.
+-- The tables rest behind the entry, and as many messages were taken up as was decided.
 pub record AreLost (service : Service) (g : Ground) (e : Entry) (deeds : Deeds) (over room : ClientNo → Bool) (now : Tabled) : Type 0 where
   pub rests : Rests service (behind g e over) now room
-  pub runless : has_runs g.tale.story ≡ false → has_runs (tale_step g.setup g.plan g.tale e).story ≡ false
   pub counts : (x was : tales.Client) → IsSeated (tale_step g.setup g.plan g.tale e) x → IsSeated g.tale was → x.number ≡ was.number
       → x.taken ≡ was.taken + taken_by (deeds.calls x.number) (deeds.halts x.number)
 

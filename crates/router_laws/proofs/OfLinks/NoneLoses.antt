@@ -37,6 +37,7 @@ use Rattle.router_laws.specs.decisions.Deeds.{known_with}
 use Rattle.router_laws.proofs.OfReading.Nobody.{carried_test}
 use Rattle.router_laws.proofs.OfReading.Somebody.{before_by, le_of, lt_of}
 use Rattle.router_laws.proofs.OfLinks.Breaking as breaking
+use Rattle.router_laws.proofs.OfLinks.Giving.{given_aside}
 use Rattle.router_laws.proofs.OfLinks.Breaking.{lost_tells}
 use Rattle.router_laws.proofs.OfLinks.Losses as losses
 use Rattle.router_laws.proofs.OfLinks.Losses.{IsLoss, Laws}
@@ -161,7 +162,7 @@ module _ (laws : Laws) (service : Service) (default : List ℕ) (g : Ground) (lo
   undone : NoneDone g.setup g.plan later
   undone =
       breaking.undone service g t roomy l how (told_to given) rests so.server so.there (laws.tests service)
-      (losses.lost_then laws service default g log t now roomy l how given None rests is so)
+      (losses.lost_then laws service default g log t now roomy l how given None rests is so) (given_aside l given t so.may)
 
   of_nobody : IsOfNobody g e
   of_nobody = record {

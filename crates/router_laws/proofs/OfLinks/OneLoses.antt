@@ -48,7 +48,7 @@ use Rattle.router_laws.proofs.OfReading.Somebody.{before_by, for_other, for_same
 use Rattle.router_laws.specs.reading.Hearing.{IsTelling, TellsFor, last_word}
 use Rattle.router_laws.proofs.OfLinks.Breaking as breaking
 use Rattle.router_laws.proofs.OfLinks.Breaking.{lost_event, lost_tells}
-use Rattle.router_laws.proofs.OfLinks.Giving.{may_each}
+use Rattle.router_laws.proofs.OfLinks.Giving.{given_aside, may_each}
 use Rattle.router_laws.proofs.OfLinks.Losses as losses
 use Rattle.router_laws.proofs.OfLinks.Losses.{IsLoss, Laws}
 use Rattle.router_laws.specs.links.Loses.{Break, IsGivenUpWith, LosesSo, entry_by}
@@ -297,7 +297,7 @@ module _ (laws : Laws) (service : Service) (default : List ℕ) (g : Ground) (lo
   of_one : IsOfOne g.setup g.plan g.tale e x (ended_by it.halt it.parting x.number) later
   of_one = record {
     first = breaking.first service g t roomy l how (told_to given) rests so.server so.there (laws.tests service)
-        (losses.lost_then laws service default g log t now roomy l how given (Some it) rests is so);
+        (losses.lost_then laws service default g log t now roomy l how given (Some it) rests is so) (given_aside l given t so.may);
     seated = subst (λ (tale : Tale). IsSeated tale x) told_as seated;
     single = λ m route theirs routed. is.plans.single m route routed;
     passes = All-weaker Uncalled Passes (λ c uncalled other. inl (uncalled other)) later.clients others;

@@ -33,7 +33,7 @@ use Rattle.core_laws.proofs.OfEntry.Uneventful.{Counting, Testing}
 use Rattle.core_laws.specs.entry.Cores.{IsSafely, with_entry}
 use Rattle.core_laws.specs.entry.Entries.{behind}
 use Rattle.core_laws.specs.entry.Kinds.{IsUneventful}
-use Rattle.core_laws.specs.entry.Safe.{IsSafe, has_runs}
+use Rattle.core_laws.specs.entry.Safe.{IsSafe}
 use Rattle.core_laws.specs.entry.Speaks.{IsSilentOrSpoken, IsSpoken}
 use Rattle.core_laws.specs.entry.Tells.{ground}
 use Rattle.router_laws.proofs.OfClients.Linking.{unwritten}
@@ -105,10 +105,10 @@ module _ (service : Service) (setup : Setup) (codes : Codes) (plan : Plan) (log 
     by false apart =
         inl (sym (any_last l other g.tale.links apart) ∙ ap (λ (tale : Tale). is_to_server tale other) (sym step_is) ∙ known, apart)
 
-  pub safely : IsSafe setup plan log → IsSafely setup plan log e now
-  safely safe = record {
+  pub safely : IsSafely setup plan log e now
+  safely = record {
     passes = none;
-    runless = ap (λ (tale : Tale). has_runs tale.story) step_is ∙ safe.runless;
+    gets = tt;
     closes = tt;
     spoken = spoken;
   }

@@ -18,7 +18,7 @@ use Rattle.private_model.specs.Commands.{Args, Command, InitDb, Number, Query, S
 use Rattle.private_model.specs.Names.{LinkId}
 use Rattle.private_model.specs.Story as story
 use Rattle.private_model.specs.View.{Link}
-use Rattle.log_story.specs.Plan.{Asks, StepText, com_init_db, com_query, text_payload}
+use Rattle.log_story.specs.Plan.{Asks, Closes, Resets, StepText, com_init_db, com_query, text_payload}
 use Rattle.log_story.specs.Tale.{link_in}
 use Rattle.client_session.specs.Setups.{Setup as Service}
 use Rattle.mx_base.specs.Sent.{Sent as Offer}
@@ -228,8 +228,8 @@ module _ (g : Ground) (t : Tabled) (l : LinkId) (row : Row) (next_is : IsNextOf 
   planned_by (Some (begins.Asks asking)) same passes planned =
       planned_for g t l row asking asking.purpose refl (and_parts _ (passes_for asking.purpose row asking.form t) passes).1
       (subst (λ (x : Option Begins). IsNextOf x g t row (link_in g.setup g.tale l)) same next_is).1 planned
-  planned_by (Some (begins.Closes number)) same passes planned = absurd (false≢true passes)
-  planned_by (Some (begins.Resets number)) same passes planned = absurd (false≢true passes)
+  planned_by (Some (begins.Closes number)) same passes planned = planned (Closes number) refl
+  planned_by (Some (begins.Resets number)) same passes planned = planned (Resets number) refl
   planned_by (Some begins.Quits) same passes planned = planned (Asks commands.Quit) refl
 
 pub planned_so : (service : Service) (g : Ground) (t : Tabled) (l : LinkId) (server : Server) (offer : Offer) → Stands service g t

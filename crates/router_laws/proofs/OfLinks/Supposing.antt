@@ -1,12 +1,15 @@
 -- Tables stand alike by another plan, by which the same messages are answered by now.
-use Rattle.std.specs.Prelude.{◌≡◌, ◌≤◌, ◌+◌, ℕ, zero, suc, Bool, true, false, is_some, ◌||◌, All, length, take, List, [], ◌∷◌, ◌++◌, Option, Some, None}
+use Rattle.std.specs.Prelude.{◌≡◌, ◌≤◌, ◌+◌, ◌-◌, ℕ, zero, suc, Bool, true, false, is_some, ◌||◌, All, length, take, List, [], ◌∷◌, ◌++◌, Option, Some, None}
+use Rattle.std.specs.Option.{option_or}
 use Rattle.std.proofs.Common.{refl, sym, ap, ◌∙◌, arith}
 use Rattle.std.proofs.lemmas.List.{length-take}
 use Rattle.packet_frame.specs.Packets.{Framed, next_id}
 use Rattle.client_session.specs.Answers.{front}
 use Rattle.client_session.specs.Setups.{Setup as Service}
 use Rattle.private_model.specs.Names.{ClientNo, LinkId, MessageName}
+use Rattle.private_model.specs.View.{View}
 use Rattle.log_story.specs.Clients.{is_answered}
+use Rattle.log_story.specs.Executes.{prepared_by, prepared_in}
 use Rattle.log_story.specs.Owed.{answered_with, due_bytes, due_for, error_behind, messages, name_of, number_of, talk_of, with_word}
 use Rattle.log_story.specs.Plan.{OwnAnswer, own_at, word_at}
 use Rattle.log_story.specs.Tale as tales
@@ -33,7 +36,8 @@ use Rattle.core_tables.specs.declared.server.Server.{Server}
 use Rattle.core_stands.specs.Clients.{IsClientOr, IsPhase, IsWorkingOr}
 use Rattle.core_stands.specs.Grounds.{Ground, known_on, view_on}
 use Rattle.core_stands.specs.Servers.{IsNextFor, IsNextOf, IsPartedAt, IsPartedFor, IsReplyingAt, IsReplyingFor, IsServer, IsServerBy, IsServerOr, IsTakenUp}
-use Rattle.core_stands.specs.Stands.{AreClients, IsAt, IsKnown, Stands}
+use Rattle.core_stands.specs.Stands.{AreClients, AreDuly, IsAt, IsDuly, IsKnown, IsPrepared, Stands}
+use Rattle.run_laws.proofs.Becoming.{became_so}
 use Rattle.private_model.specs.Names.{SessionName}
 use Rattle.core_laws.proofs.OfParting.Moving.{all_with}
 use Rattle.core_laws.proofs.OfParting.Owing.{owing_alike}
@@ -155,7 +159,7 @@ module _ (g : Ground) (own : MessageName → Option OwnAnswer) where
         plain = is.plain;
         taken_up = taken_alike n ordinal is.taken_up;
       }
-      next_for asking (purposes.Prep n ordinal key) is = is
+      next_for asking (purposes.Prep n ordinal key) is = record { said = is.said; told = is.told; taken_up = taken_alike n ordinal is.taken_up }
       next_for asking (purposes.Sync n) is = record { command = is.command; said = is.said }
       next_for asking purposes.Own is = record { command = is.command; said = is.said }
       next_for asking (purposes.End n) is = is
@@ -226,6 +230,35 @@ module _ (g : Ground) (own : MessageName → Option OwnAnswer) where
       server_alike : IsServerOr supposed t l (t.links l)
       server_alike = by (is_to_server g.tale l) (t.links l) (stands.servers l)
 
+  -- What clients have prepared, and what became due.
+
+  made_alike : (view : View) (client : tales.Client) (number i : ℕ) (ms : List Framed)
+      → prepared_by view supposed.plan client number i ms ≡ prepared_by view g.plan client number i ms
+  made_alike view client number i [] = refl
+  made_alike view client number i (message ∷ others) =
+      ap (option_or (prepared_in number i message.payload (g.plan.routes (name_of client i)) (view.replies (name_of client i))))
+      (made_alike view client number (suc i) others)
+
+  prepared_alike : (client : tales.Client) (row : Client) → IsPrepared g client row → IsPrepared supposed client row
+  prepared_alike client row is = record {
+    each = λ number one at.
+        let was = is.each number one at in
+        record {
+          ordinal = was.ordinal;
+          prepared = made_alike (view_on g) client number 1 (messages g.plan client) ∙ was.prepared;
+          taken_up = was.taken_up;
+          bound = was.bound;
+        };
+    unused = λ number greater.
+        made_alike (view_on g) client number 1 (take (client.taken - 1) (messages g.plan client)) ∙ is.unused number greater;
+    kept = λ answered number greater. made_alike (view_on g) client number 1 (take client.taken (messages g.plan client)) ∙ is.kept answered number greater;
+  }
+
+  duly_alike : AreDuly g.setup g.plan g.tale.story → AreDuly g.setup supposed.plan g.tale.story
+  duly_alike =
+      became_so g.setup (IsDuly g.setup g.plan) (IsDuly g.setup supposed.plan)
+      (λ n due is. record { route = is.route; routed = is.routed; keyed = is.keyed; whole = is.whole }) g.tale.story
+
   -- All of it, where each client stands alike.
   module _ (service : Service) (t : Tabled) (stands : Stands service g t)
       (rows : (x : tales.Client) → IsSeated g.tale x → IsClientOr g x (t.clients x.number) → IsClientOr supposed x (t.clients x.number)) where
@@ -251,4 +284,6 @@ module _ (g : Ground) (own : MessageName → Option OwnAnswer) where
       servers = λ l. server_alike t l service stands;
       homes = record { carried = stands.homes.carried; home = stands.homes.home };
       lawful = stands.lawful;
+      prepared = λ client seated row there going. prepared_alike client row (stands.prepared client seated row there going);
+      duly = duly_alike stands.duly;
     }

@@ -55,7 +55,7 @@ use Rattle.core_laws.specs.entry.Cores.{IsSafely, with_entry}
 use Rattle.core_laws.specs.entry.Dues.{IsWrittenBy, written_by}
 use Rattle.core_laws.specs.entry.Entries.{behind}
 use Rattle.core_laws.specs.entry.Kinds.{IsUneventful}
-use Rattle.core_laws.specs.entry.Safe.{IsSafe, has_runs}
+use Rattle.core_laws.specs.entry.Safe.{IsSafe}
 use Rattle.core_laws.specs.entry.Speaks.{IsSilentOrSpoken, IsSpoken}
 use Rattle.core_laws.specs.entry.Tells.{ground}
 use Rattle.router_laws.specs.clients.Behind.{IsDueBehind}
@@ -65,29 +65,6 @@ use Rattle.core_laws.proofs.OfLinks.Uncalled.{Sames}
 use Rattle.core_laws.proofs.OfLinks.Writes.{begun, gone_on, told_as, wrote_clients, wrote_links, wrote_rests, wrote_steps}
 use Rattle.router_laws.proofs.OfLinks.Going.{same_over, uneventful}
 use Rattle.router_laws.specs.links.Writes.{WritesSo}
-
--- What begins is no execute that becomes due.
-
-runs_same : (happens : List Happening) (story : Story) → IsBegun happens → has_runs (happens ++ story) ≡ has_runs story
-runs_same [] story is = refl
-runs_same (Sent link question ∷ []) story is = refl
-runs_same (Unprepared link number ∷ []) story is = refl
-runs_same (Broke ∷ []) story is = refl
-runs_same _ story is = absurd is
-
-module _ (g : Ground) (l : LinkId) (tag : Tag) (bytes : List ℕ) (there : is_to_server g.tale l ≡ true)
-    (plain : may_begin g.setup l (g.tale.wires l) g.tale ≡ true → is_copy tag ≡ false) where
-  runs_by : (b : Bool) → may_begin g.setup l (g.tale.wires l) g.tale ≡ b
-      → has_runs (if b then begun g l tag bytes there else gone_on g l tag bytes there).story ≡ has_runs g.tale.story
-  runs_by true is =
-      runs_same (begun_on g.setup g.plan g.tale.moment (view_on g) l (g.tale.wires l) tag) g.tale.story
-      (on_begun g.setup g.plan g.tale.moment (view_on g) l (g.tale.wires l) tag (plain is))
-  runs_by false is = refl
-
-  pub told_runs : has_runs (told g.setup g.plan g.tale (entry.Wrote l tag bytes)).story ≡ has_runs g.tale.story
-  told_runs =
-      ap (λ (tale : Tale). has_runs tale.story) (told_as g l tag bytes there)
-      ∙ runs_by (may_begin g.setup l (g.tale.wires l) g.tale) refl
 
 -- A login that goes on doesn't fail by what is written.
 
@@ -192,7 +169,7 @@ module _ (service : Service) (setup : Setup) (codes : Codes) (plan : Plan) (log 
 
   steps : tale_step setup plan g.tale e ≡ told_then setup plan g.tale e
   steps =
-      wrote_steps service counting testing sames g t roomy rests calm l so.server so.there count so.moment now offer.tag bytes so.same stands
+      wrote_steps service counting testing sames g t roomy rests calm l so.server so.there count so.moment now offer.tag bytes plain so.same stands
 
   pub step_clients : (tale_step setup plan g.tale e).clients ≡ g.tale.clients
   step_clients = ap (λ (tale : Tale). tale.clients) steps ∙ wrote_clients g l offer.tag bytes known
@@ -246,10 +223,10 @@ module _ (service : Service) (setup : Setup) (codes : Codes) (plan : Plan) (log 
           apart,
         )
 
-  pub safely : Passes setup plan g.tale e → ClosesFirst setup g.tale e → IsSafe setup plan log → IsSafely setup plan log e now
-  safely passes closes safe = record {
+  pub safely : Passes setup plan g.tale e → ClosesFirst setup g.tale e → IsSafely setup plan log e now
+  safely passes closes = record {
     passes = passes;
-    runless = ap (λ (tale : Tale). has_runs tale.story) step_is ∙ told_runs g l offer.tag bytes known plain ∙ safe.runless;
+    gets = tt;
     closes = closes;
     spoken = spoken;
   }

@@ -25,7 +25,6 @@ use Rattle.core_laws.specs.entry.Calms.{IsAside}
 use Rattle.core_laws.specs.entry.Dues.{written_by}
 use Rattle.core_laws.specs.entry.Entries.{IsOfNobody, TellsOf, behind}
 use Rattle.core_laws.specs.entry.Kinds.{IsQuiet, IsStill, IsUneventful}
-use Rattle.core_laws.specs.entry.Safe.{has_runs}
 use Rattle.router_laws.specs.clients.Behind.{IsOffServers}
 use Rattle.router_laws.specs.clients.Continues.{HasCome, is_read_on}
 use Rattle.router_laws.proofs.OfDecisions.Fates.{false_true}
@@ -212,7 +211,6 @@ pub record IsMade (service : Service) (g : Ground) (t : Tabled) (e : Entry) : Ty
   pub makes : Makes g e made
   pub stands : Stands service (on g made) t
   pub clients : made.clients ≡ g.tale.clients
-  pub runless : has_runs made.story ≡ has_runs g.tale.story
 
 module _ (service : Service) (g : Ground) (t : Tabled) (calm : IsUneventful g) (stands : Stands service g t) (rested : NoneDone g.setup g.plan g.tale) where
   -- nothing
@@ -222,7 +220,6 @@ module _ (service : Service) (g : Ground) (t : Tabled) (calm : IsUneventful g) (
     makes = record { told_as = same; moment = refl; rested = rested; still = calm.still; uncalled = uncalled };
     stands = stands;
     clients = refl;
-    runless = refl;
   }
 
   told_still : (tale : Tale) → tale.clients ≡ g.tale.clients → tale.moment ≡ g.tale.moment → All (IsStill (on g tale)) tale.clients
@@ -246,7 +243,6 @@ module _ (service : Service) (g : Ground) (t : Tabled) (calm : IsUneventful g) (
     };
     stands = stands_then;
     clients = refl;
-    runless = refl;
   }
 
   abbrev run : LinkId → Tale
@@ -256,13 +252,6 @@ module _ (service : Service) (g : Ground) (t : Tabled) (calm : IsUneventful g) (
   of_run of tells l = by (g.tale.wires l).entered (g.tale.wires l).quits where
     by : (a b : Bool) → of (if a then tell (if b then Dropped l else Ran l) g.tale else g.tale) ≡ of g.tale
     by true b = tells (if b then Dropped l else Ran l) g.tale
-    by false b = refl
-
-  run_runs : (l : LinkId) → has_runs (run l).story ≡ has_runs g.tale.story
-  run_runs l = by (g.tale.wires l).entered (g.tale.wires l).quits where
-    by : (a b : Bool) → has_runs (if a then tell (if b then Dropped l else Ran l) g.tale else g.tale).story ≡ has_runs g.tale.story
-    by true true = refl
-    by true false = refl
     by false b = refl
 
   made_exec : (l : LinkId) → Stands service (on g (run l)) t → IsMade service g t (entry.Exec l)
@@ -277,7 +266,6 @@ module _ (service : Service) (g : Ground) (t : Tabled) (calm : IsUneventful g) (
     };
     stands = stands_then;
     clients = of_run (λ (tale : Tale). tale.clients) (λ e tale. refl) l;
-    runless = run_runs l;
   }
 
   -- a link that is none to a server isn't entered, so that nothing runs there

@@ -26,7 +26,6 @@ use Rattle.core_laws.proofs.OfEntry.Uneventful.{Counting, Testing}
 use Rattle.core_laws.specs.entry.Cores.{with_entry}
 use Rattle.core_laws.specs.entry.Entries.{behind}
 use Rattle.core_laws.specs.entry.Kinds.{IsUneventful}
-use Rattle.core_laws.specs.entry.Safe.{has_runs}
 use Rattle.core_laws.specs.entry.Tells.{Fits, IsOf, ground}
 use Rattle.router_laws.proofs.OfClients.Entering.{entered_goes_on, heard_always}
 use Rattle.router_laws.specs.clients.Behind.{IsDueBehind, IsEntered}
@@ -70,7 +69,7 @@ module _ (service : Service) (knows : Knows service.setup) (log : Log) (e : Entr
   new = decided_with no_deeds router.counts log e d
 
   module _ (setup : Setup) (codes : Codes) (plan : Plan) (of : IsOf new (length (with_entry log e)) plan)
-      (fits : Fits setup codes plan service.default_schema (tale_of setup plan (with_entry log e))) where
+      (fits : Fits new.keys setup codes plan service.default_schema (tale_of setup plan (with_entry log e))) where
     abbrev g : Ground
     g = ground setup codes plan d log
 
@@ -133,7 +132,6 @@ module _ (service : Service) (knows : Knows service.setup) (log : Log) (e : Entr
     entered = record {
       rests = λ rests. behind_rests;
       due = λ rests. due;
-      runless = λ rests none. ap (λ (tale : Tale). has_runs tale.story) steps ∙ made.runless ∙ none;
       off = λ rests. aside.off;
     }
 

@@ -4,7 +4,7 @@ use Rattle.std.specs.List.{list_any}
 use Rattle.std.proofs.Common.{refl, sym, ap, ◌∙◌, subst}
 use Rattle.std.proofs.lemmas.Bool.{false≢true, true≢false}
 use Rattle.std.proofs.lemmas.List.Elements.{All-weaker}
-use Rattle.std.proofs.lemmas.Option.{none-some}
+use Rattle.std.proofs.lemmas.Option.{none-some, same_Some}
 use Rattle.mx_base.specs.Fields.{AreBytes}
 use Rattle.mx_wire.specs.declared.entry.Entry.TheVariants as entry
 use Rattle.mx_wire.specs.Log.{Log}
@@ -30,13 +30,15 @@ use Rattle.core_tables.specs.Hearing.{IsHeardOn}
 use Rattle.core_tables.specs.Parting.{freed_in, given_to, given_up_in, name_in}
 use Rattle.core_tables.specs.Tables.{IsSame, Tabled}
 use Rattle.core_tables.specs.declared.said.Said.{Said}
+use Rattle.client_desk.specs.declared.work.Work.{Work}
+use Rattle.core_tables.specs.declared.client.Client.{Client}
 use Rattle.core_tables.specs.declared.server.Server.{Server}
 use Rattle.core_stands.specs.Grounds.{Ground, on, view_on}
 use Rattle.core_stands.specs.Stands.{Rests, Stands}
-use Rattle.core_laws.proofs.OfParting.Carrying.{row_carries}
+use Rattle.core_laws.proofs.OfParting.Named.{row_carries}
 use Rattle.core_laws.proofs.OfParting.Forgetting.{server_there}
 use Rattle.core_laws.specs.parting.Frames.{AreHomed}
-use Rattle.core_laws.specs.parting.Partings.{AreCounted, AreGivenUp, IsCounted}
+use Rattle.core_laws.specs.parting.Partings.{AreCounted, AreGivenUp, IsAtWork, IsCounted}
 use Rattle.core_laws.proofs.OfEntry.Uneventful.{Testing}
 use Rattle.core_laws.proofs.OfClients.Homing.{server_by}
 use Rattle.core_laws.specs.clients.Going.{GivenUp, Going, told_to}
@@ -46,7 +48,8 @@ use Rattle.router_laws.specs.decisions.Plans.{HasDeeds, PlansSo}
 use Rattle.router_laws.proofs.OfReading.Lawfully.{told_lawful}
 use Rattle.router_laws.proofs.OfReading.Untouched as reads
 use Rattle.router_laws.proofs.OfReading.Unsound.{are_given_up}
-use Rattle.router_laws.specs.reading.Givings.{MayBeGivenUp, MayGiveUp}
+use Rattle.router_laws.proofs.OfReading.Lent.{IsLentElsewhere, lent_elsewhere}
+use Rattle.router_laws.specs.reading.Givings.{IsLentBut, MayBeGivenUp, MayGiveUp, lent_home}
 use Rattle.router_laws.specs.reading.Hearing.{IsHearing}
 use Rattle.router_laws.specs.reading.Hears.{HearsSo}
 
@@ -67,15 +70,15 @@ pub record Laws : Type 0 where
 
 -- What is given up.
 
-given_by : (up : GivenUp) (t : Tabled) → MayBeGivenUp up.client t → (c : ClientNo) (payload : List ℕ) (b : Bool) → nat_eq up.client.0 c.0 ≡ b
-    → (if b then Some up.payload else None) ≡ Some payload → MayBeGivenUp c t
-given_by up t may c payload true same some = subst (λ (n : ClientNo). MayBeGivenUp n t) (client_of up.client c same) may
-given_by up t may c payload false other some = absurd (none-some payload some)
+given_by : (l : LinkId) (up : GivenUp) (t : Tabled) → MayBeGivenUp l up.client t → (c : ClientNo) (payload : List ℕ) (b : Bool)
+    → nat_eq up.client.0 c.0 ≡ b → (if b then Some up.payload else None) ≡ Some payload → MayBeGivenUp l c t
+given_by l up t may c payload true same some = subst (λ (n : ClientNo). MayBeGivenUp l n t) (client_of up.client c same) may
+given_by l up t may c payload false other some = absurd (none-some payload some)
 
-pub may_each : (given : Option GivenUp) (t : Tabled) → MayGiveUp given t → (c : ClientNo) (payload : List ℕ) → told_to given c ≡ Some payload
-    → MayBeGivenUp c t
-may_each None t may c payload some = absurd (none-some payload some)
-may_each (Some up) t may c payload some = given_by up t may c payload (nat_eq up.client.0 c.0) refl some
+pub may_each : (l : LinkId) (given : Option GivenUp) (t : Tabled) → MayGiveUp l given t → (c : ClientNo) (payload : List ℕ)
+    → told_to given c ≡ Some payload → MayBeGivenUp l c t
+may_each l None t may c payload some = absurd (none-some payload some)
+may_each l (Some up) t may c payload some = given_by l up t may c payload (nat_eq up.client.0 c.0) refl some
 
 none_told : (up : GivenUp) (c : ClientNo) → is_client up.client c ≡ false → is_some (told_to (Some up) c) ≡ false
 none_told up c other = ap (λ (b : Bool). is_some (if b then Some up.payload else None)) other
@@ -85,6 +88,18 @@ pub told_none : (whose : ClientNo → Bool) (given : Option GivenUp) → ((up : 
     → whose c ≡ false → is_some (told_to given c) ≡ false
 told_none whose None theirs c other = refl
 told_none whose (Some up) theirs c other = none_told up c (reads.apart whose up.client c (theirs up refl) other)
+
+-- no other link is lent to a session whose statement is given up
+module _ (l : LinkId) (t : Tabled) (given : Option GivenUp) (may : MayGiveUp l given t) (c : ClientNo) where
+  given_elsewhere_by : (found : Option (List ℕ)) → told_to given c ≡ found → is_some found ≡ true → (row : Client) (work : Work) → IsAtWork t c row work
+      → (other : LinkId) → is_link_id other l ≡ false → lent_home t row work ≡ Some other → ⊥
+  given_elsewhere_by None none gives row work at other apart home = false≢true gives
+  given_elsewhere_by (Some payload) some gives row work at other apart home =
+      let its : MayBeGivenUp l c t = may_each l given t may c payload some in
+      let row_is : its.row ≡ row = same_Some its.row row (sym its.at_work.there ∙ at.there) in
+      let work_is : its.work ≡ work = same_Some its.work work (sym its.at_work.in_work ∙ ap (λ (r : Client). r.desk.work) row_is ∙ at.in_work) in
+      lent_elsewhere l other t row work apart
+      (subst (λ (w : Work). IsLentBut l t row w) work_is (subst (λ (r : Client). IsLentBut l t r its.work) row_is its.lent)) home
 
 -- Bytes are read, whatever the plan.
 module _ (laws : Laws) (service : Service) (default : List ℕ) (g : Ground) (t now : Tabled) (roomy : ClientNo → Bool) (l : LinkId) (bytes : List ℕ)
@@ -100,7 +115,8 @@ module _ (laws : Laws) (service : Service) (default : List ℕ) (g : Ground) (t 
 
   pub read_gives : AreGivenUp (told_to given) (λ (other : LinkId). false) so.heard
   read_gives =
-      are_given_up service (on g (told g.setup g.plan g.tale (entry.Got l bytes))) so.heard (told_to given) read_stands (may_each given so.heard so.may)
+      are_given_up service (on g (told g.setup g.plan g.tale (entry.Got l bytes))) so.heard l (told_to given) read_stands
+      (may_each l given so.heard so.may)
 
 module _ (laws : Laws) (service : Service) (default : List ℕ) (g : Ground) (log : Log) (t now : Tabled) (roomy : ClientNo → Bool) (l : LinkId)
     (bytes : List ℕ) (clock : ℕ) (given : Option GivenUp) (going : Option Going) (rests : Rests service g t roomy)
@@ -206,6 +222,11 @@ module _ (laws : Laws) (service : Service) (default : List ℕ) (g : Ground) (lo
         All-weaker (HasDeeds g (deeds_of given going)) (λ (c : tales.Client). whose c.number ≡ false → GivesUpNone g.plan (suc g.tale.moment) c)
         (λ c has other. has.keeps (told_none whose given theirs c.number other)) g.tale.clients is.plans.each
 
+    elsewhere : (other : LinkId) → is_link_id other l ≡ false → IsLentElsewhere so.heard (told_to given) other
+    elsewhere other apart c row work gives at home =
+        given_elsewhere_by l so.heard given so.may c (told_to given c) refl gives row work at other apart home
+
     pub alone : NoneDoneBut g.setup g.plan (λ (other : LinkId). is_link_id other l) heard
     alone =
-        reads.alone service g t roomy rests l bytes whose there carried_by homes (laws.tests service) (told_to given) so.heard said_stands counts_stand
+        reads.alone service g t roomy rests l bytes whose there carried_by homes (laws.tests service) (told_to given) so.heard said_stands elsewhere
+        counts_stand

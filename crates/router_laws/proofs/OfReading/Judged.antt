@@ -27,7 +27,8 @@ use Rattle.core_laws.proofs.OfEntry.Lists.{seated_of}
 use Rattle.core_laws.specs.entry.Cores.{with_entry}
 use Rattle.core_laws.specs.entry.Tells.{Fits, IsOf, ground}
 use Rattle.core_laws.specs.clients.Going.{GivenUp, Going}
-use Rattle.core_laws.specs.clients.Turns.{Choice}
+use Rattle.core_laws.specs.clients.Turns.{Choice, Halt, Rests}
+use Rattle.router_promises.specs.Takings.{Taking, takings_at}
 use Rattle.router_laws.specs.clients.Continues.{HasCome, IsContinued, WasThere, is_read_on}
 use Rattle.router_laws.specs.decisions.Judges.{JudgedFrom, JudgesThen}
 use Rattle.router_laws.specs.decisions.Deeds.{decided_with}
@@ -50,24 +51,27 @@ one_seated x was xs first second = let both : x ∷ [] ≡ was ∷ [] = first �
 -- One client goes on, at an entry that reads nothing of any.
 module _ (book : Rulebook) (setup : Setup) (plan : Plan) (tale : Tale) (e : Entry) (taken : ClientNo → ℕ)
     (counted : All (λ (x : tales.Client). x.taken ≡ taken x.number) tale.clients) (given : Option GivenUp) (it : Going) (x : tales.Client)
-    (seated : IsSeated tale x) (number : x.number ≡ it.client) (judged : JudgedFrom book setup plan x x.taken it.choices) where
-  abbrev Judged : tales.Client → List Choice → Type 0
-  Judged y choices = JudgedFrom book setup plan y (taken y.number) choices
+    (seated : IsSeated tale x) (number : x.number ≡ it.client) (takings : List Taking)
+    (judged : JudgedFrom book setup plan x takings x.taken it.choices it.halt) where
+  abbrev Judged : tales.Client → List Choice → Halt → Type 0
+  Judged y choices halt = JudgedFrom book setup plan y takings (taken y.number) choices halt
 
   one_by : (y was : tales.Client) → IsSeated tale was → IsContinued plan tale e was y → is_read_on e was.link ≡ false → (b : Bool)
-      → is_client it.client y.number ≡ b → Judged y ((deeds_of given (Some it)).calls y.number)
+      → is_client it.client y.number ≡ b → Judged y ((deeds_of given (Some it)).calls y.number) ((deeds_of given (Some it)).halts y.number)
   one_by y was seated_was on unread true its =
       let no : x.number ≡ was.number = number ∙ client_of it.client y.number its ∙ on.number in
       let same : x ≡ was = one_seated x was (seats tale was.number) (sym seated ∙ ap (seats tale) no) seated_was in
-      subst (Judged y) (sym (for_same it.client y.number it.choices [] its))
-      (judged_on book setup plan tale e was y on unread (taken y.number)
-      (seated_of (λ (z : tales.Client). z.taken ≡ taken z.number) tale was seated_was counted ∙ ap taken (sym on.number)) it.choices
-      (subst (λ (z : tales.Client). JudgedFrom book setup plan z z.taken it.choices) same judged))
+      subst (λ (choices : List Choice). Judged y choices ((deeds_of given (Some it)).halts y.number)) (sym (for_same it.client y.number it.choices [] its))
+      (subst (Judged y it.choices) (sym (for_same it.client y.number it.halt Rests its))
+      (judged_on book setup plan takings tale e was y on unread (taken y.number)
+      (seated_of (λ (z : tales.Client). z.taken ≡ taken z.number) tale was seated_was counted ∙ ap taken (sym on.number)) it.choices it.halt
+      (subst (λ (z : tales.Client). JudgedFrom book setup plan z takings z.taken it.choices it.halt) same judged)))
   one_by y was seated_was on unread false other =
-      subst (Judged y) (sym (for_other it.client y.number it.choices [] other)) tt
+      subst (λ (choices : List Choice). Judged y choices ((deeds_of given (Some it)).halts y.number)) (sym (for_other it.client y.number it.choices [] other))
+      (subst (Judged y []) (sym (for_other it.client y.number it.halt Rests other)) tt)
 
   pub one_judged : (y was : tales.Client) → IsSeated tale was → IsContinued plan tale e was y → is_read_on e was.link ≡ false
-      → Judged y ((deeds_of given (Some it)).calls y.number)
+      → Judged y ((deeds_of given (Some it)).calls y.number) ((deeds_of given (Some it)).halts y.number)
   one_judged y was seated_was on unread = one_by y was seated_was on unread (is_client it.client y.number) refl
 
 module _ (laws : Laws) (judges : FollowsJudge) (service : Service) (log : Log) (t now : Tabled) (roomy : ClientNo → Bool) (l : LinkId) (bytes : List ℕ)
@@ -82,7 +86,7 @@ module _ (laws : Laws) (judges : FollowsJudge) (service : Service) (log : Log) (
   module _ (it : Going) (so : HearsSo service.setup service.default_schema l bytes clock given (Some it) t now)
       (ruled : IsRuledOn book (Some it) service.setup service.default_schema so.freed now so.goes) (setup : Setup) (codes : Codes) (plan : Plan)
       (of : IsOf (decided_with (deeds_of given (Some it)) router.counts log e router.core.decided) (length (with_entry log e)) plan)
-      (fits : Fits setup codes plan service.default_schema (tale_of setup plan (with_entry log e))) where
+      (fits : Fits (decided_with (deeds_of given (Some it)) router.counts log e router.core.decided).keys setup codes plan service.default_schema (tale_of setup plan (with_entry log e))) where
     abbrev g : Ground
     g = ground setup codes plan router.core.decided log
 
@@ -101,27 +105,32 @@ module _ (laws : Laws) (judges : FollowsJudge) (service : Service) (log : Log) (
     number : x.number ≡ it.client
     number = somebody.number laws.reads service.setup service.default_schema g log t now roomy l bytes clock given it before.rests is so
 
-    judged : JudgedFrom book setup plan x x.taken it.choices
+    abbrev takings : List Taking
+    takings = takings_at setup plan g.tale e
+
+    judged : JudgedFrom book setup plan x takings x.taken it.choices it.halt
     judged =
         judges book service.setup service.default_schema g so.freed so.goes.turned g.fresh e x
         (hearing.freed laws.reads service.setup service.default_schema g log t now roomy l bytes clock given (Some it) before.rests is so)
         it.choices it.halt it.parting it.client number
         (somebody.following laws.reads service.setup service.default_schema g log t now roomy l bytes clock given it before.rests is so)
         (hearing.freed_stands laws.reads service.setup service.default_schema g log t now roomy l bytes clock given (Some it) before.rests is so)
-        so.goes.turns ruled
+        fits.single so.goes.turns ruled
 
     by_was : (y : tales.Client) → WasThere plan g.tale e y ⊎ HasCome g.tale e y
-        → JudgedFrom book setup plan y (router.counts.taken y.number) ((deeds_of given (Some it)).calls y.number)
+        → JudgedFrom book setup plan y takings (router.counts.taken y.number) ((deeds_of given (Some it)).calls y.number)
+        ((deeds_of given (Some it)).halts y.number)
     by_was y (inr come) = absurd come
     by_was y (inl was) =
         one_judged book setup plan g.tale e router.counts.taken before.counts.taken given it x
-        (somebody.seated laws.reads service.setup service.default_schema g log t now roomy l bytes clock given it before.rests is so) number judged y was.was
+        (somebody.seated laws.reads service.setup service.default_schema g log t now roomy l bytes clock given it before.rests is so) number takings judged y was.was
         was.seated was.continued
         (onward.unread_by laws service log t now roomy l bytes clock given (Some it) router follow bytes_are so setup codes plan of fits was.was was.seated
         (is_link_id was.was.link l) refl)
 
     one_judges : (y : tales.Client) → IsSeated (tale_of setup plan (with_entry log e)) y
-        → JudgedFrom book setup plan y (router.counts.taken y.number) ((deeds_of given (Some it)).calls y.number)
+        → JudgedFrom book setup plan y takings (router.counts.taken y.number) ((deeds_of given (Some it)).calls y.number)
+        ((deeds_of given (Some it)).halts y.number)
     one_judges y seated =
         by_was y
         (seated_of (λ (z : tales.Client). WasThere plan g.tale e z ⊎ HasCome g.tale e z) last y

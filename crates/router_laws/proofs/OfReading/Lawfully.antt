@@ -22,7 +22,6 @@ use Rattle.core_tables.specs.declared.server.Server.{Server}
 use Rattle.core_stands.specs.Grounds.{Ground, view_on}
 use Rattle.core_stands.specs.Stands.{Stands}
 use Rattle.core_laws.proofs.OfParting.Forgetting.{server_there}
-use Rattle.core_laws.specs.entry.Safe.{has_runs}
 
 -- What each of these leaves so is so of the story.
 module _ (g : Ground) (l : LinkId) (bytes : List ℕ) (P : Story → Type 0) (here : P g.tale.story)
@@ -93,13 +92,6 @@ told_lawful service g t l server bytes stands there at =
     told_keeps g l bytes (IsLawful g.setup) stands.lawful
     (λ s account out. (stands.lawful, unborn_by g l server (g.tale.wires l).entered out (server_there service g t l server stands at).row.is))
     (λ story so. (so, tt)) (λ reply story so. (so, tt)) there
-
--- No run becomes due by it.
-pub told_runs : (g : Ground) (l : LinkId) (bytes : List ℕ) → is_to_server g.tale l ≡ true
-    → has_runs (told g.setup g.plan g.tale (entry.Got l bytes)).story ≡ has_runs g.tale.story
-told_runs g l bytes there =
-    told_keeps g l bytes (λ (story : Story). has_runs story ≡ has_runs g.tale.story) refl (λ server account out. refl)
-    (λ story so. so) (λ reply story so. so) there
 
 -- A message to which no reply was read then had none.
 

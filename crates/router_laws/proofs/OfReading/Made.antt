@@ -30,7 +30,7 @@ tables_are a b same = λ i. record {
 
 pub made_so : (book : Rulebook) (service : Service) (default : List ℕ) (l : LinkId) (bytes : List ℕ) (clock : ℕ) (given : Option GivenUp) (going : Option Going)
     (server : Server) (said : Said) (old heard mid freed now : Tabled) → old.links l ≡ Some server → server.row.lost ≡ false
-    → server.row.link.spoilt ≡ false → IsHeard l bytes clock said heard old → MayGiveUp given heard
+    → server.row.link.spoilt ≡ false → IsHeard l bytes clock said heard old → MayGiveUp l given heard
     → IsSame mid (given_up_in (told_to given) heard) → IsSame freed (freed_in l mid)
     → IsCalled (name_in server.row.link.state.carries) given freed (option_map (λ (g : Going). g.client) going)
     → (goes : GoesSo going service default freed now) → IsRuledOn book going service default freed now goes

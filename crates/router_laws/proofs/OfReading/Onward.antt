@@ -17,7 +17,7 @@ use Rattle.private_model.proofs.Maps.{link_of}
 use Rattle.private_model.specs.Names.{ClientNo, LinkId, MessageName}
 use Rattle.private_model.specs.Story.{is_link_id}
 use Rattle.private_model.specs.View.{Setup}
-use Rattle.link_laws.specs.Stands.{Codes}
+use Rattle.link_laws.specs.Stands.{AreApart, Codes}
 use Rattle.log_story.specs.Headline.{tale_of}
 use Rattle.log_story.specs.Owed.{name_of}
 use Rattle.log_story.specs.Plan.{Behind, LastWord, Plan, WordPlace, own_at, word_at}
@@ -45,7 +45,7 @@ use Rattle.core_laws.specs.entry.Cores.{GoesOn, IsSafely, with_entry}
 use Rattle.core_laws.specs.entry.Dues.{AreSilent, AreWrittenTo, EndsSaying, IsSaidLast}
 use Rattle.core_laws.specs.entry.Entries.{behind}
 use Rattle.core_laws.specs.entry.Grows.{IsHeardMore}
-use Rattle.core_laws.specs.entry.Safe.{IsSafe, has_runs}
+use Rattle.core_laws.specs.entry.Safe.{IsSafe}
 use Rattle.core_laws.specs.entry.Speaks.{IsSilentOrSpoken}
 use Rattle.core_laws.specs.entry.Tells.{Fits, IsOf, ground}
 use Rattle.router_laws.proofs.OfClients.Continuing.{all_were}
@@ -98,7 +98,7 @@ pub record Laws : Type 0 where
   pub stood : (service : Service) (log : Log) (e : Entry) (t : Tabled) (roomy : ClientNo → Bool) (deeds : Deeds)
       (setup : Setup) (codes : Codes) (plan : Plan) → (router : IsRouter service log t roomy) → MayFollow log e
       → IsOf (decided_with deeds router.counts log e router.core.decided) (length (with_entry log e)) plan
-      → Fits setup codes plan service.default_schema (tale_of setup plan (with_entry log e))
+      → Fits (decided_with deeds router.counts log e router.core.decided).keys setup codes plan service.default_schema (tale_of setup plan (with_entry log e))
       → All (λ (client : tales.Client). IsHeardMore (tale_of setup plan (with_entry log e)) client) (tale_of setup plan log).clients
       → IsBefore service log e t roomy router deeds setup codes plan
   pub rise : (setup : Setup) (plan : Plan) (log : Log) → AllLawful MayFollow log → Ascend (λ l. l.0) (tale_of setup plan log).links
@@ -164,12 +164,16 @@ pub there_by : (g : Ground) (client : tales.Client) (found : Option Client) → 
 there_by g client None is going = absurd (true≢false (sym is.over ∙ going))
 there_by g client (Some row) is going = refl
 
+-- each key is its own number
+named_apart : (codes : Codes) → ((key : ℕ) → codes key ≡ Some key) → AreApart codes
+named_apart codes named a b number its others = same_Some a b (sym (named a) ∙ its ∙ sym others ∙ named b)
+
 module _ (laws : Laws) (service : Service) (log : Log) (t now : Tabled) (roomy : ClientNo → Bool) (l : LinkId) (bytes : List ℕ)
     (clock : ℕ) (given : Option GivenUp) (going : Option Going) (router : IsRouter service log t roomy) (follow : MayFollow log (entry.Got l bytes))
     (bytes_are : AreBytes bytes) (so : HearsSo service.setup service.default_schema l bytes clock given going t now) (setup : Setup)
     (codes : Codes) (plan : Plan)
     (of : IsOf (decided_with (deeds_of given going) router.counts log (entry.Got l bytes) router.core.decided) (length (with_entry log (entry.Got l bytes))) plan)
-    (fits : Fits setup codes plan service.default_schema (tale_of setup plan (with_entry log (entry.Got l bytes)))) where
+    (fits : Fits (decided_with (deeds_of given going) router.counts log (entry.Got l bytes) router.core.decided).keys setup codes plan service.default_schema (tale_of setup plan (with_entry log (entry.Got l bytes)))) where
   abbrev e : Entry
   e = entry.Got l bytes
 
@@ -197,17 +201,20 @@ module _ (laws : Laws) (service : Service) (log : Log) (t now : Tabled) (roomy :
   pub before : IsBefore service log e t roomy router its_deeds setup codes plan
   before = laws.stood service log e t roomy its_deeds setup codes plan router follow of fits (heard_always setup plan log e)
 
+  codes_apart : AreApart codes
+  codes_apart = named_apart codes before.fits.named
+
   stands : Stands service.setup (on g said) so.heard
   stands =
-      hearing.read_stands laws.reads service.setup service.default_schema g t now roomy l bytes clock given going before.rests before.fits.apart bytes_are follow.fits.some so
+      hearing.read_stands laws.reads service.setup service.default_schema g t now roomy l bytes clock given going before.rests codes_apart bytes_are follow.fits.some so
 
   gives : AreGivenUp (told_to given) (λ (other : LinkId). false) so.heard
   gives =
-      hearing.read_gives laws.reads service.setup service.default_schema g t now roomy l bytes clock given going before.rests before.fits.apart bytes_are follow.fits.some so
+      hearing.read_gives laws.reads service.setup service.default_schema g t now roomy l bytes clock given going before.rests codes_apart bytes_are follow.fits.some so
 
   there : is_to_server g.tale l ≡ true
   there =
-      hearing.read_there laws.reads service.setup service.default_schema g t now roomy l bytes clock given going before.rests before.fits.apart bytes_are follow.fits.some so
+      hearing.read_there laws.reads service.setup service.default_schema g t now roomy l bytes clock given going before.rests codes_apart bytes_are follow.fits.some so
 
   said_clients : said.clients ≡ g.tale.clients
   said_clients = read_clients g l bytes there
@@ -246,7 +253,7 @@ module _ (laws : Laws) (service : Service) (log : Log) (t now : Tabled) (roomy :
   pub is : IsHearing service.setup service.default_schema g log l bytes given going
   is = record {
     plans = plans;
-    apart = before.fits.apart;
+    apart = codes_apart;
     classes = before.fits.classes;
     who = before.fits.who;
     bytes_are = bytes_are;
@@ -353,10 +360,10 @@ module _ (laws : Laws) (service : Service) (log : Log) (t now : Tabled) (roomy :
   links_same : last.links ≡ g.tale.links
   links_same = step_of (λ (x : Tale). x.links) (λ story x. refl) (λ clients x. refl) setup plan g.tale e ∙ read_links g l bytes
 
-  safely : has_runs g.tale.story ≡ false → IsSafely setup plan log e now
-  safely none = record {
+  safely : IsSafely setup plan log e now
+  safely = record {
     passes = tt;
-    runless = ap (λ (x : Tale). has_runs x.story) (tale_more setup plan log e) ∙ heard.runless none;
+    gets = λ known. bytes_are;
     closes = tt;
     spoken = subst (λ (x : Tale). (other : LinkId) → is_to_server x other ≡ true → IsSilentOrSpoken setup plan g.tale e x now other)
         (sym (tale_more setup plan log e))
@@ -370,7 +377,7 @@ module _ (laws : Laws) (service : Service) (log : Log) (t now : Tabled) (roomy :
     written = λ rests behind_it to.
         subst (λ (x : Ground). AreWrittenTo x (with_entry log e)) (sym same)
         (written_with service.setup g t now roomy log e whose over before.rests heard.rests.stands kept overs due to);
-    safe = λ rests behind_it to safe. log_goes_on service.setup setup codes plan later log e now safe (safely safe.runless) behind_it.stands silent to;
+    safe = λ rests behind_it to safe. log_goes_on service.setup setup codes plan later log e now safe safely behind_it.stands silent to;
   }
 
   -- as many were taken up

@@ -1,4 +1,4 @@
--- Behind bytes on a link to a server the tables rest, no run became due, and as many messages were taken up as was decided.
+-- Behind bytes on a link to a server the tables rest, and as many messages were taken up as was decided.
 use Rattle.std.specs.Prelude.{◌≡◌, ◌+◌, ◌||◌, ℕ, suc, Bool, true, false, filter, if◌then◌else◌, List, [], ◌∷◌, Option, Some, None}
 use Rattle.std.proofs.Common.{refl, sym, ap, ◌∙◌, subst, arith}
 use Rattle.std.proofs.lemmas.List.Elements.{All-nil}
@@ -18,8 +18,7 @@ use Rattle.core_tables.specs.Tables.{Tabled}
 use Rattle.core_stands.specs.Grounds.{Ground, on}
 use Rattle.core_stands.specs.Stands.{Rests, Stands}
 use Rattle.core_laws.proofs.OfEntry.Resting.{one_seats}
-use Rattle.core_laws.specs.entry.Safe.{has_runs}
-use Rattle.core_laws.proofs.OfClients.Following.{ended_its, freed_runs}
+use Rattle.core_laws.proofs.OfClients.Following.{ended_its}
 use Rattle.core_laws.specs.clients.Following.{IsFollowed, IsFollowing, ended_by, to_look}
 use Rattle.core_laws.specs.clients.Follows.{FollowsSo, Parting, ends_by}
 use Rattle.core_laws.specs.clients.Going.{GivenUp, Going}
@@ -28,7 +27,6 @@ use Rattle.router_laws.specs.decisions.Deeds.{taken_by}
 use Rattle.router_laws.specs.decisions.Goings.{deeds_of}
 use Rattle.router_laws.proofs.OfReading.Hearing as hearing
 use Rattle.router_laws.proofs.OfReading.Hearing.{Laws}
-use Rattle.router_laws.proofs.OfReading.Lawfully.{told_runs}
 use Rattle.router_laws.proofs.OfReading.Nobody as nobody
 use Rattle.router_laws.proofs.OfReading.Somebody as somebody
 use Rattle.router_laws.proofs.OfReading.Somebody.{for_other, for_same}
@@ -80,11 +78,6 @@ module _ (laws : Laws) (follows : Follows) (service : Service) (default : List �
         (hearing.freed_stands laws service default g log t now roomy l bytes clock given (Some it) rests is so)
         (somebody.follows laws service default g log t now roomy l bytes clock given it rests is so) overs (λ c other full. rooms c full)
 
-    runs_same : has_runs freed.story ≡ has_runs g.tale.story
-    runs_same =
-        freed_runs g.setup g.plan (l ∷ []) (hearing.heard laws service default g log t now roomy l bytes clock given (Some it) rests is so)
-        ∙ told_runs g l bytes (hearing.there laws service default g log t now roomy l bytes clock given (Some it) rests is so)
-
     number : x.number ≡ it.client
     number = somebody.number laws service default g log t now roomy l bytes clock given it rests is so
 
@@ -120,7 +113,6 @@ module _ (laws : Laws) (follows : Follows) (service : Service) (default : List �
     pub somebody_heard : AreHeard service g l bytes (deeds_of given (Some it)) over room now
     somebody_heard = record {
       rests = followed.rests;
-      runless = λ none. followed.runless (runs_same ∙ none);
       counts = λ y was seated_y seated_was same. counts_by y was seated_y seated_was same (is_its x y.number) refl;
     }
 
@@ -139,10 +131,6 @@ module _ (laws : Laws) (follows : Follows) (service : Service) (default : List �
     pub nobody_heard : AreHeard service g l bytes (deeds_of given None) over room now
     nobody_heard = record {
       rests = nobody.nobody_rests laws service default g log t now roomy l bytes clock given rests is so over room overs rooms;
-      runless = λ none.
-          ap (λ (tale : Tale). has_runs tale.story) step_is
-          ∙ freed_runs g.setup g.plan (l ∷ []) (hearing.heard laws service default g log t now roomy l bytes clock given None rests is so)
-          ∙ told_runs g l bytes (hearing.there laws service default g log t now roomy l bytes clock given None rests is so) ∙ none;
       counts = λ y was seated_y seated_was same.
           ap (λ (c : tales.Client). c.taken)
           (one_seated y was (seats last y.number) (sym seated_y)

@@ -246,7 +246,7 @@ module _ (laws : Laws) (service : Service) (default : List ℕ) (g : Ground) (lo
 
   -- it is given up, on a link that carries nobody
 
-  open_work : MayBeGivenUp x.number so.heard → g.over x.number ≡ false
+  open_work : MayBeGivenUp l x.number so.heard → g.over x.number ≡ false
   open_work may =
       let said_stands = hearing.said_stands laws service default g log t now roomy l bytes clock given (Some it) rests is so in
       phase_works (on g (hearing.said_of laws service default g log t now roomy l bytes clock given (Some it) rests is so)) x may.row may.work
@@ -267,8 +267,8 @@ module _ (laws : Laws) (service : Service) (default : List ℕ) (g : Ground) (lo
       ap (λ (p : Option GivenUp). is_some (told_to p x.number)) some
       ∙ ap (λ (b : Bool). is_some (if b then Some up.payload else None))
       ((λ i. is_client (same i) x.number) ∙ its) in
-      let may : MayBeGivenUp x.number so.heard =
-      hearing.may_each given so.heard so.may x.number up.payload
+      let may : MayBeGivenUp l x.number so.heard =
+      hearing.may_each l given so.heard so.may x.number up.payload
       (ap (λ (p : Option GivenUp). told_to p x.number) some
       ∙ ap (λ (b : Bool). if b then Some up.payload else None) ((λ i. is_client (same i) x.number) ∙ its)) in
       record {

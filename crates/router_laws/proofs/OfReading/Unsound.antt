@@ -1,5 +1,6 @@
 -- What is given up, which wasn't sent or whose link broke, stands on no sound link.
-use Rattle.std.specs.Prelude.{◌≡◌, ◌⊎◌, ℕ, Bool, true, false, not, ◌&&◌, is_some, List, Option, Some, None}
+use Rattle.std.specs.Prelude.{◌≡◌, ◌⊎◌, ℕ, Bool, true, false, not, ◌&&◌, IfSome, if◌then◌else◌, is_some, List, Option, Some, None}
+use Rattle.std.specs.Option.{option_and_then}
 use Rattle.std.proofs.Common.{refl, sym, ap, ◌∙◌, subst, inl, inr}
 use Rattle.std.proofs.lemmas.Bool.{true≢false}
 use Rattle.std.proofs.lemmas.Option.{none-some, same_Some}
@@ -28,7 +29,7 @@ use Rattle.core_stands.specs.Stands.{Stands}
 use Rattle.core_laws.proofs.OfParting.Forgetting.{server_there}
 use Rattle.core_laws.specs.parting.Frames.{client_at, client_in}
 use Rattle.core_laws.specs.parting.Partings.{AreGivenUp, is_sound}
-use Rattle.router_laws.specs.reading.Givings.{IsBroken, MayBeGivenUp}
+use Rattle.router_laws.specs.reading.Givings.{IsBroken, IsLentBut, MayBeGivenUp, if_lent, is_lent_in}
 
 -- a link that carries nobody asks for nobody
 own_by : (g : Ground) (l : LinkId) (row : Row) (entered : Bool) → IsRowBy entered g.setup.reads g.codes (g.plan.logins l) (view_on g) row (g.tale.wires l) ((view_on g).links l)
@@ -100,8 +101,8 @@ module _ (service : Service) (g : Ground) (t : Tabled) (stands : Stands service 
       sent_at server.row.link.state.stage c its (own_by g l server.row (g.tale.wires l).entered is.row.is)
       (is.replying whole.sound whole.kept whole.mine)
 
-module _ (service : Service) (g : Ground) (t : Tabled) (stands : Stands service g t) (c : ClientNo) (may : MayBeGivenUp c t) (l : LinkId) (server : Server)
-    (at : t.links l ≡ Some server) (its : client_at server.row.link.state.stage ≡ Some c) where
+module _ (service : Service) (g : Ground) (t : Tabled) (stands : Stands service g t) (c : ClientNo) (with : LinkId) (may : MayBeGivenUp with c t)
+    (l : LinkId) (server : Server) (at : t.links l ≡ Some server) (its : client_at server.row.link.state.stage ≡ Some c) where
   not_there : IsWhole server.row → is_sound server.row ≡ true → (may.work.sent ≡ false) ⊎ IsBroken t may.row may.work → ⊥
   not_there whole sound aside = by aside where
     out : IsSentTo t c l
@@ -133,15 +134,27 @@ module _ (service : Service) (g : Ground) (t : Tabled) (stands : Stands service 
     by : (b : Bool) → is_sound server.row ≡ b → is_sound server.row ≡ false
     by b is = is ∙ unsound_by b is
 
--- who may be given up, that is
-some_by : (given : ClientNo → Option (List ℕ)) (t : Tabled) → ((c : ClientNo) (payload : List ℕ) → given c ≡ Some payload → MayBeGivenUp c t)
-    → (c : ClientNo) (found : Option (List ℕ)) → given c ≡ found → is_some found ≡ true → MayBeGivenUp c t
-some_by given t may c None is some = absurd (true≢false (sym some))
-some_by given t may c (Some payload) is some = may c payload is
+-- a session whose link is this one was lent no other
 
-pub are_given_up : (service : Service) (g : Ground) (t : Tabled) (given : ClientNo → Option (List ℕ)) → Stands service g t
-    → ((c : ClientNo) (payload : List ℕ) → given c ≡ Some payload → MayBeGivenUp c t) → AreGivenUp given (λ (l : LinkId). false) t
-are_given_up service g t given stands may = record {
+lent_if : (l : LinkId) (b : Bool) → IfSome (if b then Some l else None) (λ (home : LinkId). home ≡ l)
+lent_if l true = refl
+lent_if l false = tt
+
+pub lent_there : (l : LinkId) (t : Tabled) (row : Client) (work : Work) → (session_of row.desk work.hostgroup).home ≡ Some l → IsLentBut l t row work
+lent_there l t row work home =
+    subst (λ (at : Option LinkId). IfSome (option_and_then (if_lent t) at) (λ (other : LinkId). other ≡ l)) (sym home) (lent_if l (is_lent_in l t))
+
+-- who may be given up, that is
+some_by : (l : LinkId) (given : ClientNo → Option (List ℕ)) (t : Tabled)
+    → ((c : ClientNo) (payload : List ℕ) → given c ≡ Some payload → MayBeGivenUp l c t) → (c : ClientNo) (found : Option (List ℕ)) → given c ≡ found
+    → is_some found ≡ true → MayBeGivenUp l c t
+some_by l given t may c None is some = absurd (true≢false (sym some))
+some_by l given t may c (Some payload) is some = may c payload is
+
+pub are_given_up : (service : Service) (g : Ground) (t : Tabled) (l : LinkId) (given : ClientNo → Option (List ℕ)) → Stands service g t
+    → ((c : ClientNo) (payload : List ℕ) → given c ≡ Some payload → MayBeGivenUp l c t) → AreGivenUp given (λ (other : LinkId). false) t
+are_given_up service g t l given stands may = record {
   in_work = λ c payload is. let its = may c payload is in (its.row, its.work, its.at_work);
-  aside = λ c l server some at excepted its. unsound service g t stands c (some_by given t may c (given c) refl some) l server at its;
+  aside = λ c other server some at excepted its.
+      unsound service g t stands c l (some_by l given t may c (given c) refl some) other server at its;
 }

@@ -1,14 +1,14 @@
 -- Bytes on a link to a server, as they are told: which links may be given back by that, and who isn't concerned.
-use Rattle.std.specs.Prelude.{◌≡◌, ◌≤◌, ℕ, suc, Bool, true, false, ◌||◌, ◌&&◌, All, is_some, List, Option, Some, None}
+use Rattle.std.specs.Prelude.{◌≡◌, ◌≤◌, ℕ, suc, Bool, true, false, ◌||◌, ◌&&◌, All, List, Option, Some, None}
 use Rattle.std.specs.List.{list_any}
-use Rattle.std.specs.Option.{option_map, option_map_or}
+use Rattle.std.specs.Option.{option_map_or}
 use Rattle.std.proofs.Common.{refl, sym, ap, ◌∙◌, arith, subst}
-use Rattle.std.proofs.lemmas.Bool.{false≢true, true≢false}
+use Rattle.std.proofs.lemmas.Bool.{true≢false}
 use Rattle.std.proofs.lemmas.List.Elements.{All-weaker}
-use Rattle.std.proofs.lemmas.Option.{none-some, same_Some}
+use Rattle.std.proofs.lemmas.Option.{same_Some}
 use Rattle.client_session.specs.Setups.{Setup as Service}
 use Rattle.mx_wire.specs.declared.entry.Entry.TheVariants as entry
-use Rattle.private_model.proofs.Maps.{client_of, name_of, same_link, same_number}
+use Rattle.private_model.proofs.Maps.{client_of, name_of, same_link}
 use Rattle.private_model.proofs.Maps as maps
 use Rattle.private_model.specs.Names.{ClientNo, LinkId, SessionName}
 use Rattle.private_model.specs.Story.{Capture, End, Own, Prep, Question, Statement, Sync, is_client, is_link_id, is_name}
@@ -18,7 +18,6 @@ use Rattle.log_story.specs.Owed.{name_of as message_at}
 use Rattle.log_story.specs.Plan.{gives_up}
 use Rattle.log_story.specs.Tale.{Client, Tale, counted, is_to_server, link_in}
 use Rattle.log_story.specs.Telling.{told}
-use Rattle.served_link.specs.Rests.{is_done as is_done_row}
 use Rattle.step_laws.proofs.Sparing.{done_as_before, stays_spared}
 use Rattle.step_laws.proofs.Taking.{uncalled}
 use Rattle.step_laws.proofs.Telling.{told_spares}
@@ -26,10 +25,8 @@ use Rattle.step_laws.specs.Freed.{NoneDoneBut, is_done_at}
 use Rattle.step_laws.specs.Spared.{carries_of, is_asked_by, told_link, told_session}
 use Rattle.step_laws.specs.Steps.{told_then}
 use Rattle.step_laws.specs.Taken.{GivesUpNone, is_called}
-use Rattle.core_tables.specs.Parting.{at_desk, given_row, given_up_in, is_done_for, is_done_in, name_in}
+use Rattle.core_tables.specs.Parting.{given_up_in}
 use Rattle.core_tables.specs.Tables.{Tabled}
-use Rattle.core_tables.specs.declared.client.Client as code
-use Rattle.core_tables.specs.declared.server.Server.{Server}
 use Rattle.core_stands.specs.Grounds.{Ground, on, view_on}
 use Rattle.core_stands.specs.Stands.{IsAt, Rests, Stands}
 use Rattle.desk_laws.specs.Spares.{asked_for}
@@ -39,28 +36,8 @@ use Rattle.core_laws.proofs.OfEntry.Uneventful.{Testing}
 use Rattle.core_laws.specs.entry.Calms.{is_asked_of}
 use Rattle.core_laws.specs.entry.Entries.{AreSpared, IsSpared, OfItsLink}
 use Rattle.core_laws.proofs.OfLinks.OneRead.{read_clients, read_links}
+use Rattle.router_laws.proofs.OfReading.Lent.{IsLentElsewhere, given_done}
 use Rattle.core_laws.proofs.OfLinks.Uncalled.{of_no_client}
-
--- No link is given back as statements are given up.
-
-given_alike : (payload : Option (List ℕ)) (n : SessionName) (row : Option code.Client) → at_desk n (option_map (given_row payload) row) ≡ at_desk n row
-given_alike payload n None = refl
-given_alike None n (Some row) = refl
-given_alike (Some payload) n (Some row) = refl
-
-module _ (given : ClientNo → Option (List ℕ)) (t : Tabled) where
-  done_for : (server : Server) (n : Option SessionName) → is_done_for (given_up_in given t) server n ≡ is_done_for t server n
-  done_for server None = refl
-  done_for server (Some n) = ap (λ s. is_done_row server.row s false) (given_alike (given n.client) n (t.clients n.client))
-
-  done_at : (server : Option Server)
-      → option_map_or (λ s. is_done_for (given_up_in given t) s (name_in s.row.link.state.carries)) server false
-      ≡ option_map_or (λ s. is_done_for t s (name_in s.row.link.state.carries)) server false
-  done_at None = refl
-  done_at (Some server) = done_for server (name_in server.row.link.state.carries)
-
-  given_done : (l : LinkId) → is_done_in l (given_up_in given t) ≡ is_done_in l t
-  given_done l = done_at (t.links l)
 
 -- Whose question stands there.
 
@@ -157,11 +134,11 @@ module _ (service : Service) (g : Ground) (t : Tabled) (roomy : ClientNo → Boo
 
   -- of the links that one alone may be given back as the entry is counted
   pub alone : Testing service → (given : ClientNo → Option (List ℕ)) (tables : Tabled) → Stands service (on g said) tables
-      → Stands service (on g (counted said)) (given_up_in given tables)
+      → ((other : LinkId) → is_link_id other l ≡ false → IsLentElsewhere tables given other) → Stands service (on g (counted said)) (given_up_in given tables)
       → NoneDoneBut g.setup g.plan (λ (other : LinkId). is_link_id other l) heard
-  alone testing given tables stands counts other is aside =
+  alone testing given tables stands elsewhere counts other is aside =
       testing (on g (counted said)) (given_up_in given tables) other counts is
-      ∙ given_done given tables other ∙ sym (testing (on g said) tables other stands is) ∙ undone_said other is aside
+      ∙ given_done service (on g said) tables stands given other (elsewhere other aside) ∙ sym (testing (on g said) tables other stands is) ∙ undone_said other is aside
 
   -- Others aren't called, nor concerned, where nothing of theirs is given up.
 

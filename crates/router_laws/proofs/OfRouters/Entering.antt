@@ -58,7 +58,7 @@ module _ (service : Service) (log : Log) (e : Entry) (login : Option Login) (beg
   none_called = record { given = λ c. refl; none_taken = λ c. refl }
 
   module _ (setup : Setup) (codes : Codes) (plan : Plan) (of : IsOf new (length (with_entry log e)) plan)
-      (fits : Fits setup codes plan service.default_schema (tale_of setup plan (with_entry log e))) where
+      (fits : Fits new.keys setup codes plan service.default_schema (tale_of setup plan (with_entry log e))) where
     abbrev g : Ground
     g = ground setup codes plan d log
 

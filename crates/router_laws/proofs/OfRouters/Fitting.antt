@@ -15,7 +15,7 @@ use Rattle.session_state.specs.declared.place.Place.{Place}
 use Rattle.session_vars.specs.Settings.{defaults}
 use Rattle.private_model.specs.Commands.{Account}
 use Rattle.private_model.specs.Names.{ClientNo, LinkId, MessageName}
-use Rattle.private_model.specs.Story.{is_client}
+use Rattle.private_model.specs.Story.{Key, is_client}
 use Rattle.private_model.specs.View.{Setup}
 use Rattle.link_laws.specs.Stands.{Codes}
 use Rattle.row_laws.specs.Readied.{AreClasses}
@@ -51,8 +51,9 @@ classes : AreClasses router_reads
 unfolding router_reads
 classes = record { class = λ text. refl; hides = λ text. refl }
 
-abbrev no_codes : Codes
-no_codes key = None
+-- a key is its own number
+abbrev its_key : Codes
+its_key key = Some key
 
 abbrev no_account : Account
 no_account = record { user = []; capabilities = no_capabilities }
@@ -60,10 +61,13 @@ no_account = record { user = []; capabilities = no_capabilities }
 abbrev no_place : Place
 no_place = record { schema = []; settings = defaults }
 
+abbrev no_key : Key
+no_key = record { text = []; place = no_place }
+
 abbrev base : Setup
 base = record {
   reads = router_reads;
-  keys = λ key. record { text = []; place = no_place };
+  keys = λ key. no_key;
   accounts = λ c. no_account;
   places = λ c. no_place;
   stored = λ server. [];
@@ -118,7 +122,7 @@ module _ (default : List ℕ) (d : Decided) (log : Log) where
 
   -- clients are who they say
   abbrev setup : Setup
-  setup = record base { accounts = λ c. account_for (seat c); places = λ c. place_for (seat c) }
+  setup = record base { keys = λ key. unwrap_or (d.keys key) no_key; accounts = λ c. account_for (seat c); places = λ c. place_for (seat c) }
 
   abbrev IsWho : tales.Client → Type 0
   IsWho x = IsWhoItSays setup plan default x (opening_of (talk_of plan x))
@@ -154,10 +158,11 @@ module _ (default : List ℕ) (d : Decided) (log : Log) where
       All-cons IsWho y ys (who_like x y like.0 (All-head IsWho x xs all)) (all_like xs ys like.1 (All-tail IsWho x xs all))
 
   fitting : ((m : MessageName) (route : Route) → d.routes m ≡ Some (Some route) → route.mirror ≡ None)
-      → Fits setup no_codes plan default (tale_of setup plan log)
+      → Fits d.keys setup its_key plan default (tale_of setup plan log)
   fitting single = record {
     classes = record { class = classes.class; hides = classes.hides };
-    apart = λ a b number is other. none_some None number refl is;
+    named = λ key. refl;
+    keyed = λ k key was. ap (λ (o : Option Key). unwrap_or o no_key) was;
     who = all_like seats (tale_of setup plan log).clients (alike base plan setup plan log) all_sit;
     single = single_by d.routes single;
   }
@@ -167,10 +172,10 @@ module _ (service : Service) (log : Log) (t : Tabled) (roomy : ClientNo → Bool
   d = router.core.decided
 
   abbrev g : Ground
-  g = ground (setup service.default_schema d log) no_codes (plan_of d) d log
+  g = ground (setup service.default_schema d log) its_key (plan_of d) d log
 
   rests_so : Rests service.setup g t roomy
-  rests_so = router.core.rests (setup service.default_schema d log) no_codes (plan_of d) (itself d (length log)) (fitting service.default_schema d log router.recorded.alone)
+  rests_so = router.core.rests (setup service.default_schema d log) its_key (plan_of d) (itself d (length log)) (fitting service.default_schema d log router.recorded.alone)
 
   pub somehow : RestsSomehow service.setup log t roomy
   somehow = record { g = g; tale_is = refl; rests = rests_so }

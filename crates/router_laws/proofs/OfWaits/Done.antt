@@ -18,7 +18,7 @@ use Rattle.core_tables.specs.Tables.{Tabled}
 use Rattle.core_stands.specs.Grounds.{Ground}
 use Rattle.core_stands.specs.Stands.{IsAt, Rests}
 use Rattle.core_laws.specs.entry.Dues.{AreWrittenTo, IsWrittenTo}
-use Rattle.core_laws.specs.entry.Safe.{IsSafe, has_runs}
+use Rattle.core_laws.specs.entry.Safe.{IsSafe}
 use Rattle.core_laws.specs.entry.Tells.{IsOf, ground}
 use Rattle.router_promises.proofs.Saying.{now-tale}
 use Rattle.router_promises.specs.Due.{due_to}
@@ -36,6 +36,7 @@ use Rattle.router_laws.proofs.OfWaits.Telling.{told_or}
 use Rattle.router_laws.proofs.OfWaits.Working.{worked}
 use Rattle.router_laws.specs.decisions.Routers.{AreOpenJust}
 use Rattle.router_laws.specs.waits.Drained.{IsDrainedFor}
+use Rattle.run_laws.specs.Tells.{TellsBytes}
 
 -- to one that goes on no last word is said by now
 wordless_by : (d : Decided) (moment : ℕ) (plan : Plan) (c : ClientNo) (word : Option LastWord) → IsOf d moment plan → d.words c ≡ None
@@ -129,8 +130,8 @@ module _ (service : Serving) (terms : Terms) (codes : Codes) (d : Decided) (log 
         served client at (written_now k other within) ended opened (worked client at ended opened);
   }
 
-  runless : IsSafe (setup_in terms) (plan_in terms) log → has_runs now.tale.story ≡ false
-  runless safe = ap (λ (tale : Tale). has_runs tale.story) same ∙ safe.runless
+  told_bytes : IsSafe (setup_in terms) (plan_in terms) log → TellsBytes now.tale
+  told_bytes safe = subst TellsBytes (sym same) safe.told
 
   pub done : IsSafe (setup_in terms) (plan_in terms) log → AreOpenJust log t → IsDone terms log now
-  done safe open_just = done_by (worked service terms codes over now log t roomy rests_now open_just drained (runless safe))
+  done safe open_just = done_by (worked service terms codes over now log t roomy rests_now open_just drained (told_bytes safe).heard)

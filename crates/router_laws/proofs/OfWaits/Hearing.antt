@@ -38,7 +38,7 @@ use Rattle.core_stands.specs.Servers.{IsServer, IsServerBy}
 use Rattle.core_stands.specs.Stands.{IsKnown, Rests}
 use Rattle.core_laws.proofs.OfArrival.Finding.{client-same}
 use Rattle.core_laws.proofs.OfEntry.Lists.{seated_of}
-use Rattle.core_laws.proofs.OfParting.Carrying.{row_carries}
+use Rattle.core_laws.proofs.OfParting.Named.{row_carries}
 use Rattle.core_laws.proofs.OfParting.Same.{known_so}
 use Rattle.core_says.specs.Says.{is_at, is_free, is_free_for, is_home, is_sound, reads_by, reads_in}
 use Rattle.core_promises.specs.Waits.{IsHeardOn}

@@ -26,7 +26,7 @@ use Rattle.router_laws.specs.waits.Drained.{IsDrainedAt, IsDrainedFor}
 abbrev pub Done : Type 0
 Done = (service : Service) (terms : Terms) (codes : Codes) (d : Decided) (log : Log) (t : Tabled) (roomy : ClientNo → Bool)
     → IsOf d (length log) (plan_in terms)
-    → Fits (setup_in terms) codes (plan_in terms) service.default_schema (tale_of (setup_in terms) (plan_in terms) log)
+    → Fits d.keys (setup_in terms) codes (plan_in terms) service.default_schema (tale_of (setup_in terms) (plan_in terms) log)
     → Rests service.setup (ground (setup_in terms) codes (plan_in terms) d log) t roomy
     → AreWrittenTo (ground (setup_in terms) codes (plan_in terms) d log) log → IsSafe (setup_in terms) (plan_in terms) log
     → ((c : ClientNo) → d.ends c ≡ None → d.words c ≡ None) → AreOpenJust log t → IsDrainedFor t log
@@ -35,7 +35,7 @@ Done = (service : Service) (terms : Terms) (codes : Codes) (d : Decided) (log : 
 module _ (done : Done) (service : Service) (log : Log) (t : Tabled) (roomy : ClientNo → Bool) (router : IsRouter service log t roomy) where
   -- whatever the decisions call for
   all_done : IsDrainedFor t log → (terms : Terms) (codes : Codes) → IsOf router.core.decided (length log) (plan_in terms)
-      → Fits (setup_in terms) codes (plan_in terms) service.default_schema (tale_of (setup_in terms) (plan_in terms) log)
+      → Fits router.core.decided.keys (setup_in terms) codes (plan_in terms) service.default_schema (tale_of (setup_in terms) (plan_in terms) log)
       → IsDone terms log (now_at terms log)
   all_done drained terms codes of fits =
       done service terms codes router.core.decided log t roomy of fits (router.core.rests (setup_in terms) codes (plan_in terms) of fits)

@@ -49,12 +49,8 @@ use Rattle.core_tables.specs.declared.client.Client.{Client}
 use Rattle.core_tables.specs.declared.server.Server.{Server}
 use Rattle.core_stands.specs.Clients.{IsClient, IsGoing, IsWorking, IsWorkingOr}
 use Rattle.core_stands.specs.Grounds.{Ground, view_on}
-use Rattle.core_stands.specs.Stands.{IsAt, IsHome, Rests}
-use Rattle.core_laws.proofs.OfEntry.Plain.{no_run_stands}
-use Rattle.core_laws.proofs.OfEntry.Saying.{written_so}
+use Rattle.core_stands.specs.Stands.{IsAt, IsHome, Rests, IsDuly}
 use Rattle.core_laws.proofs.OfParting.Forgetting.{carrier_serves, server_there}
-use Rattle.core_laws.specs.entry.Safe.{has_runs, is_run}
-use Rattle.core_laws.specs.entry.Speaks.{is_run_at}
 use Rattle.core_says.specs.Says.{begins_for, is_named, sends_by, sends_in}
 use Rattle.core_promises.specs.Waits.{IsAtWork, IsOnItsWay}
 use Rattle.router_promises.specs.Dues.{is_due, is_kept_due, is_unsent}
@@ -66,33 +62,24 @@ use Rattle.router_promises.specs.Wakes.{has_ended}
 use Rattle.router_laws.proofs.OfWaits.Rows.{HasRow, ground_now, row_of}
 use Rattle.router_laws.specs.decisions.Routers.{AreOpenJust}
 use Rattle.router_laws.specs.waits.Drained.{IsDrainedFor}
+use Rattle.run_laws.specs.Reads.{AllHeard, HasItsArgs, ReadsAsked, ReadsRun}
+use Rattle.run_laws.proofs.Becoming.{became_so}
+use Rattle.run_laws.proofs.Readable.{readable}
+use Rattle.shared_router.proofs.Wholly.{whole_so}
+use Rattle.shared_router.specs.Spelt.{spelt}
 
--- What was written is whole.
-
-none_more : (written more others : List ℕ) → (written ++ more) ++ others ≡ written → more ≡ []
-none_more written [] others is = refl
-none_more written (byte ∷ more) others is =
-    absurd (omega (arith, ap length is, length-append (written ++ byte ∷ more) others, length-append written (byte ∷ more)))
-
--- but for an execute a command is written in one way
-one_way : (command : Command) (number : Option ℕ) (written : List ℕ) → is_run command ≡ false → IsWritten command number written
-    → written ≡ spelling 0 (text_payload command)
-one_way (Run text schema settings args) number written plain is = absurd (true≢false plain)
-one_way (Query text) number written plain is = is
-one_way (InitDb schema) number written plain is = is
-one_way (FieldList rest) number written plain is = is
-one_way (SetId n) number written plain is = is
-one_way ReadId number written plain is = is
-one_way (Prepare text) number written plain is = is
-one_way Reset number written plain is = is
-one_way Quit number written plain is = is
-
-whole_so : (command : Command) (number : Option ℕ) (written : List ℕ) → is_run command ≡ false → written ≡ spelt_as command number
-    → IsWhole command number written
-whole_so command number written plain is = λ more begins.
-    none_more written more begins.more
-    (one_way command number ((written ++ more) ++ begins.more) plain begins.all
-    ∙ sym (one_way command number written plain (written_so command number written plain is)))
+-- a command is spelt in one way
+spelt_same : (command : Command) (number : Option ℕ) → spelt_as command number ≡ spelt command number
+spelt_same (Run text schema settings args) None = refl
+spelt_same (Run text schema settings args) (Some number) = refl
+spelt_same (Query text) number = refl
+spelt_same (InitDb schema) number = refl
+spelt_same (FieldList rest) number = refl
+spelt_same (SetId n) number = refl
+spelt_same ReadId number = refl
+spelt_same (Prepare text) number = refl
+spelt_same Reset number = refl
+spelt_same Quit number = refl
 
 -- What began on a link is written whole, or something is left to write there.
 
@@ -127,7 +114,7 @@ unquiet (stages.Answered asking) is quiet = absurd (true≢false (sym is))
 
 module _ (reads : Reads) (codes : Codes) (login : Login) (seen : View) (row : Row) (wire : Wire) (link : Link)
     (serves : Serves reads codes login seen row wire link) (question : Question) (there : link.stage ≡ view.Asked question)
-    (plain : is_run (command_of question) ≡ false) where
+    (reads_so : ReadsRun (command_of question) (number_for question link.live)) where
   asked : is_asked row.link.state.stage ≡ true
   asked = asked_seen reads codes row.link.state link serves.state (ap is_asked_law there)
 
@@ -145,7 +132,8 @@ module _ (reads : Reads) (codes : Codes) (login : Login) (seen : View) (row : Ro
 
     by : IsSome (writes.left_of w) ⊎ (wire.written ≡ w.bytes) → HasLeft row ⊎ IsWhole (command_of question) (number_for question link.live) wire.written
     by (inl more) = inl (record { sound = serves.well asked; none_next = none; left = ap is_some (left_is w is) ∙ more })
-    by (inr all) = inr (whole_so (command_of question) (number_for question link.live) wire.written plain (all ∙ said))
+    by (inr all) = inr (whole_so (command_of question) (number_for question link.live) wire.written reads_so
+        (all ∙ said ∙ spelt_same (command_of question) (number_for question link.live)))
 
   by_next : (next : Option Begins) (writing : Option Writing) → row.link.next ≡ next → row.link.writing ≡ writing
       → IsWrittenBy next writing row.link.state.stage row.link.step row.link.quits wire.step wire.written link
@@ -179,7 +167,7 @@ unowned plan tale seen client (suc n) is =
 
 module _ (serving : Serving) (terms : Terms) (codes : Codes) (over : ClientNo → Bool) (now : Now) (log : Log) (t : Tabled) (roomy : ClientNo → Bool)
     (rests : Rests serving (ground_now terms codes over now) t roomy) (just : AreOpenJust log t) (drained : IsDrainedFor t log)
-    (plain : has_runs now.tale.story ≡ false) where
+    (told : AllHeard now.tale.story) where
   abbrev g : Ground
   g = ground_now terms codes over now
 
@@ -194,13 +182,17 @@ module _ (serving : Serving) (terms : Terms) (codes : Codes) (over : ClientNo �
     serves = carrier_serves (setup_in terms) codes (plan_in terms) now.tale l server.row n home.carries
         (server_there serving g t l server rests.stands home.there).row
 
-    plain_at : (question : Question) → ((view_on g).links l).stage ≡ view.Asked question → is_run (command_of question) ≡ false
-    plain_at question there = ap is_run_at (sym there) ∙ no_run_stands (setup_in terms) now.tale.story rests.stands.lawful plain l
+    reads_at : (question : Question) → ((view_on g).links l).stage ≡ view.Asked question
+        → ReadsRun (command_of question) (number_for question ((view_on g).links l).live)
+    reads_at question there =
+        subst (λ (s : view.Stage). ReadsAsked s ((view_on g).links l).live) there
+        (readable (setup_in terms) now.tale.story rests.stands.lawful
+        (became_so (setup_in terms) (IsDuly (setup_in terms) (plan_in terms)) HasItsArgs (λ n due is. is.whole) now.tale.story rests.stands.duly) told l).asked
 
     asked_goes : (question : Question) → ((view_on g).links l).stage ≡ view.Asked question → Goes l (view.Asked question)
     asked_goes question there =
         by (asked_whole (setup_in terms).reads codes ((plan_in terms).logins l) (view_on g) server.row (now.tale.wires l) ((view_on g).links l)
-        serves question there (plain_at question there)) where
+        serves question there (reads_at question there)) where
           by : HasLeft server.row ⊎ IsWhole (command_of question) (number_for question ((view_on g).links l).live) (now.tale.wires l).written
               → Goes l (view.Asked question)
           by (inl has) = inl (drained.written l open_there (ap is_some (sends_left t l server home.there home.whole has.sound has.none_next) ∙ has.left))

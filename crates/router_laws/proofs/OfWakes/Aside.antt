@@ -36,6 +36,7 @@ use Rattle.core_stands.specs.Servers.{IsNextFor, IsNextOf, IsNextStatement, IsRe
 use Rattle.core_stands.specs.Stands.{AreHomes, IsAt, Stands}
 use Rattle.core_laws.proofs.OfParting.Freeing.{glanced_or}
 use Rattle.core_laws.specs.parting.Frames.{KeepsOr, glance}
+use Rattle.core_laws.proofs.OfPrepared.Rows.{are_prepared, row_seated}
 
 -- A client's row with another note.
 
@@ -91,7 +92,7 @@ module _ (g : Ground) (t : Tabled) (l : LinkId) (row : Row) (who : Option Client
 
   for_readied : (purpose : Purpose) (link : Link) (asking : Asking) → IsNextFor purpose g t row link asking → IsNextFor purpose g t readied_row link asking
   for_readied (purposes.Statement n ordinal key) link asking is = statement_readied n ordinal link asking is
-  for_readied (purposes.Prep n ordinal key) link asking is = is
+  for_readied (purposes.Prep n ordinal key) link asking is = record { said = is.said; told = is.told; taken_up = is.taken_up }
   for_readied (purposes.Sync n) link asking is = record { command = is.command; said = is.said }
   for_readied purposes.Own link asking is = record { command = is.command; said = is.said }
   for_readied (purposes.End n) link asking is = is
@@ -299,6 +300,11 @@ module _ (g : Ground) (t now : Tabled) (aside : IsAside t now) where
     servers = λ l. servers_aside stay l (is.servers l);
     homes = homes_aside is.homes;
     lawful = is.lawful;
+    prepared = are_prepared g g.tale g.over g.fresh t now is.clients (λ m. refl) is.prepared (λ client seated. seated)
+        (λ c row there going.
+        let old = before_client (t.clients c) (now.clients c) (aside.clients c) row there in
+        row_seated t c old.row row old.there (ap (λ (desk : Desk). desk.seat) (sym old.same)) going);
+    duly = is.duly;
   }
 
 -- What is noted, readied and shelved is aside.

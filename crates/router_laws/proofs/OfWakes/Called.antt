@@ -32,15 +32,13 @@ use Rattle.core_laws.proofs.OfEntry.Lists.{seated_of}
 use Rattle.core_laws.proofs.OfEntry.Resting.{entry_rests}
 use Rattle.core_laws.specs.entry.Entries.{AreCalmToo, KeepsIdle, KeepsSeats, behind}
 use Rattle.core_laws.specs.entry.Freeing.{all_freed}
-use Rattle.core_laws.specs.entry.Safe.{has_runs}
 use Rattle.core_laws.proofs.OfClients.Facts.{its_row}
-use Rattle.core_laws.proofs.OfClients.Following.{freed_runs}
 use Rattle.core_laws.specs.clients.Turns.{count_by}
 use Rattle.router_laws.proofs.OfWakes.Aligned.{AreNamed, aligned, called_of, callers_are, ended_among, ended_are, none_ended_in, one_ended_in}
 use Rattle.router_laws.proofs.OfWakes.Callers.{AllWent, AreApart, AreCallers, DonesOf, IsAt, IsCaller, IsDone, all_gone, all_went, ended_on, is_in}
 use Rattle.router_laws.proofs.OfWakes.Going.{Laws}
 use Rattle.router_laws.proofs.OfWakes.Homed as homing
-use Rattle.router_laws.proofs.OfWakes.Later.{later_itself, lawful_behind}
+use Rattle.router_laws.proofs.OfWakes.Later.{duly_behind, later_itself, lawful_behind}
 use Rattle.router_laws.proofs.OfWakes.Reordered.{stands_alike}
 use Rattle.router_laws.proofs.OfWakes.Stepped as stepping
 use Rattle.router_laws.specs.wakes.Calling.{Caller, CallsSo, IsThere, is_called}
@@ -215,10 +213,9 @@ module _ (laws : Laws) (frees : Frees) (service : Service) (default : List ℕ) 
   pub first : First
   first = record {
     stands = stands;
-    later = later_itself g.setup heard;
+    later = later_itself g.setup g.plan heard;
     overs = λ c. or_nobody (g.over c);
     moment = refl;
-    runless = λ none. none;
   }
 
   abbrev Went : Type 0
@@ -266,7 +263,8 @@ module _ (laws : Laws) (frees : Frees) (service : Service) (default : List ℕ) 
       subst (λ (by : ClientNo → Bool). Stands service (record g { tale = last; over = by }) so.turned) over_is
       (subst (λ (cs : List ClientNo). Stands service (record g { tale = leave cs late; over = went.over }) so.turned) ended_is
       (stands_alike service (record g { over = went.over }) went.early (leave (ended_on callers xs []) late) so.turned went.at.later.like
-      (lawful_behind g.setup (ended_on callers xs []) late (went.at.later.lawful went.at.stands.lawful)) went.at.stands))
+      (lawful_behind g.setup g.plan (ended_on callers xs []) late (went.at.later.lawful went.at.stands.lawful))
+      (duly_behind g.setup g.plan (ended_on callers xs []) late (went.at.later.duly went.at.stands.duly)) went.at.stands))
 
   -- The step.
 
@@ -460,7 +458,7 @@ module _ (laws : Laws) (frees : Frees) (service : Service) (default : List ℕ) 
         (λ i d within. (roomier_rests.calm i d within, counted_seats new.tale roomier_rests.stands.clients.counted i d within));
   }
 
-  -- What is counted, and that no run was taken up.
+  -- What is counted.
 
   pub counts : (x : tales.Client) → IsSeated new.tale x → called x.number ≡ true → IsCounted g callers x
   counts x seated its =
@@ -474,12 +472,3 @@ module _ (laws : Laws) (frees : Frees) (service : Service) (default : List ℕ) 
         number = at.number;
         count = ap (λ (y : tales.Client). y.taken) same ∙ at.done.count;
       }
-
-  leave_runs : (cs : List ClientNo) (tale : Tale) → has_runs (leave cs tale).story ≡ has_runs tale.story
-  leave_runs [] tale = refl
-  leave_runs (c ∷ cs) tale = leave_runs cs (tell (Left c) tale)
-
-  pub runless : has_runs g.tale.story ≡ false → has_runs new.tale.story ≡ false
-  runless none =
-      ap (λ (x : Tale). has_runs x.story) (step_is ∙ freed_is) ∙ freed_runs g.setup g.plan links last ∙ leave_runs ended late
-      ∙ went.at.later.runless (went.at.runless none)

@@ -23,7 +23,6 @@ use Rattle.core_tables.specs.Tables.{Tabled}
 use Rattle.core_stands.specs.Grounds.{Ground}
 use Rattle.core_stands.specs.Stands.{Stands}
 use Rattle.core_laws.specs.arrival.Looks.{IsLetIn}
-use Rattle.core_laws.specs.entry.Safe.{has_runs}
 use Rattle.core_laws.specs.clients.Chosen.{PlanHas}
 use Rattle.core_laws.specs.clients.Following.{IsPartedIn}
 use Rattle.core_laws.specs.clients.Follows.{PartsSo, ends_by, quits_by}
@@ -90,10 +89,9 @@ module _ (laws : Laws) (service : Service) (default : List ℕ) (g : Ground) (lo
   -- The tables stand as clients left at once, which is as good as leaving behind all.
   pub record IsAt (cs : List ClientNo) (early late : Tale) (over : ClientNo → Bool) (t : Tabled) : Type 0 where
     pub stands : Stands service (with_over over early) t
-    pub later : LeftLater g.setup cs early late
+    pub later : LeftLater g.setup g.plan cs early late
     pub overs : (c : ClientNo) → over c ≡ (g.over c || is_in cs c)
     pub moment : early.moment ≡ suc g.tale.moment
-    pub runless : has_runs g.tale.story ≡ false → has_runs early.story ≡ false
 
   -- One of them.
 
@@ -101,7 +99,7 @@ module _ (laws : Laws) (service : Service) (default : List ℕ) (g : Ground) (lo
   leave_clients [] tale = refl
   leave_clients (c ∷ cs) tale = leave_clients cs (tell (Left c) tale)
 
-  pub seated_early : (cs : List ClientNo) (early late : Tale) (x : tales.Client) → LeftLater g.setup cs early late → IsSeated late x → IsSeated early x
+  pub seated_early : (cs : List ClientNo) (early late : Tale) (x : tales.Client) → LeftLater g.setup g.plan cs early late → IsSeated late x → IsSeated early x
   seated_early cs early late x later seated =
       ap (λ (xs : List tales.Client). seats (record early { clients = xs }) x.number) (sym later.like.clients ∙ leave_clients cs late) ∙ seated
 
@@ -126,18 +124,14 @@ module _ (laws : Laws) (service : Service) (default : List ℕ) (g : Ground) (lo
       ∙ ap (λ (b : Bool). g.over k || b) (sym (list_any-append (λ (x : ClientNo). is_client x k) cs (c ∷ [])))
   overs_with false c cs over overs k = overs k
 
-  later_with : (b : Bool) (c : ClientNo) (cs : List ClientNo) (early late : Tale) → LeftLater g.setup cs early late
-      → LeftLater g.setup (ended_with b c cs) (early_with b c early) late
-  later_with true c cs early late later = left_later g.setup cs c early late later
+  later_with : (b : Bool) (c : ClientNo) (cs : List ClientNo) (early late : Tale) → LeftLater g.setup g.plan cs early late
+      → LeftLater g.setup g.plan (ended_with b c cs) (early_with b c early) late
+  later_with true c cs early late later = left_later g.setup g.plan cs c early late later
   later_with false c cs early late later = later
 
   moment_with : (b : Bool) (c : ClientNo) (tale : Tale) → (early_with b c tale).moment ≡ tale.moment
   moment_with true c tale = refl
   moment_with false c tale = refl
-
-  runs_with : (b : Bool) (c : ClientNo) (tale : Tale) → has_runs (early_with b c tale).story ≡ has_runs tale.story
-  runs_with true c tale = refl
-  runs_with false c tale = refl
 
   abbrev most : tales.Client → ℕ
   most x = length (messages g.plan x)
@@ -184,7 +178,7 @@ module _ (laws : Laws) (service : Service) (default : List ℕ) (g : Ground) (lo
         (subst (λ (c : ClientNo). Turns caller.choices caller.halt service default c t goes.turned) (sym is.number) goes.turns)
         (subst (λ (c : ClientNo). PartsSo caller.parting c goes.turned now) (sym is.number) goes.parts)
 
-    later : LeftLater g.setup cs (gone x early) (gone x late)
+    later : LeftLater g.setup g.plan cs (gone x early) (gone x late)
     later = taken_later g.setup g.plan cs (most x) x early late aside (single (is_its x)) at.later
 
     same_clients : (gone x early).clients ≡ (gone x late).clients
@@ -203,7 +197,6 @@ module _ (laws : Laws) (service : Service) (default : List ℕ) (g : Ground) (lo
         overs = overs_with (is_ended_by caller) x.number cs over at.overs;
         moment = moment_with (is_ended_by caller) x.number (gone x early)
             ∙ (taken_up_spares g.setup (is_its x) g.plan (single (is_its x)) (most x) x early (same_number x.number.0)).moment ∙ at.moment;
-        runless = λ none. runs_with (is_ended_by caller) x.number (gone x early) ∙ went.runless (at.runless none);
       };
       done = record {
         last = went.last;
@@ -298,7 +291,6 @@ module _ (laws : Laws) (service : Service) (default : List ℕ) (g : Ground) (lo
       later = at.later;
       overs = at.overs;
       moment = at.moment;
-      runless = at.runless;
     };
     dones = tt;
   }

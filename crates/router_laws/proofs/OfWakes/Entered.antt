@@ -39,7 +39,6 @@ use Rattle.core_laws.proofs.OfEntry.Uneventful.{Testing}
 use Rattle.core_laws.specs.entry.Cores.{GoesOn, IsSafely, with_entry}
 use Rattle.core_laws.specs.entry.Dues.{AreSilent, AreWrittenTo, EndsSaying, IsSaidLast, written_by}
 use Rattle.core_laws.specs.entry.Entries.{behind}
-use Rattle.core_laws.specs.entry.Safe.{has_runs}
 use Rattle.core_laws.specs.entry.Speaks.{IsSilentOrSpoken}
 use Rattle.core_laws.specs.entry.Tells.{AreWhoTheySay, Fits, IsOf, ground}
 use Rattle.core_laws.proofs.OfClients.Keeping.{keeps_all_freed, keeps_along, keeps_itself, keeps_same, part_keeps, turns_keep}
@@ -48,7 +47,7 @@ use Rattle.core_laws.specs.clients.Keeps.{KeepsRows}
 use Rattle.core_laws.specs.clients.Turns.{Rests as Resting, count_by}
 use Rattle.router_laws.proofs.OfClients.Continuing.{all_were}
 use Rattle.router_laws.proofs.OfClients.Duing.{moment_more, written_with}
-use Rattle.router_laws.proofs.OfClients.Entering.{heard_always, off_spoken}
+use Rattle.router_laws.proofs.OfClients.Entering.{heard_always, off_gets, off_spoken}
 use Rattle.router_laws.proofs.OfClients.LetIn.{let_in_then}
 use Rattle.router_laws.specs.clients.Behind.{IsDueBehind, IsOffServers}
 use Rattle.router_laws.specs.clients.Continues.{HasCome, IsContinued, WasThere, is_read_on}
@@ -61,6 +60,7 @@ use Rattle.router_laws.proofs.OfDecisions.Router.{router_goes_on, stood_before}
 use Rattle.query_rules.specs.Passing.{rules_of}
 use Rattle.core_promises.specs.Judges.{Rulebook}
 use Rattle.core_promises.specs.Ruled.{book_of}
+use Rattle.router_promises.specs.Takings.{Taking, takings_at}
 use Rattle.core_service.specs.declared.service.Service.{Service}
 use Rattle.router_laws.proofs.OfDecisions.Speaking.{ours_alone}
 use Rattle.router_laws.proofs.OfWakes.Saying.{ours_of_calls}
@@ -77,7 +77,7 @@ use Rattle.router_laws.specs.decisions.Routers.{AreOpenJust, GoesSo, IsBefore, I
 use Rattle.router_laws.specs.decisions.Rulings.{AreRuledAll}
 use Rattle.router_laws.proofs.OfReading.Judged.{one_seated}
 use Rattle.router_laws.proofs.OfWakes.Judged.{judged_of}
-use Rattle.router_laws.proofs.OfWakes.Called.{Frees, IsCalling, IsCounted, counts, keeps_seats, rests_behind, runless}
+use Rattle.router_laws.proofs.OfWakes.Called.{Frees, IsCalling, IsCounted, counts, keeps_seats, rests_behind}
 use Rattle.router_laws.specs.reading.Hearing.{TellsFor}
 use Rattle.router_laws.proofs.OfWakes.Aligned.{called_of}
 use Rattle.router_laws.proofs.OfWakes.Callers.{IsCaller}
@@ -197,7 +197,7 @@ module _ (service : Service) (knows : Knows service.setup) (log : Log) (e : Entr
       keeps_along t mid now (given_keep given_of t mid (all_given given t mid gives)) (calls_keep service.setup service.default_schema callers links mid now so_calls)
 
   module _ (setup : Setup) (codes : Codes) (plan : Plan) (of : IsOf new (length (with_entry log e)) plan)
-      (fits : Fits setup codes plan service.default_schema (tale_of setup plan (with_entry log e))) where
+      (fits : Fits new.keys setup codes plan service.default_schema (tale_of setup plan (with_entry log e))) where
     abbrev g : Ground
     g = ground setup codes plan d log
 
@@ -234,7 +234,7 @@ module _ (service : Service) (knows : Knows service.setup) (log : Log) (e : Entr
     stands_mid = knows.laws.same service.setup (on g heard) (given_up_in given_of t) mid counts_at_once (all_given given t mid gives)
 
     rested : NoneDone setup plan heard
-    rested = given_rests service.setup knows.testing g t given_of stood.rests.stands counts_at_once stood.rests.rested
+    rested = given_rests service.setup knows.testing g t mid given gives stood.rests.stands counts_at_once stood.rests.rested
 
     -- By the plan.
 
@@ -323,9 +323,6 @@ module _ (service : Service) (knows : Knows service.setup) (log : Log) (e : Entr
     rests_now : Rests service.setup after now room
     rests_now = rests_behind knows.laws knows.frees service.setup service.default_schema g t mid now roomy room over e callers links stood.rests calling stands_mid rested so_calls
 
-    runs_none : has_runs g.tale.story ≡ false → has_runs after.tale.story ≡ false
-    runs_none = runless knows.laws knows.frees service.setup service.default_schema g t mid now roomy room over e callers links stood.rests calling stands_mid rested so_calls
-
     -- What is due.
 
     its_call : (c : ClientNo) → ends_now plan instant c ≡ true → (b : Bool) → called c ≡ b → called c ≡ true
@@ -369,10 +366,10 @@ module _ (service : Service) (knows : Knows service.setup) (log : Log) (e : Entr
       fresh = λ c. false;
     }
 
-    safely : has_runs after.tale.story ≡ false → IsSafely setup plan log e now
-    safely none = record {
+    safely : IsSafely setup plan log e now
+    safely = record {
       passes = is_entry.passes setup plan g.tale;
-      runless = ap (λ (tale : Tale). has_runs tale.story) (tale_more setup plan log e) ∙ none;
+      gets = off_gets g.tale e (is_entry.off g.tale);
       closes = is_entry.closes setup g.tale;
       spoken = subst (λ (tale : Tale). (l : LinkId) → is_to_server tale l ≡ true → IsSilentOrSpoken setup plan g.tale e tale now l)
           (sym (tale_more setup plan log e)) (off_spoken setup plan g.tale e now (is_entry.off g.tale));
@@ -393,7 +390,7 @@ module _ (service : Service) (knows : Knows service.setup) (log : Log) (e : Entr
           (all_kept g log e made so (none_replied service.setup g t given_of (λ (l : LinkId). false) stood.rests.stands given_up))
           (over_then d router.counts log e made setup codes plan router.recorded of) due to);
       safe = λ rests behind_it to safe.
-          log_goes_on service.setup setup codes plan new log e now safe (safely (runs_none safe.runless)) behind_it.stands silent to;
+          log_goes_on service.setup setup codes plan new log e now safe safely behind_it.stands silent to;
     }
 
     -- What is counted.
@@ -436,8 +433,13 @@ module _ (service : Service) (knows : Knows service.setup) (log : Log) (e : Entr
     abbrev book : Rulebook
     book = book_of service
 
+    abbrev takings : List Taking
+    takings = takings_at setup plan g.tale e
+
     abbrev IsJudgedBy : tales.Client → Option Caller → Type 0
-    IsJudgedBy y o = JudgedFrom book setup plan y (router.counts.taken y.number) (option_map_or (λ (j : Caller). j.choices) o [])
+    IsJudgedBy y o =
+        JudgedFrom book setup plan y takings (router.counts.taken y.number) (option_map_or (λ (j : Caller). j.choices) o [])
+        (option_map_or (λ (j : Caller). j.halt) o Resting)
 
     judged_by : (y : tales.Client) → WasThere plan g.tale e y → (b : Bool) → called y.number ≡ b → IsJudgedBy y (found_in callers y.number)
     judged_by y was true its =
@@ -447,9 +449,9 @@ module _ (service : Service) (knows : Knows service.setup) (log : Log) (e : Entr
         let same : at.x ≡ was.was =
         one_seated at.x was.was (seats g.tale was.was.number) (sym at.seated ∙ ap (seats g.tale) (at.number ∙ was.continued.number)) was.seated in
         subst (IsJudgedBy y) (sym at.found)
-        (judged_on book setup plan g.tale e was.was y was.continued (is_entry.unread was.was.link) (router.counts.taken y.number)
-        (taken_before was.was was.seated ∙ ap router.counts.taken (sym was.continued.number)) at.caller.choices
-        (subst (λ (z : tales.Client). JudgedFrom book setup plan z z.taken at.caller.choices) same at.judged))
+        (judged_on book setup plan takings g.tale e was.was y was.continued (is_entry.unread was.was.link) (router.counts.taken y.number)
+        (taken_before was.was was.seated ∙ ap router.counts.taken (sym was.continued.number)) at.caller.choices at.caller.halt
+        (subst (λ (z : tales.Client). JudgedFrom book setup plan z takings z.taken at.caller.choices at.caller.halt) same at.judged))
     judged_by y was false other = subst (IsJudgedBy y) (sym (none_found callers y.number other)) tt
 
     judged_there : (y : tales.Client) → WasThere plan g.tale e y ⊎ HasCome g.tale e y → IsJudgedBy y (found_in callers y.number)

@@ -1,17 +1,15 @@
 -- Statements are given up one after the other, which is to give them up at once.
 use Rattle.std.specs.Prelude.{◌≡◌, ◌||◌, ℕ, Bool, true, false, nat_eq, is_some, if◌then◌else◌, List, [], ◌∷◌, Option, Some, None}
-use Rattle.std.specs.Option.{option_map, option_map_or}
+use Rattle.std.specs.Option.{option_map}
 use Rattle.std.proofs.Common.{refl, sym, ap, ◌∙◌, subst}
 use Rattle.std.proofs.lemmas.Bool.{false≢true}
 use Rattle.std.proofs.lemmas.Option.{none-some, same_Some}
 use Rattle.private_model.proofs.Maps.{client_of, same_number}
 use Rattle.private_model.specs.Names.{ClientNo, LinkId}
 use Rattle.private_model.specs.Story.{is_client}
-use Rattle.session_state.specs.declared.names.SessionName.{SessionName}
-use Rattle.served_link.specs.Rests.{is_done as is_done_row}
 use Rattle.log_story.specs.Tale.{counted}
 use Rattle.step_laws.specs.Freed.{NoneDone}
-use Rattle.core_tables.specs.Parting.{at_desk, given_row, given_up_in, is_done_for, is_done_in, name_in}
+use Rattle.core_tables.specs.Parting.{given_row, given_up_in}
 use Rattle.core_tables.specs.Tables.{IsSame, Tabled}
 use Rattle.core_tables.specs.declared.client.Client.{Client}
 use Rattle.core_tables.specs.declared.server.Server.{Server}
@@ -22,6 +20,8 @@ use Rattle.client_session.specs.Setups.{Setup as Service}
 use Rattle.client_desk.specs.declared.work.Work.{Work}
 use Rattle.core_laws.specs.clients.Going.{GivenUp}
 use Rattle.router_laws.proofs.OfWakes.Later.{flipped}
+use Rattle.router_laws.proofs.OfReading.Lent.{IsLentElsewhere, given_done}
+use Rattle.router_laws.specs.reading.Givings.{lent_home}
 use Rattle.router_laws.specs.wakes.Calling.{GivesUp, GivesUpAll, IsUnsent, is_given}
 use Rattle.router_laws.specs.wakes.Deciding.{payload_in}
 
@@ -52,12 +52,16 @@ module _ (up : GivenUp) (t between : Tabled) (gives : GivesUp up t between) wher
   none_unsent c its unsent =
       none_unsent_by (t.clients c) unsent.row unsent.work (sym (its_client c its) ∙ unsent.at_work.there) unsent.at_work.in_work
 
+  links_same : between.links ≡ t.links
+  links_same = λ i l. gives.same.links l i
+
   unsent_before : (c : ClientNo) → is_client c up.client ≡ false → IsUnsent c between → IsUnsent c t
   unsent_before c other unsent = record {
     row = unsent.row;
     work = unsent.work;
     at_work = record { there = sym (other_client c other) ∙ unsent.at_work.there; in_work = unsent.at_work.in_work };
     unsent = unsent.unsent;
+    unlent = subst (λ (links : LinkId → Option Server). lent_home (record t { links = links }) unsent.row unsent.work ≡ None) links_same unsent.unlent;
   }
 
 -- Whose statements are given up.
@@ -123,28 +127,18 @@ pub some_given : (given : List GivenUp) (c : ClientNo) → is_some (payload_in g
 some_given [] c = refl
 some_given (up ∷ others) c = given_by (is_client c up.client) up.payload (payload_in others c) (is_given others c) (some_given others c)
 
--- No link is given back as statements are given up: no session changes.
+-- No link is given back as statements are given up: none is lent for them.
 
-given_alike : (payload : Option (List ℕ)) (n : SessionName) (row : Option Client) → at_desk n (option_map (given_row payload) row) ≡ at_desk n row
-given_alike payload n None = refl
-given_alike None n (Some row) = refl
-given_alike (Some payload) n (Some row) = refl
+unlent : (given : List GivenUp) (t late : Tabled) → GivesUpAll given t late → (l : LinkId) → IsLentElsewhere t (payload_in given) l
+unlent given t late gives l c row work some at home =
+    let its : IsUnsent c t = all_unsent given t late gives c some in
+    let row_is : its.row ≡ row = same_Some its.row row (sym its.at_work.there ∙ at.there) in
+    let work_is : its.work ≡ work = same_Some its.work work (sym its.at_work.in_work ∙ ap (λ (r : Client). r.desk.work) row_is ∙ at.in_work) in
+    none-some l (sym its.unlent ∙ (λ i. lent_home t (row_is i) (work_is i)) ∙ home)
 
-module _ (given : ClientNo → Option (List ℕ)) (t : Tabled) where
-  done_for : (server : Server) (n : Option SessionName) → is_done_for (given_up_in given t) server n ≡ is_done_for t server n
-  done_for server None = refl
-  done_for server (Some n) = ap (λ s. is_done_row server.row s false) (given_alike (given n.client) n (t.clients n.client))
-
-  done_at : (server : Option Server)
-      → option_map_or (λ s. is_done_for (given_up_in given t) s (name_in s.row.link.state.carries)) server false
-      ≡ option_map_or (λ s. is_done_for t s (name_in s.row.link.state.carries)) server false
-  done_at None = refl
-  done_at (Some server) = done_for server (name_in server.row.link.state.carries)
-
-  given_done : (l : LinkId) → is_done_in l (given_up_in given t) ≡ is_done_in l t
-  given_done l = done_at (t.links l)
-
-pub given_rests : (service : Service) → Testing service → (g : Ground) (t : Tabled) (given : ClientNo → Option (List ℕ)) → Stands service g t
-    → Stands service (on g (counted g.tale)) (given_up_in given t) → NoneDone g.setup g.plan g.tale → NoneDone g.setup g.plan (counted g.tale)
-given_rests service testing g t given stands counts rested l there =
-    testing (on g (counted g.tale)) (given_up_in given t) l counts there ∙ given_done given t l ∙ sym (testing g t l stands there) ∙ rested l there
+pub given_rests : (service : Service) → Testing service → (g : Ground) (t late : Tabled) (given : List GivenUp) → GivesUpAll given t late
+    → Stands service g t → Stands service (on g (counted g.tale)) (given_up_in (payload_in given) t) → NoneDone g.setup g.plan g.tale
+    → NoneDone g.setup g.plan (counted g.tale)
+given_rests service testing g t late given gives stands counts rested l there =
+    testing (on g (counted g.tale)) (given_up_in (payload_in given) t) l counts there
+    ∙ given_done service g t stands (payload_in given) l (unlent given t late gives l) ∙ sym (testing g t l stands there) ∙ rested l there

@@ -24,7 +24,6 @@ use Rattle.core_stands.specs.Stands.{Stands}
 use Rattle.core_laws.specs.parting.Partings.{HasLives, IsEnding, IsLeaving}
 use Rattle.core_laws.specs.arrival.Looks.{IsLetIn}
 use Rattle.core_laws.proofs.OfEntry.Looping.{taking_begins}
-use Rattle.core_laws.specs.entry.Safe.{has_runs}
 use Rattle.core_laws.proofs.OfClients.Ending.{ends_so, gone_looked, leaves_so}
 use Rattle.core_laws.proofs.OfClients.Facts.{has_lives}
 use Rattle.core_laws.specs.clients.Chosen.{IsGone, IsLookedFor, IsStanding, IsTurning, PlanHas, StandsBehind, turned_to}
@@ -79,7 +78,6 @@ pub record IsOut (service : Service) (h : Ground) (early : Tale) (client : tales
   pub seated : IsSeated (all_taken h.setup h.plan client early) last
   pub number : last.number ≡ client.number
   pub count : last.taken ≡ client.taken + count_by caller.choices caller.halt
-  pub runless : has_runs early.story ≡ false → has_runs (all_taken h.setup h.plan client early).story ≡ false
   pub stands : Stands service (left_ground (ends_by caller.halt caller.parting) h client.number (all_taken h.setup h.plan client early)) now
   pub idle : ends_by caller.halt caller.parting ≡ false → IsIdle h.setup h.plan (all_taken h.setup h.plan client early) last
 
@@ -112,7 +110,6 @@ module _ (laws : Laws) (service : Service) (default : List ℕ) (h : Ground) (lo
     let_in = record { account = is.let_in.account; place = is.let_in.place };
     going = is.going;
     unrouted = is.unrouted;
-    runless = λ none. none;
   }
 
   behind_turns : StandsBehind caller.halt service client early taken at_first c turned
@@ -143,7 +140,6 @@ module _ (laws : Laws) (service : Service) (default : List ℕ) (h : Ground) (lo
       seated = subst (λ (x : Tale). IsSeated x s.client) (sym s.all) s.taking.seated;
       number = s.taking.number;
       count = s.count;
-      runless = λ none. ap (λ (x : Tale). has_runs x.story) s.all ∙ s.runless none;
       stands = subst (λ (x : Bool). Stands service (left_ground x h c gone) now) (sym how)
           (subst (λ (x : Tale). Stands service (left_ground b h c x) now) (sym s.all) last_stands);
       idle = λ going. subst (λ (x : Tale). IsIdle h.setup h.plan x s.client) (sym s.all) (idle (sym how ∙ going));
@@ -191,7 +187,6 @@ module _ (laws : Laws) (service : Service) (default : List ℕ) (h : Ground) (lo
         seated = subst (λ (x : Tale). IsSeated x s.client) (sym s.all) s.seated;
         number = s.number;
         count = s.count;
-        runless = λ none. ap (λ (x : Tale). has_runs x.story) s.all ∙ s.runless none;
         stands = subst (λ (b : Bool). Stands service (left_ground b h c gone) now) (sym one)
             (subst (λ (x : Tale). Stands service (left_ground true h c x) now) (sym s.all) last_stands);
         idle = λ going. absurd (true≢false (sym one ∙ going));

@@ -8,11 +8,11 @@ use Rattle.packet_frame.specs.Packets.{Framed}
 use Rattle.session_state.specs.Pins.{is_pinned}
 use Rattle.session_state.specs.declared.place.Place.{Place}
 use Rattle.private_model.proofs.Maps.{client_of, same_number}
-use Rattle.private_model.specs.Commands.{Command}
+use Rattle.private_model.specs.Commands.{Command, Prepare, Run}
 use Rattle.private_model.specs.Lawful.{IsLawful, MayCome}
 use Rattle.private_model.specs.Names.{ClientNo, Hostgroup}
-use Rattle.private_model.specs.Story.{BecameDue, Broke, Happening, Left, is_client, is_name, put}
-use Rattle.private_model.specs.View.{Setup, View, view_step}
+use Rattle.private_model.specs.Story.{BecameDue, Broke, Due, Happening, Key, Left, is_client, is_name, put}
+use Rattle.private_model.specs.View.{Setup, View, due_of, present, view_step}
 use Rattle.log_story.specs.Clients.{is_up, next_taken, taken_by, taken_up, due_by, copied}
 use Rattle.log_story.specs.Executes.{Request, requested}
 use Rattle.log_story.specs.Owed.{messages, name_of}
@@ -24,14 +24,15 @@ use Rattle.step_laws.proofs.Others.{as_it_was, idle_by, like_alike, spared_alike
 use Rattle.step_laws.specs.Like.{IsLike}
 use Rattle.step_laws.specs.Seats.{is_its}
 use Rattle.step_laws.specs.Steps.{leave}
-use Rattle.core_laws.specs.entry.Safe.{has_runs, is_run_due}
+use Rattle.core_stands.specs.Stands.{AreDuly, IsDuly, IsKeyedFor, IsTextAt}
 use Rattle.step_laws.specs.Taken.{AreSingle, IsAsItWas, IsIdle, SparesOthers}
 
--- The one is the other behind which these leave, but for the order; and where its story is lawful, and without runs, the other's is.
-pub record LeftLater (setup : Setup) (ended : List ClientNo) (early late : Tale) : Type 0 where
+-- The one is the other behind which these leave, but for the order; and where its story is lawful, the other's is; and where what became due in it
+-- became so duly, so did what became due in the other.
+pub record LeftLater (setup : Setup) (plan : Plan) (ended : List ClientNo) (early late : Tale) : Type 0 where
   pub like : IsLike setup early (leave ended late)
   pub lawful : IsLawful setup early.story → IsLawful setup late.story
-  pub runless : has_runs early.story ≡ false → has_runs late.story ≡ false
+  pub duly : AreDuly setup plan early.story → AreDuly setup plan late.story
 
 pub flipped : (a b : ClientNo) → is_client a b ≡ false → is_client b a ≡ false
 flipped a b other = by (is_client b a) refl where
@@ -119,9 +120,30 @@ module _ (setup : Setup) (c : ClientNo) where
   pub broke_commutes : Commutes Broke
   broke_commutes v = refl
 
+-- What became due became so duly, by whatever is known of others.
+
+keyed_at : (setup : Setup) (route : Route) (a b : Due) (command : Command) → b.key ≡ a.key → b.place ≡ a.place → IsKeyedFor setup route a command
+    → IsKeyedFor setup route b command
+keyed_at setup route a b (Prepare text) key place is =
+    (is.0 ∙ sym key, ap setup.keys key ∙ is.1 ∙ ap (λ (p : Place). record { text = text; place = p }) (sym place))
+keyed_at setup route a b (Run text schema settings args) key place is =
+    (is.0, subst (λ (k : Key). IsTextAt k text schema settings) (ap setup.keys (sym key)) is.1)
+keyed_at setup route a b _ key place is = is
+
+duly_at : (setup : Setup) (plan : Plan) (v w : View) (d : ClientNo) (h : Hostgroup) (ordinal key : ℕ) (command : Command) (multiplex : Option Bool)
+    → w.places d ≡ v.places d → IsDuly setup plan (present v d h) (due_of v (present v d h) ordinal key command multiplex)
+    → IsDuly setup plan (present w d h) (due_of w (present w d h) ordinal key command multiplex)
+duly_at setup plan v w d h ordinal key command multiplex place is = record {
+  route = is.route;
+  routed = is.routed;
+  keyed = keyed_at setup is.route (due_of v (present v d h) ordinal key command multiplex) (due_of w (present w d h) ordinal key command multiplex) command
+      refl place is.keyed;
+  whole = is.whole;
+}
+
 -- So it is of several, and in a tale.
 
-module _ (setup : Setup) where
+module _ (setup : Setup) (plan : Plan) where
   like_with : (client : Client) (old new : Tale) → IsLike setup old new → IsLike setup (with_client client old) (with_client client new)
   like_with client old new like = record {
     moment = like.moment;
@@ -159,49 +181,52 @@ module _ (setup : Setup) where
   abbrev ComesAnyway : Happening → Type 0
   ComesAnyway e = (v w : View) → MayCome setup v e → MayCome setup w e
 
-  tell_later : (cs : List ClientNo) (e : Happening) → AllCommute cs e → ComesAnyway e → (early late : Tale) → LeftLater setup cs early late
-      → LeftLater setup cs (tell e early) (tell e late)
-  tell_later cs e all anyway early late later = record {
+  tell_later : (cs : List ClientNo) (e : Happening) → AllCommute cs e → ComesAnyway e → (early late : Tale) → LeftLater setup plan cs early late
+      → ((AreDuly setup plan early.story → AreDuly setup plan late.story) → AreDuly setup plan (e ∷ early.story) → AreDuly setup plan (e ∷ late.story))
+      → LeftLater setup plan cs (tell e early) (tell e late)
+  tell_later cs e all anyway early late later dulier = record {
     like = like_on setup (tell e early) (tell e (leave cs late)) (leave cs (tell e late)) (like_tell setup e early (leave cs late) later.like)
         (told_behind cs e all late);
     lawful = λ is. (later.lawful is.0, anyway (view_of setup early) (view_of setup late) is.1);
-    runless = λ none.
-        let parts = or_parts (is_run_due e) (has_runs early.story) none in
-        or_from (is_run_due e) (has_runs late.story) parts.0 (later.runless parts.1);
+    duly = dulier later.duly;
   }
 
-  with_later : (cs : List ClientNo) (client : Client) (early late : Tale) → LeftLater setup cs early late
-      → LeftLater setup cs (with_client client early) (with_client client late)
+  with_later : (cs : List ClientNo) (client : Client) (early late : Tale) → LeftLater setup plan cs early late
+      → LeftLater setup plan cs (with_client client early) (with_client client late)
   with_later cs client early late later = record {
     like = subst (λ (tale : Tale). IsLike setup (with_client client early) tale) (leave_with cs client late)
         (like_with client early (leave cs late) later.like);
     lawful = later.lawful;
-    runless = later.runless;
+    duly = later.duly;
   }
 
   leave_last : (cs : List ClientNo) (c : ClientNo) (tale : Tale) → tell (Left c) (leave cs tale) ≡ leave (cs ++ c ∷ []) tale
   leave_last [] c tale = refl
   leave_last (x ∷ cs) c tale = leave_last cs c (tell (Left x) tale)
 
-  pub left_later : (cs : List ClientNo) (c : ClientNo) (early late : Tale) → LeftLater setup cs early late
-      → LeftLater setup (cs ++ c ∷ []) (tell (Left c) early) late
+  pub left_later : (cs : List ClientNo) (c : ClientNo) (early late : Tale) → LeftLater setup plan cs early late
+      → LeftLater setup plan (cs ++ c ∷ []) (tell (Left c) early) late
   left_later cs c early late later = record {
     like = subst (λ (tale : Tale). IsLike setup (tell (Left c) early) tale) (leave_last cs c late)
         (like_tell setup (Left c) early (leave cs late) later.like);
     lawful = λ is. later.lawful is.0;
-    runless = later.runless;
+    duly = later.duly;
   }
 
-  pub later_itself : (tale : Tale) → LeftLater setup [] tale tale
-  later_itself tale = record { like = like_itself setup tale; lawful = λ is. is; runless = λ none. none }
+  pub later_itself : (tale : Tale) → LeftLater setup plan [] tale tale
+  later_itself tale = record { like = like_itself setup tale; lawful = λ is. is; duly = λ are. are }
 
   pub lawful_behind : (cs : List ClientNo) (tale : Tale) → IsLawful setup tale.story → IsLawful setup (leave cs tale).story
   lawful_behind [] tale is = is
   lawful_behind (c ∷ cs) tale is = lawful_behind cs (tell (Left c) tale) (is, tt)
 
+  pub duly_behind : (cs : List ClientNo) (tale : Tale) → AreDuly setup plan tale.story → AreDuly setup plan (leave cs tale).story
+  duly_behind [] tale are = are
+  duly_behind (c ∷ cs) tale are = duly_behind cs (tell (Left c) tale) are
+
   -- Another client goes on.
 
-  module _ (plan : Plan) (cs : List ClientNo) where
+  module _ (cs : List ClientNo) where
     abbrev Aside : Client → Type 0
     Aside client = All (λ (c : ClientNo). is_client client.number c ≡ false) cs
 
@@ -209,7 +234,18 @@ module _ (setup : Setup) where
     all_commute client aside e each = All-weaker (λ (c : ClientNo). is_client client.number c ≡ false) (λ (c : ClientNo). Commutes setup c e) each cs aside
 
     abbrev Later : Tale → Tale → Type 0
-    Later early late = LeftLater setup cs early late
+    Later early late = LeftLater setup plan cs early late
+
+    -- where it stands
+    place_late : (client : Client) → Aside client → (early late : Tale) → Later early late
+        → (view_of setup late).places client.number ≡ (view_of setup early).places client.number
+    place_late client aside early late later =
+        let apart : All (λ (c : ClientNo). not (is_client client.number c) ≡ true) cs =
+        All-weaker (λ (c : ClientNo). is_client client.number c ≡ false) (λ (c : ClientNo). not (is_client client.number c) ≡ true)
+        (λ c other. ap not other) cs aside in
+        sym ((leave_spares setup (λ (n : ClientNo). not (is_client client.number n)) cs late apart).place client.number
+        (ap not (same_number client.number.0)))
+        ∙ ap (λ (v : View). v.places client.number) later.like.view
 
     later_if : (b : Bool) (x y v w : Tale) → Later x v → Later y w → Later (if b then x else y) (if b then v else w)
     later_if true x y v w one other = one
@@ -218,7 +254,7 @@ module _ (setup : Setup) where
     due_later : (client : Client) → Aside client → (ordinal : ℕ) (route : Route) → route.mirror ≡ None → (request : Option Request) (early late : Tale)
         → Later early late → Later (due_by client ordinal route request early) (due_by client ordinal route request late)
     due_later client aside ordinal route single None early late later =
-        tell_later cs Broke (all_commute client aside Broke (λ c other. broke_commutes setup c)) (λ v w may. may) early late later
+        tell_later cs Broke (all_commute client aside Broke (λ c other. broke_commutes setup c)) (λ v w may. may) early late later (λ so. so)
     due_later client aside ordinal route single (Some request) early late later =
         let due : Happening = BecameDue client.number route.hostgroup ordinal request.key request.command route.multiplex in
         subst (λ (mirror : Option Hostgroup).
@@ -227,7 +263,12 @@ module _ (setup : Setup) where
         (tell_later cs due
         (all_commute client aside due
         (λ c other. due_commutes setup c client.number other route.hostgroup ordinal request.key request.command route.multiplex)) (λ v w may. may)
-        early late later)
+        early late later
+        (λ so are. (
+          duly_at setup plan (view_of setup early) (view_of setup late) client.number route.hostgroup ordinal request.key request.command route.multiplex
+              (place_late client aside early late later) are.0,
+          so are.1,
+        )))
 
     abbrev LaterIn : Option Tale → Option Tale → Type 0
     LaterIn None None = Unit {0}
@@ -279,7 +320,7 @@ module _ (setup : Setup) where
       taken_by_later ordinal message None one =
           later_if (nat_eq (slice_index_or message.payload 0 0) com_reset) (tell (Left client.number) early) early (tell (Left client.number) late) late
           (tell_later cs (Left client.number)
-          (all_commute client aside (Left client.number) (λ c other. left_commutes setup c client.number other)) (λ v w may. may) early late later)
+          (all_commute client aside (Left client.number) (λ c other. left_commutes setup c client.number other)) (λ v w may. may) early late later (λ so. so))
           later
       taken_by_later ordinal message (Some route) one =
           subst (λ (request : Option Request). Later (due_by client ordinal route request early)

@@ -7,6 +7,7 @@ use Rattle.private_model.specs.Names.{LinkId}
 use Rattle.private_model.specs.Story as story
 use Rattle.private_model.specs.Story.{Due, Question}
 use Rattle.private_model.specs.View.{View, present}
+use Rattle.tale_world.specs.Tests.{is_told_key}
 use Rattle.log_story.specs.Clients.{is_answered}
 use Rattle.log_story.specs.Owed.{due_bytes, name_of}
 use Rattle.log_story.specs.Plan.{own_at}
@@ -32,12 +33,13 @@ use Rattle.core_tables.specs.declared.client.Client.{Client}
 use Rattle.core_tables.specs.declared.server.Server.{Server}
 use Rattle.core_stands.specs.Clients.{IsClient, IsClientOr, IsPhase, IsWorkingOr}
 use Rattle.core_stands.specs.Grounds.{Ground, on, view_on}
-use Rattle.core_stands.specs.Servers.{IsNextFor, IsNextOf, IsReplyingAt, IsReplyingFor, IsServer, IsServerBy}
-use Rattle.core_stands.specs.Stands.{Stands}
+use Rattle.core_stands.specs.Servers.{IsNextFor, IsNextOf, IsReplyingAt, IsReplyingFor, IsServer, IsServerBy, IsAhead, OfLent, keyed_text}
+use Rattle.core_stands.specs.Stands.{Stands, AreDuly}
 use Rattle.core_laws.proofs.OfParting.Grounds.{parted_after, taken_after}
 use Rattle.core_laws.proofs.OfParting.Moving.{stands_moved}
 use Rattle.core_laws.proofs.OfParting.Owing.{owing_alike}
 use Rattle.core_laws.proofs.OfParting.Standing.{stand_so, standing_at}
+use Rattle.core_laws.proofs.OfPrepared.Rows.{are_prepared, rows_same}
 
 -- By another story, of which the same is known.
 
@@ -120,7 +122,13 @@ module _ (g : Ground) (told : story.Story) (same : view_on g ≡ view_on (on g (
       plain = is.plain;
       taken_up = taken_after g told g.tale.moment g.over n ordinal is.taken_up;
     }
-    for_same (purposes.Prep n ordinal key) asking is = is
+    for_same (purposes.Prep n ordinal key) asking is = record {
+      said = λ due there at.
+          readied_same asking (story.Prep n due.key (keyed_text g due)) (is.said due (ap (λ (v : View). v.dues n) same ∙ there) at);
+      told = λ due there at.
+          ap (λ (v : View). is_told_key g.setup due.key (keyed_text g due) (v.links l).told) (sym same) ∙ is.told due (ap (λ (v : View). v.dues n) same ∙ there) at;
+      taken_up = taken_after g told g.tale.moment g.over n ordinal is.taken_up;
+    }
     for_same (purposes.Sync n) asking is = record { command = is.command; said = readied_same asking (story.Sync n is.command) is.said }
     for_same purposes.Own asking is = record { command = is.command; said = readied_same asking (story.Own is.command) is.said }
     for_same (purposes.End n) asking is = readied_same asking (story.End n) is
@@ -164,7 +172,7 @@ module _ (g : Ground) (told : story.Story) (same : view_on g ≡ view_on (on g (
       found_rows = is.found_rows;
       standing = standing_at after l (stand_so g.setup told lawful);
       next = next_same row.link.next is.next;
-      lent = is.lent;
+      lent = λ here mine unstated. subst (λ (v : View). OfLent row.link.state.carries (IsAhead v)) same (is.lent here mine unstated);
       parted = λ sound whole some.
           parted_after g told g.tale.moment g.over (λ c over. over) row.link.state.stage (is.parted sound whole some);
       replying = λ sound whole mine. replying_same row.link.state.stage (is.replying sound whole mine);
@@ -176,19 +184,23 @@ module _ (g : Ground) (told : story.Story) (same : view_on g ≡ view_on (on g (
   server_by t l lawful true None is = ap (λ (v : View). (v.links l).usable) (sym same) ∙ is
   server_by t l lawful false found is = is
 
-  stands_told : (service : Service) (t : Tabled) → IsLawful g.setup told → Stands service g t → Stands service after t
-  stands_told service t lawful is = stands_moved g told g.tale.moment g.over t t service is (record {
+  stands_told : (service : Service) (t : Tabled) → IsLawful g.setup told → AreDuly g.setup g.plan told → Stands service g t → Stands service after t
+  stands_told service t lawful duly is = stands_moved g told g.tale.moment g.over t t service is (record {
     rows = λ client seated row. found_same client (t.clients client.number) row;
     there = λ c. refl;
     numbers = λ l. refl;
     servers = λ l. server_by t l lawful (is_to_server g.tale l) (t.links l) (is.servers l);
     homes = record { carried = is.homes.carried; home = is.homes.home };
     lawful = lawful;
+    prepared = are_prepared g after.tale g.over g.fresh t t is.clients (λ m. sym (ap (λ (v : View). v.replies m) same)) is.prepared (λ client seated. seated)
+        (rows_same t t (λ c. refl));
+    duly = duly;
   })
 
-pub stands_alike : (service : Service) (g : Ground) (a b : Tale) (t : Tabled) → IsLike g.setup a b → IsLawful g.setup b.story → Stands service (on g a) t
+pub stands_alike : (service : Service) (g : Ground) (a b : Tale) (t : Tabled) → IsLike g.setup a b → IsLawful g.setup b.story
+    → AreDuly g.setup g.plan b.story → Stands service (on g a) t
     → Stands service (on g b) t
-stands_alike service g a b t like lawful is =
+stands_alike service g a b t like lawful duly is =
     let path : record a { story = b.story } ≡ b = λ i. record {
       moment = sym like.moment i;
       story = b.story;
@@ -196,4 +208,4 @@ stands_alike service g a b t like lawful is =
       links = sym like.links i;
       wires = sym like.wires i;
     } in
-    subst (λ (tale : Tale). Stands service (on g tale) t) path (stands_told (on g a) b.story (sym like.view) service t lawful is)
+    subst (λ (tale : Tale). Stands service (on g tale) t) path (stands_told (on g a) b.story (sym like.view) service t lawful duly is)

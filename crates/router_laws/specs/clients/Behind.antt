@@ -13,7 +13,6 @@ use Rattle.core_stands.specs.Grounds.{Ground, known_on}
 use Rattle.core_stands.specs.Stands.{Rests}
 use Rattle.core_laws.specs.entry.Dues.{EndsSaying, IsCome, IsWrittenBy}
 use Rattle.core_laws.specs.entry.Entries.{behind}
-use Rattle.core_laws.specs.entry.Safe.{has_runs}
 use Rattle.router_laws.specs.clients.Continues.{HasCome, IsContinued, is_read_on}
 
 -- What it writes to clients was due to them, nothing is read of one that is over, whoever it ends is told a word in its place and has a row
@@ -33,11 +32,10 @@ IsOffServers tale (Wrote link tag bytes) = is_to_server tale link ≡ false
 IsOffServers tale (Opened server address link) = ⊥
 IsOffServers tale _ = Unit {0}
 
--- What one kind of entry shows by one setup and plan: the tables rest behind it, what it writes is due, no execute becomes due, and it is of no
+-- What one kind of entry shows by one setup and plan: the tables rest behind it, what it writes is due, and it is of no
 -- link to a server.
 pub record IsEntered (service : Service) (g : Ground) (log : Log) (e : Entry) (whose over : ClientNo → Bool) (t now : Tabled)
     (roomy room : ClientNo → Bool) : Type 0 where
   pub rests : Rests service g t roomy → Rests service (behind g e over) now room
   pub due : Rests service g t roomy → IsDueBehind g log e whose over now
-  pub runless : Rests service g t roomy → has_runs g.tale.story ≡ false → has_runs (behind g e over).tale.story ≡ false
   pub off : Rests service g t roomy → IsOffServers g.tale e

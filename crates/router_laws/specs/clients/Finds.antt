@@ -18,6 +18,7 @@ use Rattle.core_laws.specs.clients.Found.{AreFoundAt}
 use Rattle.core_laws.specs.clients.Turns.{Choice, Halt, Turns, count_by}
 use Rattle.core_laws.specs.entry.Cores.{with_entry}
 use Rattle.core_laws.specs.entry.Tells.{ground}
+use Rattle.router_promises.specs.Takings.{takings_at}
 use Rattle.router_laws.specs.clients.Counted.{GoesTaking}
 
 -- behind the entry these are its messages from that of this ordinal on
@@ -27,4 +28,4 @@ pub record GoesFinding (service : Service) (default : List ℕ) (setup : Setup) 
   pub goes : GoesTaking service setup codes plan log e old new t now roomy room c (count_by choices halt)
   pub finds : Rests service (ground setup codes plan old log) t roomy → (k : ℕ) → ordinal ≡ suc k → (client : Client)
       → IsSeated (tale_of setup plan (with_entry log e)) client → client.number ≡ c
-      → AreFoundAt choices halt service default c mid turned turns (setup.accounts c).user (messages plan client) k
+      → AreFoundAt choices halt service default c mid turned turns setup (takings_at setup plan (tale_of setup plan log) e) (messages plan client) k

@@ -1,11 +1,11 @@
 -- What a plan has of an entry.
-use Rattle.std.specs.Prelude.{◌≡◌, ℕ, suc, Bool, false, true, ◌||◌, ◌&&◌, All, is_some, List, None, Some}
+use Rattle.std.specs.Prelude.{◌≡◌, ℕ, suc, Bool, false, true, ◌||◌, ◌&&◌, All, is_some, List, None, Option, Some}
 use Rattle.mx_base.specs.declared.names.Port.{Port}
 use Rattle.mx_wire.specs.Log.{Log, opened_links}
 use Rattle.mx_wire.specs.declared.entry.Entry.{Entry}
 use Rattle.client_session.specs.Setups.{Setup as Service}
 use Rattle.private_model.specs.Names.{ClientNo}
-use Rattle.private_model.specs.Story.{is_client}
+use Rattle.private_model.specs.Story.{Key, is_client}
 use Rattle.private_model.specs.View.{Setup}
 use Rattle.link_laws.specs.Stands.{Codes}
 use Rattle.log_story.specs.Headline.{tale_of}
@@ -62,8 +62,8 @@ abbrev pub over_by : Decided → ClientNo → Bool
 over_by d c = is_some (d.ends c)
 
 -- a setup and a plan fit the log with an entry
-abbrev pub FitsThen : Setup → Codes → Plan → (default : List ℕ) → Log → Entry → Type 0
-FitsThen setup codes plan default log e = Fits setup codes plan default (tale_of setup plan (with_entry log e))
+abbrev pub FitsThen : (keys : (key : ℕ) → Option Key) → Setup → Codes → Plan → (default : List ℕ) → Log → Entry → Type 0
+FitsThen keys setup codes plan default log e = Fits keys setup codes plan default (tale_of setup plan (with_entry log e))
 
 -- Of one that comes, and is served, or turned away by that word.
 

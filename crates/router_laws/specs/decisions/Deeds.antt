@@ -6,7 +6,7 @@ use Rattle.mx_wire.specs.declared.entry.Entry.{Entry}
 use Rattle.mx_wire.specs.declared.entry.Entry.TheVariants.{Opened, Wrote}
 use Rattle.server_side.specs.Account.{Account as Login}
 use Rattle.private_model.specs.Names.{ClientNo, LinkId, MessageName}
-use Rattle.private_model.specs.Story.{is_link_id}
+use Rattle.private_model.specs.Story.{Key, is_link_id}
 use Rattle.log_story.specs.Plan.{LastWord, OwnAnswer, Route, StepText, WordPlace}
 use Rattle.step_laws.specs.Freed.{is_among}
 use Rattle.tale_world.specs.Decided.{Decided}
@@ -20,8 +20,8 @@ pub record Word : Type 0 where
   pub payloads : List (List ℕ)
 
 -- By what payload a client's last message is given up; what is decided of those that it takes up behind that, and how that ends; whether it is
--- ended behind its turns, and with which last word; who logs in on a link that is opened; and whether the entry begins a question, and which
--- step that is.
+-- ended behind its turns, and with which last word; who logs in on a link that is opened; whether the entry begins a question, and which step
+-- that is; and what the keys are by which messages go.
 pub record Deeds : Type 0 where
   pub given : ClientNo → Option (List ℕ)
   pub calls : ClientNo → List Choice
@@ -29,6 +29,7 @@ pub record Deeds : Type 0 where
   pub ends : ClientNo → Option (Option Word)
   pub login : Option Login
   pub begun : Option (Option StepText)
+  pub keys : (key : ℕ) → Option Key
 
 -- A client whose turns end it is told no last word.
 
@@ -52,7 +53,7 @@ word_of deeds now c = said_at now (ends_in deeds c)
 -- Deeds of few.
 
 abbrev pub no_deeds : Deeds
-no_deeds = record { given = λ c. None; calls = λ c. []; halts = λ c. Rests; ends = λ c. None; login = None; begun = None }
+no_deeds = record { given = λ c. None; calls = λ c. []; halts = λ c. Rests; ends = λ c. None; login = None; begun = None; keys = λ key. None }
 
 -- this for one client
 abbrev pub for_one : {A : Type 0} → ClientNo → A → (others : A) → ClientNo → A
@@ -167,6 +168,7 @@ decided_by deeds n log e now d = record d {
   until = now;
   words = λ c. word_with now (d.ends c) (ends_in deeds c) (d.words c);
   steps = λ l k. step_with (begun_at log e deeds l) (n.begun l) k (d.steps l k);
+  keys = λ key. option_or (d.keys key) (deeds.keys key);
 }
 
 abbrev pub counts_by : Deeds → Counts → Log → Entry → Counts

@@ -12,12 +12,14 @@ use Rattle.log_story.specs.Plan.{Plan}
 use Rattle.log_story.specs.Tale.{Client, Tale}
 use Rattle.step_laws.specs.Seats.{IsSeated}
 use Rattle.tale_world.specs.Decided.{Decided}
+use Rattle.router_promises.specs.Takings.{Taking, takings_at}
 use Rattle.router_promises.specs.Verdicts.{Tells, Verdict}
 use Rattle.core_service.specs.declared.service.Service.{Service}
-use Rattle.core_laws.specs.clients.Turns.{Answers, Choice, Goes}
+use Rattle.core_laws.specs.clients.Found.{IsAmong, IsLastAmong}
+use Rattle.core_laws.specs.clients.Turns.{Answers, Choice, Goes, Halt}
 use Rattle.core_laws.specs.entry.Cores.{with_entry}
 use Rattle.core_laws.specs.entry.Tells.{Fits, IsOf}
-use Rattle.core_promises.specs.Judges.{IsVerdictFor, Rulebook, goes_by}
+use Rattle.core_promises.specs.Judges.{IsVerdictFor, Rulebook, goes_by, situation_of}
 use Rattle.core_promises.specs.Ruled.{book_of}
 use Rattle.router_laws.specs.decisions.Deeds.{Counts, Deeds, decided_with}
 
@@ -25,13 +27,18 @@ abbrev pub verdict_of : Choice → Verdict
 verdict_of (Goes route) = goes_by route
 verdict_of (Answers payloads) = Tells payloads
 
+-- by the taking of the message's name, which is one of these
+pub record IsJudgedAs (book : Rulebook) (setup : Setup) (plan : Plan) (client : Client) (takings : List Taking) (k : ℕ) (choice : Choice) : Type 0 where
+  pub taking : Taking
+  pub among : IsAmong takings (name_of client (suc k)) taking
+  pub is : (message : Framed) → slice_get (messages plan client) k ≡ Some message
+      → IsVerdictFor book (situation_of setup taking.tale client.number) client.number message.payload (verdict_of choice)
+
 -- of a client's messages from the k-th on, where this is decided of them
-abbrev pub JudgedFrom : Rulebook → Setup → Plan → Client → (k : ℕ) → List Choice → Type 0
-JudgedFrom book setup plan client k [] = Unit {0}
-JudgedFrom book setup plan client k (choice ∷ others) =
-    ((message : Framed) → slice_get (messages plan client) k ≡ Some message
-    → IsVerdictFor book (setup.accounts client.number).user client.number message.payload (verdict_of choice))
-    × JudgedFrom book setup plan client (suc k) others
+abbrev pub JudgedFrom : Rulebook → Setup → Plan → Client → (takings : List Taking) → (k : ℕ) → List Choice → Halt → Type 0
+JudgedFrom book setup plan client takings k [] halt = IsLastAmong halt takings (name_of client (suc k))
+JudgedFrom book setup plan client takings k (choice ∷ others) halt =
+    IsJudgedAs book setup plan client takings k choice × JudgedFrom book setup plan client takings (suc k) others halt
 
 -- the last message goes to a server, of each client for which this holds
 abbrev pub AreSent : Plan → Tale → (ClientNo → Bool) → Type 0
@@ -41,11 +48,12 @@ AreSent plan tale given =
 -- Behind an entry with these deeds: what each client took up at it is judged, and what is given up went to a server.
 pub record IsJudgedThen (service : Service) (log : Log) (e : Entry) (n : Counts) (deeds : Deeds) (setup : Setup) (plan : Plan) : Type 0 where
   pub takes : (client : Client) → IsSeated (tale_of setup plan (with_entry log e)) client
-      → JudgedFrom (book_of service) setup plan client (n.taken client.number) (deeds.calls client.number)
+      → JudgedFrom (book_of service) setup plan client (takings_at setup plan (tale_of setup plan log) e) (n.taken client.number)
+      (deeds.calls client.number) (deeds.halts client.number)
   pub gives : AreSent plan (tale_of setup plan log) (λ c. is_some (deeds.given c))
 
 -- by each plan that has what is decided then, and fits
 abbrev pub JudgesThen : Service → Log → Entry → Decided → Counts → Deeds → Type 0
 JudgesThen service log e d n deeds =
     (setup : Setup) (codes : Codes) (plan : Plan) → IsOf (decided_with deeds n log e d) (length (with_entry log e)) plan
-    → Fits setup codes plan service.default_schema (tale_of setup plan (with_entry log e)) → IsJudgedThen service log e n deeds setup plan
+    → Fits (decided_with deeds n log e d).keys setup codes plan service.default_schema (tale_of setup plan (with_entry log e)) → IsJudgedThen service log e n deeds setup plan

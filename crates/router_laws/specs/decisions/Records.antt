@@ -60,5 +60,5 @@ pub record AreCountsOf (n : Counts) (tale : Tale) : Type 0 where
 -- by each plan that has what was decided
 abbrev pub AreCountsBy : (default : List ℕ) → Decided → Counts → Log → Type 0
 AreCountsBy default d n log =
-    (setup : Setup) (codes : Codes) (plan : Plan) → IsOf d (length log) plan → Fits setup codes plan default (tale_of setup plan log)
+    (setup : Setup) (codes : Codes) (plan : Plan) → IsOf d (length log) plan → Fits d.keys setup codes plan default (tale_of setup plan log)
     → AreCountsOf n (tale_of setup plan log)

@@ -47,7 +47,7 @@ pub record IsRouter (service : Service) (log : Log) (t : Tabled) (roomy : Client
 abbrev pub WaitsThen : Service → Log → Entry → Decided → Type 0
 WaitsThen service log e d =
     (terms : Terms) (codes : Codes) → IsOf d (length log) (plan_in terms)
-    → Fits (setup_in terms) codes (plan_in terms) service.default_schema (tale_of (setup_in terms) (plan_in terms) log) → WaitsSo terms log e
+    → Fits d.keys (setup_in terms) codes (plan_in terms) service.default_schema (tale_of (setup_in terms) (plan_in terms) log) → WaitsSo terms log e
 
 -- By one setup and plan the core goes on with an entry, and the counts of its deeds are those of the tale.
 pub record GoesSo (service : Serving) (setup : Setup) (codes : Codes) (plan : Plan) (log : Log) (e : Entry) (d : Decided) (n : Counts) (deeds : Deeds)
@@ -59,14 +59,14 @@ pub record GoesSo (service : Serving) (setup : Setup) (codes : Codes) (plan : Pl
 abbrev pub GoesSoBy : Serving → (default : List ℕ) → Log → Entry → Decided → Counts → Deeds → (t now : Tabled) → (roomy room : ClientNo → Bool) → Type 0
 GoesSoBy service default log e d n deeds t now roomy room =
     (setup : Setup) (codes : Codes) (plan : Plan) → IsOf (decided_with deeds n log e d) (length (with_entry log e)) plan
-    → Fits setup codes plan default (tale_of setup plan (with_entry log e))
+    → Fits (decided_with deeds n log e d).keys setup codes plan default (tale_of setup plan (with_entry log e))
     → GoesSo service setup codes plan log e d n deeds t now roomy room
 
 -- What there was before an entry, by one setup and plan of what is decided behind it; and the plan has its deeds.
 pub record IsBefore (service : Service) (log : Log) (e : Entry) (t : Tabled) (roomy : ClientNo → Bool)
     (router : IsRouter service log t roomy) (deeds : Deeds) (setup : Setup) (codes : Codes) (plan : Plan) : Type 0 where
   pub of : IsOf router.core.decided (length log) plan
-  pub fits : Fits setup codes plan service.default_schema (tale_of setup plan log)
+  pub fits : Fits router.core.decided.keys setup codes plan service.default_schema (tale_of setup plan log)
   pub rests : Rests service.setup (ground setup codes plan router.core.decided log) t roomy
   pub written : AreWrittenTo (ground setup codes plan router.core.decided log) log
   pub safe : IsSafe setup plan log

@@ -22,13 +22,15 @@ use Rattle.core_laws.specs.parting.Partings.{IsAtWork}
 use Rattle.core_laws.specs.entry.Freeing.{all_freed}
 use Rattle.core_laws.specs.clients.Follows.{AreHomesOf, LeavesThere}
 use Rattle.core_laws.specs.clients.Going.{GivenUp, GoesSo, Going, IsCalled, told_to}
+use Rattle.router_laws.specs.reading.Givings.{IsLentBut}
 
--- The statement that is given up is in work; and it wasn't sent, or it was to this link.
+-- The statement that is given up is in work; and it wasn't sent, or it was to this link; and no other is lent to its session.
 pub record IsGivenUpWith (l : LinkId) (c : ClientNo) (t : Tabled) : Type 0 where
   pub row : Client
   pub work : Work
   pub at_work : IsAtWork t c row work
   pub aside : (work.sent ≡ false) ⊎ ((session_of row.desk work.hostgroup).home ≡ Some l)
+  pub lent : IsLentBut l t row work
 
 abbrev pub MayGiveUpWith : LinkId → Option GivenUp → Tabled → Type 0
 MayGiveUpWith l None t = Unit {0}

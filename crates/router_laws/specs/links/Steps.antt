@@ -6,7 +6,7 @@ use Rattle.packet_frame.specs.Packets.{Found, first_message}
 use Rattle.packet_frame.specs.Packets.Found.{Faulty, Nothing, Whole}
 use Rattle.private_model.specs.Commands.{Command, InitDb, Number, Query, Quit, SetId}
 use Rattle.private_model.specs.Names.{LinkId}
-use Rattle.log_story.specs.Plan.{Asks, StepText, com_init_db}
+use Rattle.log_story.specs.Plan.{Asks, Closes, Resets, StepText, com_init_db}
 use Rattle.link_state.specs.declared.asking.Asking.{Asking}
 use Rattle.link_state.specs.declared.asking.Form.{Form}
 use Rattle.link_state.specs.declared.asking.Form.TheVariants as forms
@@ -53,8 +53,10 @@ step_for _ form writing = None
 
 abbrev pub step_by : Option Begins → Option Writing → Option StepText
 step_by (Some (begins.Asks asking)) writing = step_for asking.purpose asking.form writing
+step_by (Some (begins.Closes number)) writing = Some (Closes number)
+step_by (Some (begins.Resets number)) writing = Some (Resets number)
 step_by (Some begins.Quits) writing = Some (Asks Quit)
-step_by _ writing = None
+step_by None writing = None
 
 abbrev pub step_of : Row → Option StepText
 step_of row = step_by row.link.next row.link.writing

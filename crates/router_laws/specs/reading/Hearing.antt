@@ -17,7 +17,6 @@ use Rattle.core_tables.specs.Tables.{Tabled}
 use Rattle.core_stands.specs.Grounds.{Ground}
 use Rattle.core_stands.specs.Stands.{Rests}
 use Rattle.core_laws.specs.entry.Entries.{behind}
-use Rattle.core_laws.specs.entry.Safe.{has_runs}
 use Rattle.core_laws.specs.entry.Tells.{AreWhoTheySay}
 use Rattle.core_laws.specs.clients.Following.{StandTold}
 use Rattle.core_laws.specs.clients.Follows.{Parting, Tells}
@@ -56,10 +55,9 @@ pub record IsHearing (service : Service) (default : List ℕ) (g : Ground) (log 
   pub rising : Ascend (λ l. l.0) g.tale.links
   pub tells : TellsSo going service
 
--- The tables rest behind the entry, no run became due, and as many messages were taken up as was decided.
+-- The tables rest behind the entry, and as many messages were taken up as was decided.
 pub record AreHeard (service : Service) (g : Ground) (l : LinkId) (bytes : List ℕ) (deeds : Deeds) (over room : ClientNo → Bool) (now : Tabled)
     : Type 0 where
   pub rests : Rests service (behind g (Got l bytes) over) now room
-  pub runless : has_runs g.tale.story ≡ false → has_runs (tale_step g.setup g.plan g.tale (Got l bytes)).story ≡ false
   pub counts : (x was : tales.Client) → IsSeated (tale_step g.setup g.plan g.tale (Got l bytes)) x → IsSeated g.tale was → x.number ≡ was.number
       → x.taken ≡ was.taken + taken_by (deeds.calls x.number) (deeds.halts x.number)

@@ -23,7 +23,7 @@ pub record HearsSo (service : Service) (default : List ℕ) (l : LinkId) (bytes 
   pub said : Said
   pub heard : Tabled
   pub hears : IsHeardOn server l bytes now said heard old
-  pub may : MayGiveUp given heard
+  pub may : MayGiveUp l given heard
   pub freed : Tabled
   pub frees : IsSame freed (freed_in l (given_up_in (told_to given) heard))
   pub called : IsCalled (name_in server.row.link.state.carries) given freed (option_map (λ (g : Going). g.client) going)

@@ -35,6 +35,6 @@ abbrev pub EntersBy : (service : Service) (log : Log) (e : Entry) (t now : Table
     → IsRouter service log t roomy → Deeds → Type 0
 EntersBy service log e t now roomy room router deeds =
     (setup : Setup) (codes : Codes) (plan : Plan) → IsBefore service log e t roomy router deeds setup codes plan
-    → FitsThen setup codes plan service.default_schema log e → PlansSo (ground setup codes plan router.core.decided log) log e deeds
+    → FitsThen (decided_with deeds router.counts log e router.core.decided).keys setup codes plan service.default_schema log e → PlansSo (ground setup codes plan router.core.decided log) log e deeds
     → IsDecided (ground setup codes plan router.core.decided log) nobody (over_by (decided_with deeds router.counts log e router.core.decided))
     → Enters service.setup log e router.core.decided router.counts deeds t now roomy room setup codes plan

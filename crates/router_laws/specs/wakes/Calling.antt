@@ -1,5 +1,5 @@
 -- Statements are given up, and clients that are called go on, one after the other: of the code alone.
-use Rattle.std.specs.Prelude.{◌≡◌, ◌<◌, ℕ, Bool, true, false, All, is_some, List, [], ◌∷◌, Some}
+use Rattle.std.specs.Prelude.{◌≡◌, ◌<◌, ℕ, Bool, true, false, All, is_some, List, [], ◌∷◌, Some, None}
 use Rattle.std.specs.List.{list_any}
 use Rattle.mx_base.specs.declared.names.ClientNo.{ClientNo}
 use Rattle.mx_base.specs.declared.names.Hostgroup.{Hostgroup}
@@ -18,14 +18,16 @@ use Rattle.core_laws.specs.entry.Freeing.{all_freed}
 use Rattle.core_laws.specs.clients.Follows.{Parting, PartsSo, Stays, quits_by}
 use Rattle.core_laws.specs.clients.Going.{GivenUp}
 use Rattle.core_laws.specs.clients.Turns.{Choice, Halt, Turns}
+use Rattle.router_laws.specs.reading.Givings.{lent_home}
 
--- Statements are given up, one after the other: each is in work and wasn't sent.
+-- Statements are given up, one after the other: each is in work and wasn't sent, and no link is lent to its session.
 
 pub record IsUnsent (c : ClientNo) (t : Tabled) : Type 0 where
   pub row : Client
   pub work : Work
   pub at_work : IsAtWork t c row work
   pub unsent : work.sent ≡ false
+  pub unlent : lent_home t row work ≡ None
 
 pub record GivesUp (up : GivenUp) (old new : Tabled) : Type 0 where
   pub late : IsUnsent up.client old

@@ -29,6 +29,7 @@ calls_deeds given callers = record {
   ends = λ c. option_map_or (λ (k : Caller). end_of k.parting) (found_in callers c) None;
   login = None;
   begun = None;
+  keys = λ key. None;
 }
 
 -- what a caller is answered, and its last word, are the router's own

@@ -23,7 +23,7 @@ ghost use Rattle.router_laws.specs.clients.Plans.{FitsThen, IsDecided, PlansEnd,
 /// One that had ended leaves again.
 pub fn leaves_again()
     ensures { (service : Service) (default : List ℕ) (setup : Setup) (codes : Codes) (plan : Plan) (log : Log) (e : Entry) (old new : Decided)
-        (t now : Tabled) (roomy : ClientNo → Bool) (link : LinkId) (c : ClientNo) → FitsThen setup codes plan default log e → IsLossOf link e
+        (t now : Tabled) (roomy : ClientNo → Bool) (link : LinkId) (c : ClientNo) → FitsThen new.keys setup codes plan default log e → IsLossOf link e
         → IsSafe setup plan log → IsDecided (ground setup codes plan old log) nobody (over_by new) → LeavesAgain link c t now
         → GoesTaking service setup codes plan log e old new t now roomy roomy c 0 }
 {
@@ -38,7 +38,7 @@ pub fn leaves_again()
 pub fn leaves_at_once()
     ensures { (service : Service) (default : List ℕ) (setup : Setup) (codes : Codes) (plan : Plan) (log : Log) (e : Entry) (old new : Decided)
         (t now : Tabled) (roomy room : ClientNo → Bool) (link : LinkId) (c : ClientNo) (links : List LinkId)
-        → FitsThen setup codes plan default log e → IsLossOf link e → IsSafe setup plan log
+        → FitsThen new.keys setup codes plan default log e → IsLossOf link e → IsSafe setup plan log
         → PlansEnd (ground setup codes plan old log) log c (over_by new) → LeavesAtOnce link links c roomy t now
         → ((other : ClientNo) → is_client c other ≡ false → room other ≡ false → roomy other ≡ false)
         → GoesTaking service setup codes plan log e old new t now roomy room c 0 }
@@ -55,7 +55,7 @@ pub fn leaves_at_once()
 pub fn leaves_going()
     ensures { (service : Service) (default : List ℕ) (setup : Setup) (codes : Codes) (plan : Plan) (log : Log) (e : Entry) (old new : Decided)
         (t now : Tabled) (roomy room : ClientNo → Bool) (link : LinkId) (c : ClientNo) (links : List LinkId) (ordinal : ℕ) (choices : List Choice)
-        (halt : Halt) (parting : Parting) → FitsThen setup codes plan default log e → IsLossOf link e → IsSafe setup plan log
+        (halt : Halt) (parting : Parting) → FitsThen new.keys setup codes plan default log e → IsLossOf link e → IsSafe setup plan log
         → PlansTurns service (ground setup codes plan old log) log c ordinal choices halt parting (over_by new)
         → (so : LeavesGoing service default link links ordinal choices halt parting c t now)
         → ((other : ClientNo) → is_client c other ≡ false → room other ≡ false → roomy other ≡ false)

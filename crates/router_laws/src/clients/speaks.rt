@@ -23,7 +23,7 @@ ghost use Rattle.router_laws.specs.clients.Speaks.{SpeaksSo};
 pub fn speaks_go()
     ensures { (service : Service) (default : List ℕ) (setup : Setup) (codes : Codes) (plan : Plan) (log : Log) (old new : Decided) (t now : Tabled)
         (roomy room : ClientNo → Bool) (link : LinkId) (bytes : List ℕ) (c : ClientNo) (ordinal : ℕ) (choices : List Choice) (halt : Halt)
-        (parting : Parting) (links : List LinkId) → FitsThen setup codes plan default log (Got link bytes) → IsSafe setup plan log
+        (parting : Parting) (links : List LinkId) → FitsThen new.keys setup codes plan default log (Got link bytes) → IsSafe setup plan log
         → PlansTurns service (ground setup codes plan old log) log c ordinal choices halt parting (over_by new)
         → (so : SpeaksSo service default link bytes c ordinal choices halt parting links t now)
         → ((other : ClientNo) → is_client c other ≡ false → room other ≡ false → roomy other ≡ false)

@@ -21,7 +21,7 @@ ghost use Rattle.router_laws.specs.clients.Writes.{WroteSo};
 pub fn client_writes_go()
     ensures { (service : Service) (default : List ℕ) (setup : Setup) (codes : Codes) (plan : Plan) (log : Log) (old new : Decided) (t now : Tabled)
         (roomy room : ClientNo → Bool) (link : LinkId) (tag : Tag) (bytes : List ℕ) (count : ℕ) (c : ClientNo)
-        → FitsThen setup codes plan default log (Wrote link tag bytes)
+        → FitsThen new.keys setup codes plan default log (Wrote link tag bytes)
         → IsDecided (ground setup codes plan old log) nobody (over_by new)
         → WroteSo link bytes count c roomy room t now
         → GoesOn service setup codes plan log (Wrote link tag bytes) old new t now roomy room }
@@ -36,7 +36,7 @@ pub fn client_writes_go()
 pub fn parts_go()
     ensures { (service : Service) (default : List ℕ) (setup : Setup) (codes : Codes) (plan : Plan) (log : Log) (old new : Decided) (t now : Tabled)
         (roomy : ClientNo → Bool) (link : LinkId) (c : ClientNo)
-        → FitsThen setup codes plan default log (Closed link)
+        → FitsThen new.keys setup codes plan default log (Closed link)
         → IsDecided (ground setup codes plan old log) nobody (over_by new) → PartsSo link c t now
         → GoesOn service setup codes plan log (Closed link) old new t now roomy roomy }
 {

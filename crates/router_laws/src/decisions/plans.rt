@@ -28,7 +28,7 @@ ghost use Rattle.router_laws.specs.decisions.Records.{AreCountsOf, IsRecorded};
 pub fn plans_are_so()
     ensures { (default : List ℕ) (d : Decided) (n : Counts) (log : Log) (e : Entry) (deeds : Deeds) (setup : Setup) (codes : Codes) (plan : Plan)
         → IsRecorded d n log → MayFollow log e → IsOf (decided_with deeds n log e d) (length (with_entry log e)) plan
-        → Fits setup codes plan default (tale_of setup plan log) → AreCountsOf n (tale_of setup plan log)
+        → Fits d.keys setup codes plan default (tale_of setup plan log) → AreCountsOf n (tale_of setup plan log)
         → AreUngiven (ground setup codes plan d log) (λ c. is_some (deeds.given c)) → PlansSo (ground setup codes plan d log) log e deeds }
 {}
 

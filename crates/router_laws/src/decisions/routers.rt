@@ -45,9 +45,11 @@ pub fn routers_go_on()
 pub fn routers_went()
     ensures plans { (d : Decided) (n : Counts) (log : Log) (e : Entry) (deeds : Deeds) (plan : Plan) → IsRecorded d n log
         → IsOf (decided_with deeds n log e d) (length (with_entry log e)) plan → IsOf d (length log) plan }
-    ensures fits { (setup : Setup) (codes : Codes) (plan : Plan) (default : List ℕ) (log : Log) (e : Entry)
+    ensures fits { (d : Decided) (n : Counts) (log : Log) (e : Entry) (deeds : Deeds) (setup : Setup) (codes : Codes) (plan : Plan) (default : List ℕ)
+        → IsRecorded d n log
         → All (λ (client : Client). IsHeardMore (tale_of setup plan (with_entry log e)) client) (tale_of setup plan log).clients
-        → Fits setup codes plan default (tale_of setup plan (with_entry log e)) → Fits setup codes plan default (tale_of setup plan log) }
+        → Fits (decided_with deeds n log e d).keys setup codes plan default (tale_of setup plan (with_entry log e))
+        → Fits d.keys setup codes plan default (tale_of setup plan log) }
 {}
 
 /// So it stood before an entry, by a plan that has what is decided behind it.
@@ -55,7 +57,7 @@ pub fn routers_stood()
     ensures { (service : Service) (log : Log) (e : Entry) (t : Tabled) (roomy : ClientNo → Bool) (deeds : Deeds)
         (setup : Setup) (codes : Codes) (plan : Plan) → (router : IsRouter service log t roomy) → MayFollow log e
         → IsOf (decided_with deeds router.counts log e router.core.decided) (length (with_entry log e)) plan
-        → Fits setup codes plan service.default_schema (tale_of setup plan (with_entry log e))
+        → Fits (decided_with deeds router.counts log e router.core.decided).keys setup codes plan service.default_schema (tale_of setup plan (with_entry log e))
         → All (λ (client : Client). IsHeardMore (tale_of setup plan (with_entry log e)) client) (tale_of setup plan log).clients
         → IsBefore service log e t roomy router deeds setup codes plan }
 {}

@@ -8,8 +8,8 @@ ghost use Rattle.core_stands.specs.Stands.{Stands};
 ghost use Rattle.core_laws.specs.parting.Partings.{AreGivenUp};
 ghost use Rattle.router_laws.specs.reading.Givings.{MayBeGivenUp};
 
-/// Statements that are given up, which weren't sent, or whose links broke, stand on no sound link.
+/// Statements that are given up as this link is read, which weren't sent, or whose links broke, stand on no sound link.
 pub fn given_up_aside()
-    ensures { (service : Service) (g : Ground) (t : Tabled) (given : ClientNo → Option (List ℕ)) → Stands service g t
-        → ((c : ClientNo) (payload : List ℕ) → given c ≡ Some payload → MayBeGivenUp c t) → AreGivenUp given (λ (l : LinkId). false) t }
+    ensures { (service : Service) (g : Ground) (t : Tabled) (l : LinkId) (given : ClientNo → Option (List ℕ)) → Stands service g t
+        → ((c : ClientNo) (payload : List ℕ) → given c ≡ Some payload → MayBeGivenUp l c t) → AreGivenUp given (λ (other : LinkId). false) t }
 {}

@@ -21,7 +21,7 @@ ghost use Rattle.router_laws.specs.waits.Drained.{IsDrainedFor};
 pub fn waits_done()
     ensures { (service : Service) (terms : Terms) (codes : Codes) (d : Decided) (log : Log) (t : Tabled) (roomy : ClientNo → Bool)
         → IsOf d (length log) (plan_in terms)
-        → Fits (setup_in terms) codes (plan_in terms) service.default_schema (tale_of (setup_in terms) (plan_in terms) log)
+        → Fits d.keys (setup_in terms) codes (plan_in terms) service.default_schema (tale_of (setup_in terms) (plan_in terms) log)
         → Rests service.setup (ground (setup_in terms) codes (plan_in terms) d log) t roomy
         → AreWrittenTo (ground (setup_in terms) codes (plan_in terms) d log) log → IsSafe (setup_in terms) (plan_in terms) log
         → ((c : ClientNo) → d.ends c ≡ None → d.words c ≡ None) → AreOpenJust log t → IsDrainedFor t log

@@ -1,5 +1,5 @@
 use Rattle.std.specs.Prelude.{◌≡◌, length}
-use Rattle.std.proofs.Common.{arith}
+use Rattle.std.proofs.Common.{arith, refl}
 use Rattle.mx_wire.specs.Log.{accepted_links}
 use Rattle.private_model.specs.Names.{ClientNo}
 use Rattle.log_story.specs.Tale.{counted}
@@ -9,7 +9,7 @@ use Rattle.core_stands.specs.Stands.{Rests}
 use Rattle.mx_wire.specs.declared.entry.Entry.TheVariants.{Accepted}
 use Rattle.core_laws.specs.arrival.Comes.{IsComing, newest}
 use Rattle.core_laws.specs.entry.Tells.{ground}
-use Rattle.router_laws.proofs.OfClients.Coming.{as_newest, calm, coming_so, kept_it, number_is, served_due, served_rests, served_runless}
+use Rattle.router_laws.proofs.OfClients.Coming.{as_newest, calm, coming_so, kept_it, number_is, served_due, served_rests}
 use Rattle.router_laws.proofs.OfClients.Entering.{entered_goes_on}
 use Rattle.router_laws.proofs.clients.comes.comes_go.Goals as goal
 use Rattle.router_laws.specs.clients.Plans.{nobody, over_by}
@@ -30,13 +30,11 @@ returns c = λ service default setup codes plan log old new t now roomy port lin
     (record {
       rests = λ rests.
           served_rests service g t now roomy log (over_by new) port link salt n fresh count plans.decided plans.kept plans.going so rests
-          (c.arrivals_rest.ensures service g t now roomy port link salt so.statements so.note rests (coming rests)
+          (c.arrivals_rest.ensures service g t now roomy port link salt so.statements so.note rests (coming rests) (so.none refl)
           (calm service g t now roomy log (over_by new) port link salt n fresh count plans.decided plans.kept plans.going so rests)
           (kept_it service g t now roomy log (over_by new) port link salt n fresh count plans.decided plans.kept plans.going so rests)
           (as_newest service g t now roomy log (over_by new) port link salt n fresh count plans.decided plans.kept plans.going so rests));
       due = λ rests.
           served_due service g t now roomy log (over_by new) port link salt n fresh count plans.decided plans.kept plans.going so rests (undone rests);
-      runless = λ rests none.
-          served_runless service g t now roomy log (over_by new) port link salt n fresh count plans.decided plans.kept plans.going so rests (undone rests) none;
       off = λ rests. tt;
     })

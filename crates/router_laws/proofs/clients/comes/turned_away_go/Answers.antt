@@ -12,7 +12,7 @@ use Rattle.mx_wire.specs.declared.entry.Entry.TheVariants.{Accepted}
 use Rattle.core_laws.specs.parting.Frames.{AreHomed}
 use Rattle.core_laws.specs.arrival.Comes.{IsComing, accepted, away_word, newest}
 use Rattle.core_laws.specs.entry.Tells.{ground}
-use Rattle.router_laws.proofs.OfClients.Coming.{away_due, away_newest, away_rests, away_runless, coming_so, number_is}
+use Rattle.router_laws.proofs.OfClients.Coming.{away_due, away_newest, away_rests, coming_so, number_is}
 use Rattle.router_laws.proofs.OfClients.Entering.{entered_goes_on}
 use Rattle.router_laws.proofs.clients.comes.turned_away_go.Goals as goal
 use Rattle.router_laws.specs.clients.Plans.{PlansComing, ends_of, over_by}
@@ -45,8 +45,5 @@ returns c = λ service default setup codes plan log old new t now roomy port lin
       due = λ rests.
           away_due service g t now roomy log (over_by new) port link salt n fresh count p.decided p.kept p.going so rests (undone rests)
           c.same_stands.ensures c.left_stands.ensures.ends (away rests) (homed rests);
-      runless = λ rests none.
-          away_runless service g t now roomy log (over_by new) port link salt n fresh count p.decided p.kept p.going so rests (undone rests)
-          c.same_stands.ensures c.left_stands.ensures.ends (away rests) (homed rests) none;
       off = λ rests. tt;
     })

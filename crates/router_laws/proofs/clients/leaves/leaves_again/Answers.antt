@@ -11,7 +11,7 @@ use Rattle.router_laws.proofs.OfClients.Counting.{takes_none}
 use Rattle.router_laws.proofs.OfClients.Entering.{entered_goes_on}
 use Rattle.router_laws.proofs.OfClients.Leaving.{IsLoss, loss_of}
 use Rattle.router_laws.proofs.OfClients.Linking.{off_server}
-use Rattle.router_laws.proofs.OfClients.Losing.{again_clients, again_due, again_entered, again_runless, again_stands}
+use Rattle.router_laws.proofs.OfClients.Losing.{again_clients, again_due, again_entered, again_stands}
 use Rattle.router_laws.proofs.OfClients.Saying.{nobody_there}
 use Rattle.router_laws.proofs.clients.leaves.leaves_again.Goals as goal
 use Rattle.router_laws.specs.clients.Plans.{nobody, over_by}
@@ -34,9 +34,6 @@ returns c = λ service default setup codes plan log e old new t now roomy link n
                 again_entered service g t now roomy log (over_by new) link n e loss (on_link rests) so decided rests counting testing
                 (c.lawful_homes.ensures setup g.tale.story rests.stands.lawful) (stands rests);
             due = λ rests. again_due service g t now roomy log (over_by new) link n e loss (on_link rests) so decided rests;
-            runless = λ rests none.
-                again_runless service g t now roomy log (over_by new) link n e loss (on_link rests) so decided rests counting testing
-                (c.lawful_homes.ensures setup g.tale.story rests.stands.lawful) (stands rests) none;
             off = λ rests. loss.off g.tale;
           });
       takes = λ rests.

@@ -13,7 +13,7 @@ use Rattle.core_stands.specs.Stands.{Rests}
 use Rattle.core_laws.proofs.OfEntry.Uneventful.{Counting, Testing}
 use Rattle.core_laws.specs.entry.Tells.{ground}
 use Rattle.router_laws.proofs.OfClients.Counting.{takes_none}
-use Rattle.router_laws.proofs.OfClients.Departing.{at_once_clients, at_once_due, at_once_rests, at_once_runless}
+use Rattle.router_laws.proofs.OfClients.Departing.{at_once_clients, at_once_due, at_once_rests}
 use Rattle.router_laws.proofs.OfClients.Entering.{entered_goes_on}
 use Rattle.router_laws.proofs.OfClients.Leaving.{IsLoss, loss_of}
 use Rattle.router_laws.proofs.OfClients.Linking.{off_server}
@@ -44,10 +44,6 @@ returns c = λ service default setup codes plan log e old new t now roomy room l
             due = λ rests.
                 at_once_due service g t now roomy room log over link n links e loss (on_link rests) so plans.decided plans.wordless_now plans.unrouted single rests
                 rising others;
-            runless = λ rests none.
-                at_once_runless service g t now roomy room log over link n links e loss (on_link rests) so plans.decided plans.wordless_now plans.unrouted single rests
-                rising others c.left_stands.ensures.ends c.same_stands.ensures c.links_are_given_back.ensures counting testing
-                (c.lawful_homes.ensures setup g.tale.story rests.stands.lawful) (λ tale o tables stands. c.lawful_homes.ensures setup tale.story stands.lawful) none;
             off = λ rests. loss.off g.tale;
           });
       takes = λ rests.

@@ -1,9 +1,10 @@
-use Rattle.std.specs.Prelude.{◌≡◌, ◌+◌, suc, Bool, List, []}
+use Rattle.std.specs.Prelude.{◌≡◌, ◌+◌, length, suc, Bool, List, []}
 use Rattle.std.proofs.Common.{refl, ap, ◌∙◌, arith, subst, sym}
 use Rattle.mx_base.specs.declared.names.LinkId.{LinkId}
 use Rattle.private_model.specs.Names.{ClientNo, MessageName}
 use Rattle.private_model.specs.Story.{Left}
 use Rattle.private_model.specs.View.{Nobody}
+use Rattle.log_story.specs.Owed.{messages}
 use Rattle.log_story.specs.Tale as tales
 use Rattle.log_story.specs.Tale.{Tale, counted, first_tale, link_in, tell, view_of}
 use Rattle.log_story.specs.Telling.{tale_step}
@@ -24,8 +25,9 @@ use Rattle.core_laws.proofs.OfClients.Following.{ended_its}
 use Rattle.core_laws.specs.clients.Following.{IsFollowed, IsFollowing, ended_by}
 use Rattle.core_laws.specs.clients.Follows.{FollowsSo, ends_by}
 use Rattle.core_laws.specs.clients.Turns.{count_by}
+use Rattle.router_promises.specs.Takings.{takings_of}
 use Rattle.router_laws.proofs.OfClients.Counting.{takes_called}
-use Rattle.router_laws.proofs.OfClients.Departing.{calls, moment3, of_one, rising3, runs3, seated3, seated_told, third}
+use Rattle.router_laws.proofs.OfClients.Departing.{calls, moment3, of_one, rising3, seated3, seated_told, third}
 use Rattle.router_laws.proofs.OfClients.Entering.{entered_goes_on, log_numbers}
 use Rattle.router_laws.proofs.OfClients.Finding.{found_then}
 use Rattle.router_laws.proofs.OfClients.Leaving.{IsLoss, loss_of}
@@ -33,6 +35,7 @@ use Rattle.router_laws.proofs.OfClients.LetIn.{let_in_then}
 use Rattle.router_laws.proofs.OfClients.Linking.{client_there, known, off_server}
 use Rattle.router_laws.proofs.OfClients.Renewing.{decided_it, first_anew, going_due, going_on, it_goes, its_apart, names, overs_then, still_anew}
 use Rattle.router_laws.proofs.OfClients.Saying.{ended_is, nobody_there}
+use Rattle.router_laws.proofs.OfDecisions.Covering.{follow_covers}
 use Rattle.router_laws.proofs.clients.leaves.leaves_going.Goals as goal
 use Rattle.router_laws.specs.clients.Plans.{ends_of, over_by}
 
@@ -120,12 +123,6 @@ returns c = λ service default setup codes plan log e old new t now roomy room l
                   (still_anew service default g t now roomy log over link n links ordinal choices halt parting e loss (on_link rests) so plans rests)
                   so.leaves.freed counting testing c.same_stands.ensures c.links_are_given_back.ensures rising)
                   (followed rests).rests.stands;
-              runless = λ rests none.
-                  (followed rests).runless
-                  (runs3 service g t roomy link n so.row rests so.its e loss (on_link rests) plans.decided.still links so.leaves.homes (homed rests) g.over
-                  so.leaves.left so.between (first rests)
-                  (still_anew service default g t now roomy log over link n links ordinal choices halt parting e loss (on_link rests) so plans rests)
-                  so.leaves.freed counting testing c.same_stands.ensures c.links_are_given_back.ensures rising none);
               off = λ rests. loss.off g.tale;
             });
         takes = λ rests.
@@ -142,6 +139,9 @@ returns c = λ service default setup codes plan log e old new t now roomy room l
           ap (λ (m : MessageName). m.ordinal)
           (names service default g t now roomy log over link n links ordinal choices halt parting e loss (on_link rests) so plans rests) in
           omega (arith, own, at))
+          (takings_of (length (messages plan (it rests))) setup plan (it rests) freed)
+          (follow_covers service default g so.between g.fresh e (it rests) freed choices halt parting (follow rests) (mid rests) fits.single n
+          (known service g t link n so.row rests.stands so.its).number)
           (c.follows_find.ensures service default g so.between so.follows.turned g.fresh e (it rests) freed choices halt parting n
           (known service g t link n so.row rests.stands so.its).number (follow rests) (mid rests) so.follows.turns);
     }

@@ -1,9 +1,10 @@
-use Rattle.std.specs.Prelude.{◌≡◌, ◌+◌, ◌||◌, ◌++◌, suc, Bool}
+use Rattle.std.specs.Prelude.{◌≡◌, ◌+◌, ◌||◌, ◌++◌, length, suc, Bool}
 use Rattle.std.proofs.Common.{refl, ap, ◌∙◌, arith, subst, sym}
 use Rattle.mx_base.specs.declared.names.ClientNo.{ClientNo}
 use Rattle.mx_wire.specs.declared.entry.Entry.{Entry}
 use Rattle.mx_wire.specs.declared.entry.Entry.TheVariants.{Got}
 use Rattle.private_model.specs.Story.{is_client}
+use Rattle.log_story.specs.Owed.{messages}
 use Rattle.log_story.specs.Tale as tales
 use Rattle.log_story.specs.Tale.{Tale, client_hears}
 use Rattle.log_story.specs.Telling.{tale_step, told}
@@ -20,12 +21,14 @@ use Rattle.core_laws.proofs.OfClients.Following.{ended_its}
 use Rattle.core_laws.specs.clients.Following.{IsFollowed, IsFollowing, ended_by}
 use Rattle.core_laws.specs.clients.Follows.{FollowsSo, ends_by}
 use Rattle.core_laws.specs.clients.Turns.{count_by}
+use Rattle.router_promises.specs.Takings.{takings_of}
 use Rattle.router_laws.proofs.OfClients.Counting.{takes_called}
 use Rattle.router_laws.proofs.OfClients.Entering.{entered_goes_on, log_numbers}
 use Rattle.router_laws.proofs.OfClients.Finding.{found_then}
 use Rattle.router_laws.proofs.OfClients.LetIn.{let_in_then}
 use Rattle.router_laws.proofs.OfClients.Linking.{client_there, is_client_row, known, off_server}
-use Rattle.router_laws.proofs.OfClients.Saying.{arrived_there, ends_said, following, fresh_others, over_then, rooms, said_is, speaking, spoken_due, spoken_runless, still_then}
+use Rattle.router_laws.proofs.OfClients.Saying.{arrived_there, ends_said, following, fresh_others, over_then, rooms, said_is, speaking, spoken_due, still_then}
+use Rattle.router_laws.proofs.OfDecisions.Covering.{follow_covers}
 use Rattle.router_laws.proofs.clients.speaks.speaks_go.Goals as goal
 use Rattle.router_laws.specs.clients.Plans.{ends_of, over_by}
 
@@ -80,9 +83,6 @@ returns c = λ service default setup codes plan log old new t now roomy room lin
               due = λ rests.
                   spoken_due service default setup codes plan log old over t now roomy room link bytes n ordinal choices halt parting links safe plans so rests
                   (followed rests).rests;
-              runless = λ rests none.
-                  spoken_runless service default setup codes plan log old over t now roomy room link bytes n ordinal choices halt parting links safe plans so rests
-                  (followed rests) none;
               off = λ rests. off_server service g t link n so.row rests.stands so.its;
             });
         takes = λ rests.
@@ -99,6 +99,9 @@ returns c = λ service default setup codes plan log old new t now roomy room lin
           (let own : ordinal ≡ suc (client rests).taken =
           so.next ∙ ap suc (arrived_there g (client rests) so.row (is_client_row service g t link n so.row rests.stands so.its) so.going) in
           omega (arith, own, at))
+          (takings_of (length (messages plan (said rests))) setup plan (said rests) freed)
+          (follow_covers service default g so.heard (λ x. is_client n x || g.fresh x) e (said rests) freed choices halt parting (follow rests) (mid rests)
+          fits.single n (known service g t link n so.row rests.stands so.its).number)
           (c.follows_find.ensures service default g so.heard so.follows.turned (λ x. is_client n x || g.fresh x) e (said rests) freed choices halt parting n
           (known service g t link n so.row rests.stands so.its).number (follow rests) (mid rests) so.follows.turns);
     }

@@ -9,7 +9,7 @@ use Rattle.core_laws.specs.entry.Entries.{behind}
 use Rattle.core_laws.specs.entry.Tells.{ground}
 use Rattle.router_laws.proofs.OfClients.Entering.{entered_goes_on}
 use Rattle.router_laws.proofs.OfClients.Linking.{off_server}
-use Rattle.router_laws.proofs.OfClients.Wroting.{calm, few, sized, wrote_due, wrote_rests, wrote_runless}
+use Rattle.router_laws.proofs.OfClients.Wroting.{calm, few, sized, wrote_due, wrote_rests}
 use Rattle.router_laws.proofs.clients.writes.client_writes_go.Goals as goal
 use Rattle.router_laws.specs.clients.Plans.{nobody, over_by}
 
@@ -32,7 +32,5 @@ returns c = λ service default setup codes plan log old new t now roomy room lin
       rests = λ rests.
           wrote_rests service g t now roomy room log (over_by new) link tag bytes count n so decided rests counting testing (stands rests) (wide rests);
       due = λ rests. wrote_due service g t now roomy room log (over_by new) link tag bytes count n so decided rests;
-      runless = λ rests none.
-          wrote_runless service g t now roomy room log (over_by new) link tag bytes count n so decided rests counting testing (stands rests) (wide rests) none;
       off = λ rests. off_server service g t link n so.row rests.stands so.its;
     })

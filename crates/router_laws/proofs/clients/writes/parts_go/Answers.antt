@@ -6,7 +6,7 @@ use Rattle.core_stands.specs.Grounds.{Ground, on}
 use Rattle.core_stands.specs.Stands.{Rests, Stands}
 use Rattle.core_laws.proofs.OfEntry.Uneventful.{Counting, Testing}
 use Rattle.core_laws.specs.entry.Tells.{ground}
-use Rattle.router_laws.proofs.OfClients.Closing.{closed_due, closed_entered, closed_runless, left_undone, over_there, stands_gone}
+use Rattle.router_laws.proofs.OfClients.Closing.{closed_due, closed_entered, left_undone, over_there, stands_gone}
 use Rattle.router_laws.proofs.OfClients.Entering.{entered_goes_on}
 use Rattle.router_laws.proofs.clients.writes.parts_go.Goals as goal
 use Rattle.router_laws.specs.clients.Plans.{nobody, over_by}
@@ -27,7 +27,5 @@ returns c = λ service default setup codes plan log old new t now roomy link n f
     (record {
       rests = λ rests. closed_entered service g t now roomy log (over_by new) link n so decided rests counting testing (undone rests) (stands rests);
       due = λ rests. closed_due service g t now roomy log (over_by new) link n so decided rests counting testing (undone rests) (stands rests);
-      runless = λ rests none.
-          closed_runless service g t now roomy log (over_by new) link n so decided rests counting testing (undone rests) (stands rests) none;
       off = λ rests. tt;
     })

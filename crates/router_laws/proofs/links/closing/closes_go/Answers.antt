@@ -15,7 +15,7 @@ use Rattle.router_laws.specs.links.Closes.{ClosesSo}
 use Rattle.core_tables.specs.Parting.{given_up_in, lost_in}
 use Rattle.core_laws.proofs.OfLinks.Uncalled.{Sames}
 use Rattle.mx_wire.specs.declared.entry.Entry.TheVariants.{Closed}
-use Rattle.router_laws.proofs.OfLinks.Closings.{closed, closed_clients, closed_over, closed_runs, closing_due, gone_tale, unusable}
+use Rattle.router_laws.proofs.OfLinks.Closings.{closed, closed_clients, closed_over, closing_due, gone_tale, unusable}
 use Rattle.router_laws.proofs.OfLinks.Leaving.{losing_so}
 use Rattle.router_laws.proofs.OfLinks.Giving.{none_given_up}
 use Rattle.router_laws.proofs.links.closing.closes_go.Goals as goal
@@ -40,8 +40,6 @@ returns c =
             rests = λ rests.
                 closed_over service (testing service) (sames service) g t now roomy room l (over_by new) decided so rooms rests (stands rests);
             due = λ rests. closing_due g log l (over_by new) now;
-            runless = λ rests none.
-                closed_runs service (testing service) (sames service) g t now roomy room l (over_by new) decided so rooms rests (stands rests) ∙ none;
             off = λ rests. tt;
           });
       clients = λ service setup codes plan log old new t now roomy room l decided rooms so rests.

@@ -48,8 +48,8 @@ returns c =
           decided so rests none (there rests))
           (λ rests. due service setup codes plan log old new t now roomy server address l login (counting service) (testing service) (sames service)
           decided so rests none (there rests))
-          (λ rests then safe. safely service setup codes plan log old new t now roomy server address l login (counting service) (testing service)
-          (sames service) decided so rests none (there rests) safe);
+          (λ rests then. safely service setup codes plan log old new t now roomy server address l login (counting service) (testing service)
+          (sames service) decided so rests none (there rests));
       clients = λ service setup codes plan log old new t now roomy server address l login fresh decided logs_in so rests.
           step_clients service setup codes plan log old new t now roomy server address l login (counting service) (testing service) (sames service) decided
           so rests (c.new_links_are_none.ensures.server setup plan log l fresh)

@@ -56,12 +56,12 @@ returns c =
           (plain service g t now l offer count rests.stands so) (wrote service g t now l offer count rests.stands steps so))
           (λ rests. due service setup codes plan log old new t now roomy l offer count (counting service) (testing service) (sames service) decided so rests
           (plain service g t now l offer count rests.stands so) (wrote service g t now l offer count rests.stands steps so))
-          (λ rests then safe.
+          (λ rests then.
           safely service setup codes plan log old new t now roomy l offer count (counting service) (testing service) (sames service) decided so rests
           (plain service g t now l offer count rests.stands so) (wrote service g t now l offer count rests.stands steps so)
           (c.passes_may_tell.ensures service g t l so.server offer (take count offer.bytes) rests.stands so.there so.lent
           (planned service g t now l offer count rests.stands steps so))
-          (c.closes_come_first.ensures service g t l offer.tag (take count offer.bytes) rests.stands (ap (λ (row : Option Server). is_some row) so.there)) safe);
+          (c.closes_come_first.ensures service g t l offer.tag (take count offer.bytes) rests.stands (ap (λ (row : Option Server). is_some row) so.there)));
       clients = λ service setup codes plan log old new t now roomy l offer count decided steps so rests.
           let g : Ground = ground setup codes plan old log in
           step_clients service setup codes plan log old new t now roomy l offer count (counting service) (testing service) (sames service) decided so rests
