@@ -1,26 +1,25 @@
 -- A query that isn't refused goes to a server of its user's hostgroup as it is, where there are no rules and a server is there.
 use Rattle.std.specs.Prelude.{◌≡◌, ℕ, Bool, true, false, not, ◌&&◌, ◌||◌, List, [], ◌∷◌, Option, Some, None, if◌then◌else◌, refl}
+use Rattle.std.proofs.Common.{sym}
 use Rattle.pin_classifier.specs.Classes.{class_of}
 use Rattle.pin_classifier.specs.declared.class.Class.{Class}
 use Rattle.pin_classifier.specs.declared.class.Refusal.{Refusal}
-use Rattle.session_state.specs.Pins.{no_pin}
+use Rattle.session_state.specs.Pins.{is_pinned}
 use Rattle.session_state.specs.declared.pin.Pin.{Pin}
-use Rattle.session_vars.specs.Settings.{defaults}
 use Rattle.server_rule.specs.Classes.{router_reads}
 use Rattle.private_model.specs.Names.{ClientNo, Hostgroup}
 use Rattle.log_story.specs.Plan.{Route, com_query}
 use Rattle.router_promises.specs.Errors.{diagnostics_gone, names_connection}
 use Rattle.router_promises.specs.Verdicts.{Goes, Verdict, Wanted, is_connection_id, plain_route, tells_one}
 use Rattle.message_judge.specs.Judging as judging
-use Rattle.core_promises.specs.Judges.{IsVerdictFor, Knowledge, goes_by}
+use Rattle.core_promises.specs.Judges.{IsVerdictFor, Knowledge, Rulebook, Situation, goes_by, transaction_of}
 
--- all that is there to be read is its own
-abbrev kept : Pin
-kept = record no_pin { diag = true; own_diag = true; own_found = true }
+module _ (homes : (user : List ℕ) → Hostgroup) (hostgroups : List Hostgroup) (situation : Situation) (c : ClientNo) (text : List ℕ) where
+  abbrev book : Rulebook
+  book = record { rules = []; home = homes; hostgroups = hostgroups }
 
-module _ (homes : (user : List ℕ) → Hostgroup) (user : List ℕ) (c : ClientNo) (text : List ℕ) where
   abbrev home : Hostgroup
-  home = homes user
+  home = homes situation.user
 
   abbrev class : Class
   class = class_of text
@@ -30,9 +29,9 @@ module _ (homes : (user : List ℕ) → Hostgroup) (user : List ℕ) (c : Client
 
   abbrev known : Knowledge
   known = record {
-    caller = record { number = c; user = user; home = home; place = record { schema = []; settings = defaults }; flag = 0; last = None };
+    caller = record { number = c; user = situation.user; home = home; place = situation.place; flag = 0; last = None };
     standing = record { transaction = None; next_number = None };
-    pins = λ hostgroup. kept;
+    pins = situation.pins;
     is_there = λ hostgroup. true;
   }
 
@@ -42,36 +41,49 @@ module _ (homes : (user : List ℕ) → Hostgroup) (user : List ℕ) (c : Client
   abbrev verdict_of : judging.Draft → Verdict
   verdict_of draft = judging.verdict_by known.pins known.is_there draft
 
-  by-reads : (id diag found : Bool) → goes_by as_it_is
-      ≡ (if (not diag || true) && (not found || true) then Goes (wanted (id || diag)) else tells_one diagnostics_gone)
-  by-reads true true true = refl
-  by-reads true true false = refl
-  by-reads true false true = refl
-  by-reads true false false = refl
-  by-reads false true true = refl
-  by-reads false true false = refl
-  by-reads false false true = refl
-  by-reads false false false = refl
+  -- it reads no diagnostics
 
-  by-shape : (asks : Bool) → asks ≡ false
-      → goes_by as_it_is ≡ verdict_of (if asks then judging.answers_one names_connection else judging.Sends (Some class) (wanted (class.reads_id || class.reads_diag)))
-  by-shape true is = absurd (cc)
-  by-shape false is = by-reads class.reads_id class.reads_diag class.reads_found
-
-  by-refusal : (why : Option Refusal) → why ≡ None → is_connection_id class.shape ≡ false
-      → goes_by as_it_is ≡ verdict_of (judging.by_class class why (wanted (class.reads_id || class.reads_diag)))
-  by-refusal (Some why) is plain = absurd (cc)
-  by-refusal None is plain = by-shape (is_connection_id class.shape) plain
-
-  asked : (asks : Bool) → asks ≡ false → class.refusal ≡ None → is_connection_id class.shape ≡ false
+  by-reads : (id diag found : Bool) → diag ≡ false → found ≡ false → (pin : Pin)
       → goes_by as_it_is
-      ≡ verdict_of (if asks then judging.still known.caller (judging.connection_id known.caller known.standing)
-      else judging.by_pass router_reads known.caller known.standing (judging.pass_of [] known.caller text) None).draft
-  unfolding router_reads
-  asked true is free plain = absurd (cc)
-  asked false is free plain = by-refusal class.refusal free plain
+      ≡ (if (not diag || (is_pinned pin && pin.own_diag)) && (not found || (is_pinned pin && pin.own_found)) then Goes (wanted (id || diag)) else tells_one diagnostics_gone)
+  by-reads true false false unread unfound pin = refl
+  by-reads false false false unread unfound pin = refl
+  by-reads id true found unread unfound pin = absurd (cc)
+  by-reads id false true unread unfound pin = absurd (cc)
 
-  pub goes-as-it-is : class.refusal ≡ None → is_connection_id class.shape ≡ false
-      → IsVerdictFor (record { rules = []; home = homes }) user c (com_query ∷ text) (goes_by as_it_is)
-  unfolding router_reads
-  goes-as-it-is free plain = record { known = known; client = refl; login = refl; home = refl; flag = refl; is = asked (is_connection_id class.shape) plain free plain }
+  module _ (unread : class.reads_diag ≡ false) (unfound : class.reads_found ≡ false) where
+    by-shape : (asks : Bool) → asks ≡ false
+        → goes_by as_it_is ≡ verdict_of (if asks then judging.answers_one names_connection else judging.Sends (Some class) (wanted (class.reads_id || class.reads_diag)))
+    by-shape true is = absurd (cc)
+    by-shape false is =
+        by-reads class.reads_id class.reads_diag class.reads_found unread unfound
+        (situation.pins (wanted (class.reads_id || class.reads_diag)).route.hostgroup)
+
+    by-refusal : (why : Option Refusal) → why ≡ None → is_connection_id class.shape ≡ false
+        → goes_by as_it_is ≡ verdict_of (judging.by_class class why (wanted (class.reads_id || class.reads_diag)))
+    by-refusal (Some why) is plain = absurd (cc)
+    by-refusal None is plain = by-shape (is_connection_id class.shape) plain
+
+    asked : (asks : Bool) → asks ≡ false → class.refusal ≡ None → is_connection_id class.shape ≡ false
+        → goes_by as_it_is
+        ≡ verdict_of (if asks then judging.still known.caller (judging.connection_id known.caller known.standing)
+        else judging.by_pass router_reads known.caller known.standing (judging.pass_of [] known.caller text) None).draft
+    unfolding router_reads
+    asked true is free plain = absurd (cc)
+    asked false is free plain = by-refusal class.refusal free plain
+
+    pub goes-as-it-is : class.refusal ≡ None → is_connection_id class.shape ≡ false → transaction_of book situation ≡ None
+        → IsVerdictFor book situation c (com_query ∷ text) (goes_by as_it_is)
+    unfolding router_reads
+    goes-as-it-is free plain closed = record {
+      known = known;
+      client = refl;
+      login = refl;
+      home = refl;
+      place = refl;
+      transaction = sym closed;
+      pins = refl;
+      there = λ h has. refl;
+      flag = refl;
+      is = asked (is_connection_id class.shape) plain free plain;
+    }

@@ -1,22 +1,23 @@
 -- The worked log of router_cases, where it waits, and what the router says there by itself.
 use Rattle.std.specs.Prelude.{◌≡◌, Bool, true, false, [], ◌∷◌, Option, Some, None, if◌then◌else◌, refl}
-use Rattle.std.proofs.Common.{subst}
+use Rattle.std.proofs.Common.{ap, subst}
 use Rattle.client_session.specs.Errors.{connection_refused}
 use Rattle.mx_wire.specs.Moments.{AllLawful}
-use Rattle.private_model.specs.Names.{ClientNo}
+use Rattle.private_model.specs.Names.{ClientNo, Hostgroup}
 use Rattle.private_model.specs.Story.{is_message}
 use Rattle.log_story.specs.Plan.{LastWord, OwnAnswer, Route, com_query}
 use Rattle.own_words.specs.Own.{GivesUp, IsOwn, NoLink, SpeaksOwn}
 use Rattle.core_promises.specs.Asks.{CopiesNothing}
-use Rattle.core_promises.specs.Judges.{IsVerdictFor, JudgesSo, goes_by, rulebook_of}
+use Rattle.core_promises.specs.Judges.{IsVerdictFor, JudgesSo, Situation, goes_by, rulebook_of, transaction_of}
 use Rattle.core_promises.specs.Waits.{WaitsSo}
 use Rattle.promise_tests.proofs.Moments.{entries-so}
 use Rattle.promise_tests.specs.Tests.{each_entry}
 use Rattle.router_cases.proofs.OnLogs.{on_logs}
-use Rattle.router_cases.specs.Worked.{Stored, anybody, insert, log, message, plan, route, router, terms_with}
+use Rattle.router_cases.specs.Worked.{Stored, anybody, group, insert, log, message, plan, route, router, terms_with}
 use Rattle.router_promises.specs.Now.{at_first, now_at}
 use Rattle.router_promises.specs.Router.{home_of}
-use Rattle.apart_cases.specs.Tests.{all_say, waits}
+use Rattle.router_promises.specs.Verdicts.{plain_route}
+use Rattle.apart_cases.specs.Tests.{all_closed, all_say, waits}
 use Rattle.apart_cases.proofs.Asking.{judges-so}
 use Rattle.apart_cases.proofs.OnClasses.{on_classes}
 use Rattle.apart_cases.proofs.Plain.{goes-as-it-is}
@@ -33,16 +34,25 @@ waits-worked stored =
 
 -- Each message is an INSERT, which goes to the one server, in its user's hostgroup.
 
-goes-there : (c : ClientNo) → IsVerdictFor (rulebook_of router) anybody.user c (com_query ∷ insert) (goes_by route)
+goes-there : (c : ClientNo) (situation : Situation) → situation.user ≡ anybody.user → transaction_of (rulebook_of router) situation ≡ None
+    → IsVerdictFor (rulebook_of router) situation c (com_query ∷ insert) (goes_by route)
 unfolding on_classes
-goes-there c = goes-as-it-is (home_of router) anybody.user c insert refl refl
+goes-there c situation login closed =
+    subst (λ (home : Hostgroup). IsVerdictFor (rulebook_of router) situation c (com_query ∷ insert) (goes_by (record (plain_route home) { text = Some insert })))
+    (ap (home_of router) login)
+    (goes-as-it-is (home_of router) (group ∷ []) situation c insert refl refl refl refl closed)
 
 said : (stored : Stored) → all_say (com_query ∷ insert) plan (now_at (terms_with stored) log) ≡ true
 unfolding on_logs
 said stored = refl
 
+closed : (stored : Stored) → all_closed (terms_with stored) log ≡ true
+unfolding on_logs
+closed stored = refl
+
 pub judges-worked : (stored : Stored) → JudgesSo (terms_with stored) log
-judges-worked stored = judges-so (terms_with stored) (com_query ∷ insert) route (λ m. refl) goes-there log (said stored)
+judges-worked stored =
+    judges-so (terms_with stored) log (com_query ∷ insert) route (λ m. refl) goes-there (said stored) (closed stored)
 
 one-route : (a b : Route) → ◌≡◌ {A = Option Route} (Some a) (Some b) → a ≡ b
 one-route a b is = cc

@@ -1,23 +1,28 @@
 -- Tests of a log: where the loop waits, while no statement is on its way; and of a message that all clients send.
-use Rattle.std.specs.Prelude.{Bool, true, false, not, ◌&&◌, ◌||◌, ◌++◌, bytes_eq, take, ℕ, List}
-use Rattle.std.specs.List.{list_all}
+use Rattle.std.specs.Prelude.{Bool, true, false, not, is_some, ◌&&◌, ◌||◌, ◌++◌, bytes_eq, take, ℕ, zero, suc, List}
+use Rattle.std.specs.List.{list_all, list_any}
 use Rattle.std.specs.Option.{option_map_or}
 use Rattle.mx_base.specs.declared.names.LinkId.{LinkId}
 use Rattle.mx_base.specs.declared.names.Port.TheVariants.{Admin, Traffic}
 use Rattle.mx_wire.specs.Log.{Log, is_open, written_of}
 use Rattle.mx_wire.specs.declared.entry.Entry.{Entry}
 use Rattle.mx_wire.specs.declared.entry.Entry.TheVariants.{Over, WaitFailed, Woke}
+use Rattle.core_promises.specs.Judges.{Rulebook, rulebook_of, situation_of, takings_along, transaction_of}
 use Rattle.core_promises.specs.Waits.{error_to}
 use Rattle.packet_frame.specs.Packets.{Framed}
 use Rattle.ready_loop.specs.Drained.{all_accepted, all_named, read_dry, write_dry}
 use Rattle.log_story.specs.Owed.{messages, name_of}
 use Rattle.log_story.specs.Plan.{Plan, Route}
-use Rattle.log_story.specs.Tale.{Client}
+use Rattle.private_model.specs.Names.{MessageName}
+use Rattle.private_model.specs.Story.{is_message}
+use Rattle.private_model.specs.View.{Setup}
+use Rattle.log_story.specs.Tale.{Client, first_tale}
 use Rattle.router_promises.specs.Due.{due_to}
 use Rattle.router_promises.specs.Dues.{is_unsent}
 use Rattle.router_promises.specs.Ends.{was_answered}
-use Rattle.router_promises.specs.Now.{Now, present_now}
+use Rattle.router_promises.specs.Now.{Now, now_at, present_now}
 use Rattle.router_promises.specs.Rest.{is_ahead}
+use Rattle.router_promises.specs.Takings.{Taking, message_in}
 use Rattle.router_promises.specs.Terms.{Terms, plan_in, setup_in}
 
 -- its statement waits for a link
@@ -53,6 +58,23 @@ waits terms log now (Woke until_ms now_ms) = is_done terms log now
 waits terms log now WaitFailed = is_done terms log now
 waits terms log now Over = is_done terms log now
 waits terms log now _ = true
+
+-- the message of this name is one of these takings, and no transaction of its client was open then
+abbrev pub is_closed_in : Rulebook → Setup → MessageName → Taking → Bool
+is_closed_in book setup name taking =
+    is_message (message_in taking) name && not (is_some (transaction_of book (situation_of setup taking.tale name.client)))
+
+abbrev pub are_closed : Rulebook → Setup → List Taking → Client → (count : ℕ) → Bool
+are_closed book setup takings client zero = true
+are_closed book setup takings client (suc k) =
+    list_any (is_closed_in book setup (name_of client (suc k))) takings && are_closed book setup takings client k
+
+-- so it is of each that was taken up of each client of the log
+abbrev pub all_closed : Terms → Log → Bool
+all_closed terms log =
+    list_all (λ (client : Client).
+    are_closed (rulebook_of terms.router) (setup_in terms) (takings_along (setup_in terms) (plan_in terms) first_tale log) client client.taken)
+    (now_at terms log).tale.clients
 
 -- what was taken up of a client is this message
 abbrev pub says_this : (payload : List ℕ) → Plan → Client → Bool

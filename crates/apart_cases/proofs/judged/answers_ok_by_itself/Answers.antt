@@ -12,4 +12,4 @@ unstopped rules ask none = subst (λ (rs : List Rule). ◌≡◌ {A = Option Sto
 
 pub returns : goal.returns
 returns c = λ terms text info status answers none.
-    c.answers_for_a_server.ensures terms text info status answers (λ ask said own login flag stops. none-some (sym (unstopped terms.router.rules ask none) ∙ stops))
+    c.answers_for_a_server.ensures terms text info status answers (λ taking taken ask said own login placed flag stops. none-some (sym (unstopped terms.router.rules ask none) ∙ stops))
