@@ -120,6 +120,7 @@ impl Policy {
         let done = self.late_ones(tables, service, now, given, &mut spared, &mut idle);
         for it in &spared {
             self.unserved.put(it.slot, it.key, it.since);
+            self.todo.keys.lends.put(it.key);
         }
         done
     }

@@ -135,7 +135,7 @@ fn asks(
     if is_connection_id(&class.shape) {
         return Ok(still(caller, connection_id(caller, standing)));
     }
-    pass(alloc, rules, caller, standing, text, None)
+    pass(alloc, rules, caller, standing, text, Some(class), None)
 }
 
 // A text that is to be prepared.
@@ -152,5 +152,13 @@ fn prepares(
     if standing.next_number.is_none() {
         return Ok(still(caller, refuses(OwnError::TooManyStatements)));
     }
-    pass(alloc, rules, caller, standing, text, standing.next_number)
+    pass(
+        alloc,
+        rules,
+        caller,
+        standing,
+        text,
+        None,
+        standing.next_number,
+    )
 }

@@ -1,6 +1,7 @@
 // What goes to a server.
 ghost use Rattle.std.specs.Prelude.{◌≡◌, ℕ, IfOk, IfSome, List, Option, Some, unwrap_or};
 ghost use Rattle.std.specs.Option.{option_copied};
+ghost use Rattle.pin_classifier.specs.Classes.{class_of};
 ghost use Rattle.query_rules.specs.Passing.{rules_of};
 ghost use Rattle.query_rules.specs.declared.ask.Routed.{Routed};
 ghost use Rattle.query_rules.specs.declared.ask.Stop.{Stop};
@@ -114,15 +115,17 @@ fn hostgroup_for(
     }
 }
 
-/// The pass over the rules, and what becomes of the text by it.
+/// The pass over the rules, and what becomes of the text by it, of which the class may be known.
 pub fn pass(
     alloc: Global,
     rules: &Rules,
     caller: &Caller,
     standing: Standing,
     text: &[u8],
+    known: Option<Class>,
     number: Option<u32>,
 ) -> Result<Judged, OutOfMemory>
+    requires { IfSome known (λ class. class ≡ class_of text.now) }
     ensures { IfOk result (λ found. (prepared : Option Prepared) → value_of caller.now prepared found
         ≡ by_pass router_reads caller.now standing (pass_of (rules_of rules.now) caller.now text.now) number) }
 {
@@ -134,7 +137,7 @@ pub fn pass(
         default_hostgroup: caller.home,
     };
     let routed = rules.route(&ask)?;
-    by_pass(alloc, caller, standing, routed, number)
+    by_pass(alloc, caller, standing, routed, text, known, number)
 }
 
 // What becomes of a text by what the rules say.
@@ -143,13 +146,16 @@ fn by_pass(
     caller: &Caller,
     standing: Standing,
     routed: Routed,
+    came: &[u8],
+    known: Option<Class>,
     number: Option<u32>,
 ) -> Result<Judged, OutOfMemory>
+    requires { IfSome known (λ class. class ≡ class_of came.now) }
     ensures { IfOk result (λ found. (prepared : Option Prepared) → value_of caller.now prepared found
         ≡ by_pass router_reads caller.now standing routed number) }
 {
     let flag = flag_behind(caller, routed.next_flag);
-    let draft = ruled(alloc, caller, standing, routed, number)?;
+    let draft = ruled(alloc, caller, standing, routed, came, known, number)?;
     Ok(Judged { draft, flag })
 }
 
@@ -167,8 +173,11 @@ fn ruled(
     caller: &Caller,
     standing: Standing,
     routed: Routed,
+    came: &[u8],
+    known: Option<Class>,
     number: Option<u32>,
 ) -> Result<Draft, OutOfMemory>
+    requires { IfSome known (λ class. class ≡ class_of came.now) }
     ensures { IfOk result (λ draft. (prepared : Option Prepared) → draft_of caller.now prepared draft
         ≡ ruled router_reads caller.now standing routed number routed.stop) }
 {
@@ -181,7 +190,9 @@ fn ruled(
     } = routed;
     match stop {
         Some(stop) => Ok(stopped(caller, standing, stop)),
-        None => classified(alloc, caller, standing, hostgroup, text, multiplex, number),
+        None => classified(
+            alloc, caller, standing, hostgroup, text, multiplex, came, known, number,
+        ),
     }
 }
 
@@ -196,6 +207,24 @@ fn stopped(caller: &Caller, standing: Standing, stop: Stop) -> Draft
     }
 }
 
+// The class of a text, which is known of the text as it came: mostly no rule rewrites it.
+fn class_for(
+    alloc: Global,
+    came: &[u8],
+    known: Option<Class>,
+    text: &[u8],
+) -> Result<Class, OutOfMemory>
+    requires { IfSome known (λ class. class ≡ class_of came.now) }
+    ensures { IfOk result (λ class. class ≡ class_of text.now) }
+{
+    if let Some(class) = known {
+        if text == came {
+            return Ok(class);
+        }
+    }
+    classify(alloc, text)
+}
+
 // A text that the rules let pass, by its class.
 fn classified(
     alloc: Global,
@@ -204,12 +233,15 @@ fn classified(
     hostgroup: Hostgroup,
     text: Bytes,
     multiplex: Option<bool>,
+    came: &[u8],
+    known: Option<Class>,
     number: Option<u32>,
 ) -> Result<Draft, OutOfMemory>
+    requires { IfSome known (λ class. class ≡ class_of came.now) }
     ensures { IfOk result (λ draft. (prepared : Option Prepared) (flag : Option ℕ) (stop : Option Stop) → draft_of caller.now prepared draft
         ≡ passed_on router_reads caller.now standing (record { hostgroup = hostgroup; text = text; next_flag = flag; multiplex = multiplex; stop = stop }) number) }
 {
-    let class = classify(alloc, text.as_slice())?;
+    let class = class_for(alloc, came, known, text.as_slice())?;
     let there = hostgroup_for(caller, standing, &class, hostgroup);
     Ok(passed_on(class, there, text, multiplex, number))
 }
