@@ -8,6 +8,7 @@ pub mod Crossing
 pub mod Feeding
 pub mod Finishing
 pub mod Found
+pub mod Headed
 pub mod Heads
 pub mod Inverse
 pub mod Living

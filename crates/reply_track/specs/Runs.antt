@@ -1,5 +1,5 @@
 -- What a tracker does at all bytes of a piece.
-use Rattle.std.specs.Prelude.{◌≡◌, ℕ, ◌-◌, List, [], ◌∷◌, length, min}
+use Rattle.std.specs.Prelude.{◌≡◌, ℕ, ◌+◌, ◌-◌, ◌*◌, Bool, ◌&&◌, not, nat_eq, List, [], ◌∷◌, length, min, Option, Some, None, if◌then◌else◌}
 use Rattle.mx_base.specs.Fields.{AreBytes}
 use Rattle.reply_track.specs.declared.reply.ReplyEnd.{ReplyEnd}
 use Rattle.reply_track.specs.declared.reply.Progress.{Progress}
@@ -11,7 +11,8 @@ use Rattle.reply_track.specs.declared.place.Place.TheVariants.{First, Second, Th
 use Rattle.reply_track.specs.declared.place.State.{State}
 use Rattle.reply_track.specs.declared.place.Outcome.{Outcome}
 use Rattle.reply_track.specs.declared.place.Outcome.TheVariants.{On, Over, Wrong}
-use Rattle.reply_track.specs.Steps.{step, written}
+use Rattle.packet_frame.specs.Packets.{longest}
+use Rattle.reply_track.specs.Steps.{body_takes_length, body_takes_low, numbered, step, written}
 
 -- how bytes end: the reply goes on, it ended and these bytes are behind it, or these bytes begin with a wrong one
 pub data Ending : Type 0 where
@@ -79,3 +80,24 @@ place_behind (BodyPlace left long) count = BodyPlace (left - count) long
 
 abbrev pub behind : State → (count : ℕ) → State
 behind state count = record state { place = place_behind state.place count }
+
+-- The state behind the header of a packet that isn't empty, which these four bytes are, where the packet may come. Its length is told at once,
+-- and only its sequence id becomes another for the client.
+
+abbrev pub is_header : State → (a b c id : ℕ) → Bool
+is_header state a b c id =
+    nat_eq id state.server && (not (nat_eq ((a + 256 * b) + 65536 * c) 0) && (body_takes_low state.body a
+    && (body_takes_low state.body (a + 256 * b) && body_takes_length state.body ((a + 256 * b) + 65536 * c))))
+
+abbrev pub in_body : State → (length : ℕ) → State
+in_body state length = record (numbered state) { place = BodyPlace length (nat_eq length longest) }
+
+abbrev pub headed_at : State → Place → (a b c id : ℕ) → Option State
+headed_at state First a b c id = if is_header state a b c id then Some (in_body state ((a + 256 * b) + 65536 * c)) else None
+headed_at state (Second low) a b c id = None
+headed_at state (Third low) a b c id = None
+headed_at state (IdPlace length) a b c id = None
+headed_at state (BodyPlace left long) a b c id = None
+
+abbrev pub headed : State → (a b c id : ℕ) → Option State
+headed state a b c id = headed_at state state.place a b c id

@@ -1,6 +1,6 @@
 // One byte of a reply.
 ghost use Rattle.std.specs.Prelude.{◌≡◌, ◌≤◌, ◌<◌};
-ghost use Rattle.reply_track.specs.Runs.{passed, behind};
+ghost use Rattle.reply_track.specs.Runs.{passed, behind, headed, is_header};
 ghost use Rattle.reply_track.specs.Steps.{step, low_taken, length_taken, id_taken, packet_ended, payload_taken, written, number_byte, body_takes_low, body_takes_length, empty_body, next_id};
 
 use crate::body::{Body, taken};
@@ -102,6 +102,42 @@ pub(crate) fn behind(state: State, count: usize) -> State
             State { place, ..state }
         }
         _ => state,
+    }
+}
+
+// Whether these four bytes are the header of a packet that isn't empty and may come.
+fn is_header(state: State, a: u8, b: u8, c: u8, id: u8) -> bool
+    ensures { result ≡ is_header state a b c id }
+{
+    let low = a as u16 + 256 * b as u16;
+    let length = low as u32 + 65_536 * c as u32;
+    id == state.server
+        && (length != 0
+            && (body_takes_low(state.body, a as u16)
+                && (body_takes_low(state.body, low) && body_takes_length(state.body, length))))
+}
+
+/// The state behind four bytes, where they are the header of a packet that isn't empty and may come. It is as behind a step at each.
+pub(crate) fn headed(state: State, a: u8, b: u8, c: u8, id: u8) -> Option<State>
+    ensures { result ≡ headed state a b c id }
+{
+    match state.place {
+        Place::First => {
+            if !is_header(state, a, b, c, id) {
+                return None;
+            }
+            let length = a as u32 + 256 * b as u32 + 65_536 * c as u32;
+            Some(State {
+                server: state.server.wrapping_add(1),
+                client: state.client.wrapping_add(1),
+                place: Place::Body {
+                    left: length,
+                    long: length == LONGEST,
+                },
+                ..state
+            })
+        }
+        _ => None,
     }
 }
 

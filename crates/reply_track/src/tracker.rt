@@ -6,7 +6,7 @@ ghost use Rattle.reply_track.specs.Tracking.{Sought, Took, Answers};
 
 use crate::body::Body;
 use crate::due::first_due;
-use crate::place::{Outcome, Place, State, behind, passed, step, written};
+use crate::place::{Outcome, Place, State, behind, headed, passed, step, written};
 use crate::reply::{Progress, ReplyKind};
 
 /// The code of COM_FIELD_LIST.
@@ -29,11 +29,21 @@ pub(crate) fn walk(state: &mut State, piece: &mut [u8]) -> Progress
 {
     let mut at = 0;
     while at < piece.len() {
-        let count = passed(*state, piece.len() - at);
+        let left = piece.len() - at;
+        let count = passed(*state, left);
         if count > 0 {
             *state = behind(*state, count);
             at += count;
             continue;
+        }
+        if left >= 4 {
+            let (a, b, c, id) = (piece[at], piece[at + 1], piece[at + 2], piece[at + 3]);
+            if let Some(next) = headed(*state, a, b, c, id) {
+                piece[at + 3] = state.client;
+                *state = next;
+                at += 4;
+                continue;
+            }
         }
         let byte = piece[at];
         let new = written(*state, byte);

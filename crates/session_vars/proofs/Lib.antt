@@ -17,6 +17,7 @@ pub mod ModeLists
 pub mod Named
 pub mod NamesAgain
 pub mod NewModes
+pub mod Padded
 pub mod Parts
 pub mod Pieces
 pub mod ReadAgain

@@ -1,5 +1,5 @@
 -- The settings of a session: one value for each of the thirty-three, in their order.
-use Rattle.std.specs.Prelude.{◌≡◌, ℕ, Bool, true, false, not, ◌&&◌, ◌||◌, nat_eq, bytes_eq, List, [], ◌∷◌, length, slice_index_or, slice_set, replicate, codes, if◌then◌else◌}
+use Rattle.std.specs.Prelude.{◌≡◌, ◌≤◌, ℕ, ◌-◌, Bool, true, false, not, ◌&&◌, ◌||◌, nat_eq, bytes_eq, List, [], ◌∷◌, ◌++◌, length, slice_index_or, slice_set, replicate, codes, if◌then◌else◌}
 use Rattle.session_vars.specs.Collations.{is_served_collation, names_of}
 use Rattle.session_vars.specs.Modes.{added_to}
 use Rattle.session_vars.specs.Slots.{place_of, all_slots}
@@ -12,6 +12,15 @@ use Rattle.session_vars.specs.declared.slot.Slot.TheVariants.{Names, CharacterSe
 -- thirty-three values
 abbrev pub AreSettings : List SlotValue → Type 0
 AreSettings values = length values ≡ 33
+
+-- all of them, where the last ones may be left out that are the defaults
+abbrev pub padded : List SlotValue → List SlotValue
+padded values = values ++ replicate (33 - length values) Default
+
+-- so they are kept, with what those are that are left out
+pub record AreKept (values : List SlotValue) (otherwise : SlotValue) : Type 0 where
+  pub few : length values ≤ 33
+  pub rest : otherwise ≡ Default
 
 -- the value of one of them
 abbrev pub value_at : List SlotValue → Slot → SlotValue

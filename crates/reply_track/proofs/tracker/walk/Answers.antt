@@ -1,4 +1,5 @@
 use Rattle.std.proofs.Common.{arith, refl, sym, ◌∙◌}
+use Rattle.reply_track.proofs.Headed.{walk-headed}
 use Rattle.reply_track.proofs.Walking.{walk-passed, walk-over}
 use Rattle.reply_track.proofs.tracker.walk.Goals as goal
 
@@ -7,3 +8,8 @@ loop-at-preserved-then-count-gt0 c = walk-passed c.args.state.now c.args.piece.n
 
 pub returns-in-Over : goal.returns-in-Over
 returns-in-Over c = walk-over c.args.state.now c.args.piece.now c.loop-at.state c.loop-at.piece c.loop-at.at _ c.written-new.result c.in-Over.end c.loop-at.invariant c.loop-at-test.true refl c.written-new.ensures (sym c.step.ensures ∙ c.in-Over.is)
+
+pub loop-at-preserved-in-Some : goal.loop-at-preserved-in-Some
+loop-at-preserved-in-Some c =
+    walk-headed c.args.state.now c.args.piece.now c.loop-at.state c.in-Some.next c.loop-at.piece c.loop-at.at _ _ _ _ c.loop-at.invariant
+    (omega (arith, c.if-left-ge4.true)) refl refl refl refl (sym c.headed.ensures ∙ c.in-Some.is)
