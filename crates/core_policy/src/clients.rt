@@ -2,6 +2,7 @@
 
 use crate::parts::ClientPart;
 use crate::policy::Policy;
+use crate::waiting::unsent;
 use client_seat::Phase;
 use core_service::Service;
 use core_tables::{Client, Tables};
@@ -45,30 +46,35 @@ impl Policy {
 
     /// Something changed of a client: its statement waits for a link, or waits no more; it ended, or was told all. Takes no memory.
     pub fn client_changed(&mut self, tables: &Tables, client: ClientNo, now: u64) {
-        let (Some(row), Some(mut part)) = (tables.clients.get(&client.0), self.client(client))
-        else {
+        let (Some(row), Some(part)) = (
+            tables.clients.get(&client.0),
+            self.clients.get_mut(&client.0),
+        ) else {
             return;
         };
-        self.leaves_if_behind(&mut part, row);
-        self.waits_if_due(&part, row);
-        self.counts(&mut part, row);
-        if is_ended(row) {
-            self.ended(&mut part, row, now);
+        let slot = part.slot;
+        let behind = part.leaves(row);
+        let is_due = part.waits.is_none() && unsent(row).is_some();
+        self.kept = part.counts(row, self.kept);
+        let ends = is_ended(row) && !part.ended;
+        part.ended = part.ended || ends;
+        if let Some(waiting) = behind {
+            self.left_behind(slot, waiting, row);
         }
-        self.logs_in(&part, row);
-        if let Some(place) = self.clients.get_mut(&client.0) {
-            *place = part;
+        if is_due {
+            self.todo.clients.anew.put(slot);
         }
+        self.ended(slot, ends, row, now);
+        self.logs_in(slot, row);
     }
 
     // It ended: its link closes once all is written, or its time is over.
-    fn ended(&mut self, part: &mut ClientPart, row: &Client, now: u64) {
-        if !part.ended {
-            part.ended = true;
-            self.todo.clients.leavers.put(part.slot, 0, now);
+    fn ended(&mut self, slot: u32, ends: bool, row: &Client, now: u64) {
+        if ends {
+            self.todo.clients.leavers.put(slot, 0, now);
         }
-        if row.desk.seat.outgoing().is_empty() {
-            self.todo.clients.parts.put(part.slot);
+        if is_ended(row) && row.desk.seat.outgoing().is_empty() {
+            self.todo.clients.parts.put(slot);
         }
     }
 
@@ -88,7 +94,9 @@ impl Policy {
             self.here = self.here.saturating_sub(1);
         }
         self.kept = self.kept.saturating_sub(part.counted);
-        self.leaves_queue(&part);
+        if let Some(waiting) = part.waits {
+            self.leaves_queue(part.slot, waiting);
+        }
         self.todo.forget_client(part.slot);
         self.client_slots.leave(part.slot);
         let _ = self.clients.remove(&client.0);

@@ -1,6 +1,6 @@
 // Clients that have to log in.
 
-use crate::parts::ClientPart;
+use crate::clients::is_ended;
 use crate::policy::Policy;
 use core_tables::Client;
 use mx_base::OutOfMemory;
@@ -11,9 +11,9 @@ const LOGIN_MS: u64 = 10_000;
 
 impl Policy {
     // One that is logged in, or ended, has no login to say.
-    pub(crate) fn logs_in(&mut self, part: &ClientPart, row: &Client) {
-        if part.ended || row.desk.seat.account().is_some() {
-            self.todo.clients.logins.take(part.slot);
+    pub(crate) fn logs_in(&mut self, slot: u32, row: &Client) {
+        if is_ended(row) || row.desk.seat.account().is_some() {
+            self.todo.clients.logins.take(slot);
         }
     }
 

@@ -7,19 +7,20 @@ use core_service::{Failure, Service};
 use core_tables::{Client, Tables};
 use mx_base::ClientNo;
 
-impl Policy {
-    // How many bytes of a client count is brought up to date.
-    pub(crate) fn counts(&mut self, part: &mut ClientPart, row: &Client) {
-        let kept = if is_ended(row) {
+impl ClientPart {
+    // How many of its bytes count is brought up to date; and how many are kept of all, where so many were.
+    pub(crate) fn counts(&mut self, row: &Client, all: u64) -> u64 {
+        let others = all.saturating_sub(self.counted);
+        self.counted = if is_ended(row) {
             0
         } else {
             row.desk.seat.kept()
         };
-        let others = self.kept.saturating_sub(part.counted);
-        part.counted = kept;
-        self.kept = others.saturating_add(kept);
+        others.saturating_add(self.counted)
     }
+}
 
+impl Policy {
     /// The last word to a client that sent or announced too much for all that is kept. It is measured where nothing of it is in work.
     pub fn last_word(
         &self,

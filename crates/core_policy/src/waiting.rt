@@ -63,17 +63,22 @@ fn take_key(
     }
 }
 
-impl Policy {
-    // What waited was sent or given up: it waits no more, and a link that is readied for it is nobody's.
-    pub(crate) fn leaves_if_behind(&mut self, part: &mut ClientPart, row: &Client) {
-        let Some(waiting) = part.waits else {
-            return;
-        };
+impl ClientPart {
+    // What it waited for, where that was sent or given up: it waits no more.
+    pub(crate) fn leaves(&mut self, row: &Client) -> Option<Waiting> {
+        let waiting = self.waits?;
         if is_unsent(row, waiting.ordinal) {
-            return;
+            return None;
         }
-        self.leaves_queue(part);
-        part.waits = None;
+        self.waits = None;
+        Some(waiting)
+    }
+}
+
+impl Policy {
+    // What waited was sent or given up: a link that is readied for it is nobody's.
+    pub(crate) fn left_behind(&mut self, slot: u32, waiting: Waiting, row: &Client) {
+        self.leaves_queue(slot, waiting);
         if let Some(link) = row.note.readied {
             if let Some(link) = self.link(link) {
                 self.todo.links.unreadies.put(link.slot);
@@ -82,20 +87,10 @@ impl Policy {
     }
 
     /// What a client waited for is left. Takes no memory.
-    pub(crate) fn leaves_queue(&mut self, part: &ClientPart) {
-        let Some(waiting) = part.waits else {
-            return;
-        };
-        self.pool.leave(part.slot);
-        self.unserved.take(part.slot);
+    pub(crate) fn leaves_queue(&mut self, slot: u32, waiting: Waiting) {
+        self.pool.leave(slot);
+        self.unserved.take(slot);
         self.keys.leave(waiting.key);
-    }
-
-    // What is due, and doesn't wait yet, is looked at.
-    pub(crate) fn waits_if_due(&mut self, part: &ClientPart, row: &Client) {
-        if part.waits.is_none() && unsent(row).is_some() {
-            self.todo.clients.anew.put(part.slot);
-        }
     }
 
     /// Statements that are due wait for a link, or go to the one that carries their session.

@@ -125,13 +125,24 @@ or_same false b c same = same refl
 put_order : (old : Aged) (slot : ℕ) (after : Aged) → after ≡ put old slot 0 0 → (n : ℕ) → has n after.order ≡ (nat_eq slot n || has n old.order)
 put_order old slot after is n = ap (λ (a : Aged). has n a.order) is ∙ has_put (slice_set old.since slot 0) slot old.order n
 
+-- a slot that is kept stays
+pub has_again : (slot other : ℕ) (order : List ℕ) → has slot order ≡ true → has other order ≡ (nat_eq slot other || has other order)
+has_again slot other order here = elim (cases_Bool (nat_eq slot other)) [
+  | inl hit ↦ let one : slot ≡ other = eqb-true slot other hit in rw (hit, sym one) here
+  | inr miss ↦ rw miss refl
+]
+
+-- and one that wasn't is
+pub has_first : (old : Aged) (slot other : ℕ) → has other (put old slot 0 0).order ≡ (nat_eq slot other || has other old.order)
+has_first old slot other = has_put (slice_set old.since slot 0) slot old.order other
+
 pub mark_is : (old : Marked) → AreNumbered nat_eq old.names → (link other : LinkId) (slot : ℕ) (after : Aged) → number_at nat_eq old.names link.0 ≡ Some slot
-    → after ≡ put old.marked slot 0 0
+    → ((n : ℕ) → has n after.order ≡ (nat_eq slot n || has n old.marked.order))
     → is_marked (record { names = old.names; marked = after }) other ≡ ((is_link link other && is_known old link) || is_marked old other)
 mark_is old laws link other slot after at is =
     let known : is_known old link ≡ true = ap is_some at in
     let both : (is_link link other && is_known old link) ≡ is_link link other = ap (λ (k : Bool). is_link link other && k) known ∙ and_true (is_link link other) in
-    marks_one old.names laws link.0 slot at old.marked.order after.order (put_order old.marked slot after is) other.0
+    marks_one old.names laws link.0 slot at old.marked.order after.order is other.0
     ∙ ap (λ (b : Bool). b || is_marked old other) (sym both)
 
 pub come_is : (old : Marked) (new : Numbered ℕ) → AreNumbered nat_eq new → (link other : LinkId) (slot : ℕ) (held : Option Held) (after : Aged)

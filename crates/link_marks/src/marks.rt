@@ -1,6 +1,7 @@
 // Links that are marked.
 ghost use Rattle.std.specs.Prelude.{◌≡◌, ◌+◌, ◌^◌, ◌<◌, ◌||◌, ◌&&◌, ℕ, false, length, nat_eq, IfOk, IfNone, IsSome, OnOk, Some};
 ghost use Rattle.mx_base.specs.declared.names.LinkId.{LinkId};
+ghost use Rattle.slot_lists.specs.Orders.{has};
 ghost use Rattle.link_marks.specs.Marks.{IsNamed, is_known, is_link, is_marked, number_of};
 
 use mx_base::{LinkId, OutOfMemory};
@@ -55,7 +56,7 @@ impl Marks {
     {
         self.names.numbered();
         if let Some(slot) = self.names.find(&link.0) {
-            self.marked.put(slot, 0, 0);
+            keep(&mut self.marked, slot);
         }
     }
 
@@ -108,5 +109,19 @@ impl Marks {
             self.marked.take(slot);
             self.names.leave(slot);
         }
+    }
+}
+
+// A slot is kept, in its place where it was before.
+#[tactic(auto, using(crate::proofs::Marking::has_again, crate::proofs::Marking::has_first))]
+fn keep(marked: &mut SlotsByAge, slot: u32)
+    requires slot { slot < marked.old.slots }
+    requires kinds { 0 < marked.old.kinds }
+    ensures kept { (other : ℕ) → has other marked.new.order ≡ (nat_eq slot other || has other marked.old.order) }
+    ensures slots { marked.new.slots ≡ marked.old.slots }
+    ensures kinds { marked.new.kinds ≡ marked.old.kinds }
+{
+    if !marked.has(slot) {
+        marked.put(slot, 0, 0);
     }
 }

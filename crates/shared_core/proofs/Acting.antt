@@ -124,5 +124,14 @@ next_goes old mid acted new first next same =
     goes_along old.marked mid.marked new.marked first
     (subst (λ (m : MarkedTables). GoesOn mid.marked m) (sym (ap (λ (s : Shown). s.marked) same)) next)
 
+-- Behind it only the moment is known at which it wants to be woken.
+
+pub timed_acts : (old acted new : Router) (result : Option Act) → ActsSo old acted result → shown new ≡ shown acted → ActsSo old new result
+timed_acts old acted new result acts same =
+    acts_shown (λ service log. PartsFor service log (shown old)) (shown acted) (shown new) result same acts
+
+pub timed_goes : (old acted new : Router) → GoesOn old.marked acted.marked → shown new ≡ shown acted → GoesOn old.marked new.marked
+timed_goes old acted new goes same = subst (λ (m : MarkedTables). GoesOn old.marked m) (sym (ap (λ (s : Shown). s.marked) same)) goes
+
 pub asked_same : (result : Option Act) (a b : Option Asked) → b ≡ a → IsAskedFor a result → IsAskedFor b result
 asked_same result a b same asked = subst (λ (x : Option Asked). IsAskedFor x result) (sym same) asked

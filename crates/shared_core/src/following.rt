@@ -125,7 +125,7 @@ impl Router {
         Ok(took)
     }
 
-    // What is behind them, as its turns stopped: the policy is told of it before and behind.
+    // What is behind them, as its turns stopped: the policy is told of it before.
     fn parts(
         &mut self,
         service: &Service,
@@ -139,7 +139,6 @@ impl Router {
     {
         self.changed(client);
         self.stops(service, client, stop, ends)?;
-        self.changed(client);
         Ok(())
     }
 

@@ -1,11 +1,11 @@
 // The core as a machine that the loop tells of events.
-ghost use Rattle.std.specs.Prelude.{◌≡◌, OnOk, false, is_some, true};
+ghost use Rattle.std.specs.Prelude.{◌≡◌, None, OnOk, false, is_some, true};
 ghost use Rattle.core_service.specs.declared.service.Service.{Service};
 ghost use Rattle.marked_tables.specs.Goes.{GoesOn, reads_on};
 ghost use Rattle.mx_wire.specs.declared.entry.Entry.TheVariants as entry;
 ghost use Rattle.shared_core.specs.Machine.{IsStanding, Tells};
 ghost use Rattle.shared_core.specs.Says.{IsAskedFor, address_of, awaits, changed, most_of, reads, sends, unnamed};
-ghost use Rattle.shared_core.specs.Stands.{ActsSo, Carries, Moves};
+ghost use Rattle.shared_core.specs.Stands.{ActsSo, Carries, IsClosed, Moves, shown};
 
 use crate::router::Router;
 use crate::whole::Core;
@@ -65,9 +65,25 @@ impl Router {
     {
         self.forget_closed();
         self.asked = None;
+        let act = self.acts(service);
+        self.acting = act.is_some();
+        act
+    }
+
+    // Where nothing was told since there was none, there is none; as there is none, the moment is known at which it wants to be woken.
+    #[tactic(auto, using(crate::proofs::Acting::still_acts, marked_tables::proofs::Going::still_goes))]
+    fn acts(&mut self, service: &Service) -> Option<Act>
+        requires closed { IsClosed (shown self.old) }
+        requires unasked { self.old.asked ≡ None }
+        ensures acts { ActsSo self.old self.new result }
+        ensures goes { GoesOn self.old.marked self.new.marked }
+        ensures asked { IsAskedFor self.new.asked result }
+    {
+        if !self.acting {
+            return None;
+        }
         let act = self.act(service);
         self.times(service);
-        self.acting = act.is_some();
         act
     }
 }

@@ -53,7 +53,7 @@ impl Router {
             asked: None,
             leaving: None,
             closing: None,
-            acting: false,
+            acting: true,
             until: 0,
             clock: 0,
         })

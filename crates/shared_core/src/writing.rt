@@ -54,7 +54,8 @@ impl Router {
         is_going(self.marked.client(client)) && self.marked.has_room_at(client)
     }
 
-    // What is to be written there begins with the first byte. A statement that went out waits no more.
+    // What is to be written there begins with the first byte. A statement that went out waits no more. No link is readied for it by then, so
+    // the policy has none left to take back.
     fn wrote_on(&mut self, link: LinkId, n: usize)
         requires may { MayTake (sends_on self.old.marked link) n }
         requires there { IsSome ((tables self.old).links link) }
@@ -65,8 +66,8 @@ impl Router {
         router_laws::wakes::settling_stands();
         let began = self.marked.wrote_on(link, n, self.clock);
         if let Some(Purpose::Statement { name, .. }) = began {
-            self.changed(name.client);
             self.leaves_readied(name.client);
+            self.changed(name.client);
         }
     }
 

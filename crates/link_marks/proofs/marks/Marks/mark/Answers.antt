@@ -8,7 +8,7 @@ use Rattle.link_marks.proofs.marks.Marks.mark.Goals as goal
 pub returns-in-Some-clause-marked : goal.returns-in-Some-clause-marked
 returns-in-Some-clause-marked c = λ other.
     let old : Marked = record { names = c.self.inside.names; marked = c.self.inside.marked } in
-    let new : Marked = record { names = c.self.inside.names; marked = c.put.new.self } in
+    let new : Marked = record { names = c.self.inside.names; marked = c.keep.new.marked } in
     let at : number_at nat_eq c.self.inside.names c.args.link.0 ≡ Some c.in-Some.slot = let e = c.find.ensures in let i = c.in-Some.is in cc in
     subst (λ (m : Marked). is_marked new other ≡ ((is_link c.args.link other && is_known m c.args.link) || is_marked m other)) c.self.view_is
-    (mark_is old c.numbered.ensures c.args.link other c.in-Some.slot c.put.new.self at c.put.ensures)
+    (mark_is old c.numbered.ensures c.args.link other c.in-Some.slot c.keep.new.marked at c.keep.ensures.kept)

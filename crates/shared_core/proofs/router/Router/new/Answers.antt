@@ -1,4 +1,4 @@
-use Rattle.std.specs.Prelude.{None, false}
+use Rattle.std.specs.Prelude.{None, true}
 use Rattle.std.proofs.Common.{refl}
 use Rattle.marked_tables.proofs.Going.{first_known}
 use Rattle.shared_core.proofs.Standing.{first_stands}
@@ -15,7 +15,7 @@ returns-clause-stands c = λ service.
       asked = None;
       leaving = None;
       closing = None;
-      acting = false;
+      acting = true;
       until = 0;
       clock = 0;
     }) c.in_ok-new.ensures.tables refl

@@ -3,6 +3,7 @@ use Rattle.std.proofs.Common.{refl}
 use Rattle.mx_wire.specs.declared.entry.Entry.TheVariants as entry
 use Rattle.shared_core.proofs.Carrying.{carries_along, shown_stands}
 use Rattle.shared_core.proofs.LinkWrites.{is_writable, settles_stands, wrote_carries}
+use Rattle.shared_core.proofs.Machining.{moves_along}
 use Rattle.shared_core.proofs.router.Router.wrote_on.Goals as goal
 
 pub wrote_on-began-requires : goal.wrote_on-began-requires
@@ -11,11 +12,17 @@ wrote_on-began-requires c = is_writable c.args.self.now.marked c.args.link c.arg
 pub returns-in-Some-Statement-clause-carries : goal.returns-in-Some-Statement-clause-carries
 returns-in-Some-Statement-clause-carries c = λ service sent is.
     carries_along service (entry.Wrote c.args.link sent.tag (take c.args.n sent.bytes)) c.args.self.now
-    (record c.args.self.now { marked = c.wrote_on-began.new.self }) c.leaves_readied.new.self
+    (record c.args.self.now { marked = c.wrote_on-began.new.self }) c.changed.new.self
     (wrote_carries c.writes_router.ensures service c.args.link c.args.n c.args.self.now (record c.args.self.now { marked = c.wrote_on-began.new.self })
     refl refl c.requires.there c.requires.may c.args.self.now.clock c.wrote_on-began.ensures.is sent is)
-    (λ log stands. settles_stands c.settling_stands.ensures.router service c.changed.new.self c.leaves_readied.new.self c.leaves_readied.ensures.settles log
-    (shown_stands service log (record c.args.self.now { marked = c.wrote_on-began.new.self }) c.changed.new.self c.changed.ensures.same stands))
+    (λ log stands. shown_stands service log c.leaves_readied.new.self c.changed.new.self c.changed.ensures.same
+    (settles_stands c.settling_stands.ensures.router service (record c.args.self.now { marked = c.wrote_on-began.new.self }) c.leaves_readied.new.self
+    c.leaves_readied.ensures.settles log stands))
+
+pub returns-in-Some-Statement-clause-moves : goal.returns-in-Some-Statement-clause-moves
+returns-in-Some-Statement-clause-moves c =
+    moves_along c.args.self.now (record c.args.self.now { marked = c.wrote_on-began.new.self }) c.leaves_readied.new.self c.changed.new.self
+    (record { goes = c.wrote_on-began.ensures.goes; client = refl; link = refl }) c.leaves_readied.ensures.moves c.changed.ensures
 
 pub returns : goal.returns
 returns c = record {
