@@ -1,5 +1,6 @@
 -- What a client has prepared stands so as more is read of it, and as it is answered; and what an answer made stands under its number.
 use Rattle.std.specs.Prelude.{◌≡◌, ◌<◌, ◌≤◌, ℕ, zero, suc, ◌+◌, Bool, true, false, ◌&&◌, not, is_some, nat_eq, List, [], ◌∷◌, ◌++◌, drop, if◌then◌else◌, length, slice_index_or, take, Option, Some, None}
+use Rattle.std.specs.List.{list_any}
 use Rattle.std.specs.Option.{option_or}
 use Rattle.std.proofs.Common.{◌∙◌, refl, sym, ap, subst, arith}
 use Rattle.std.proofs.lemmas.Bool.{true≢false}
@@ -10,7 +11,7 @@ use Rattle.log_story.specs.Executes.{Prepared, bound_by, prepared_by, prepared_i
 use Rattle.log_story.specs.Owed.{messages, name_of}
 use Rattle.log_story.specs.Plan.{Plan, Route, com_prepare}
 use Rattle.log_story.specs.Tale.{Client}
-use Rattle.client_seat.specs.Numbers.{Numbered}
+use Rattle.client_seat.specs.Numbers.{Numbered, drops}
 use Rattle.client_seat.specs.Stands.{IsNumbered, IsOnward, Known, Makes, is_refused}
 
 no_some : {A B : Type 0} (a : A) → None ≡ Some a → B
@@ -121,6 +122,11 @@ module _ (x y : Known) (client other : Client) (on : IsOnward x y client other) 
     bound =
         (λ k. bound_by one.prepared.params number (refused_same k) (suc is.ordinal) (drop is.ordinal (sent_same within k)) (record { types = None; long = [] }))
         ∙ is.bound;
+    route = is.route;
+    went = routes_same is.ordinal ∙ is.went;
+    hostgroup = is.hostgroup;
+    multiplex = is.multiplex;
+    live = (λ k. list_any (λ (sent : Framed). drops number sent.payload) (drop is.ordinal (sent_same within k))) ∙ is.live;
   }
 
 -- A text was prepared.
@@ -176,6 +182,13 @@ makes x client named_by number one is = record {
       ap (λ (sent : List Framed). bound_by one.prepared.params number (is_refused x client) (suc client.taken) sent (record { types = None; long = [] }))
       (none_left client.taken (take client.taken (messages x.plan client)) (take_length client.taken (messages x.plan client) within))
       ∙ sym is.unbound;
+  route = is.route;
+  went = is.routed;
+  hostgroup = is.hostgroup;
+  multiplex = is.multiplex;
+  live =
+      ap (list_any (λ (sent : Framed). drops number sent.payload))
+      (none_left client.taken (take client.taken (messages x.plan client)) (take_length client.taken (messages x.plan client) within));
 } where
   within : client.taken ≤ length (messages x.plan client)
   within = is.within

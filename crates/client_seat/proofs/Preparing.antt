@@ -1,5 +1,6 @@
 -- What a client has prepared, as its messages are taken up, and what its executes ask for.
-use Rattle.std.specs.Prelude.{◌≡◌, ◌≤◌, ℕ, zero, suc, ◌+◌, ◌-◌, Bool, true, false, nat_eq, List, [], ◌∷◌, ◌++◌, drop, if◌then◌else◌, length, slice_index_or, take, unwrap_or, Option, Some, None}
+use Rattle.std.specs.Prelude.{◌≡◌, ◌≤◌, ℕ, zero, suc, ◌+◌, ◌-◌, Bool, true, false, nat_eq, List, [], ◌∷◌, ◌++◌, ◌||◌, drop, if◌then◌else◌, length, slice_index_or, take, unwrap_or, Option, Some, None}
+use Rattle.std.specs.List.{list_any}
 use Rattle.std.specs.Option.{option_and_then, option_map, option_or}
 use Rattle.std.proofs.Common.{◌∙◌, refl, sym, ap, arith}
 use Rattle.mx_base.specs.Fields.{number_at}
@@ -45,6 +46,20 @@ noted-bound : (drops : Bool) (one now : Numbered) (bound : Bound) → (if drops 
 noted-bound true one now bound is = (let no : None ≡ Some now = is in cc)
 noted-bound false one now bound is = cc
 
+noted-live : (drops : Bool) (one now : Numbered) (bound : Bound) → (if drops then None else Some (record one { bound = bound })) ≡ Some now → drops ≡ false
+noted-live true one now bound is = absurd (let no : None ≡ Some now = is in cc)
+noted-live false one now bound is = refl
+
+none-drop : (gone : Framed → Bool) (sent : List Framed) (message : Framed) → list_any gone sent ≡ false → gone message ≡ false
+    → list_any gone (sent ++ message ∷ []) ≡ false
+none-drop gone [] message none keeps = ap (λ (b : Bool). b || false) keeps
+none-drop gone (one ∷ sent) message none keeps = by (gone one) refl none (λ later. none-drop gone sent message later keeps) where
+  by : (b : Bool) → gone one ≡ b → (b || list_any gone sent) ≡ false
+      → (list_any gone sent ≡ false → list_any gone (sent ++ message ∷ []) ≡ false)
+      → (gone one || list_any gone (sent ++ message ∷ [])) ≡ false
+  by true is wrong rest = absurd (let never : true ≡ false = wrong in cc)
+  by false is later rest = ap (λ (b : Bool). b || list_any gone (sent ++ message ∷ [])) is ∙ rest later
+
 -- a message is taken up
 pub number-noted : (x : Known) (client : Client) (named : ℕ → ℕ) (number : ℕ) (one now : Numbered) (message : Framed) → IsNumbered x client named number one
     → client.taken ≤ length (messages x.plan client) → IsNext x.plan client message
@@ -71,6 +86,15 @@ number-noted x client named number one now message was within next is =
           ∙ ap (λ (k : ℕ). bound_after one.prepared.params number (refused k) message.payload (bound_by one.prepared.params number refused (suc was.ordinal) (drop was.ordinal sent) start)) place
           ∙ ap (bound_after one.prepared.params number (refused (suc client.taken)) message.payload) was.bound
           ∙ ap (λ (n : Numbered). n.bound) same;
+      route = was.route;
+      went = was.went;
+      hostgroup = was.hostgroup ∙ ap (λ (n : Numbered). n.prepared.hostgroup) same;
+      multiplex = was.multiplex ∙ ap (λ (n : Numbered). n.prepared.multiplex) same;
+      live =
+          ap (λ (all : List Framed). list_any (λ (m : Framed). drops number m.payload) (drop was.ordinal all)) next.before
+          ∙ ap (list_any (λ (m : Framed). drops number m.payload)) (drop-front was.ordinal sent message long_enough)
+          ∙ none-drop (λ (m : Framed). drops number m.payload) (drop was.ordinal sent) message was.live
+          (noted-live (drops number message.payload) one now (bound_after one.prepared.params number (refused (suc client.taken)) message.payload one.bound) is);
     }
 
 -- What a message asks for.

@@ -1,5 +1,6 @@
 -- How a seat stands for its client in a tale: by the plan, what the router knows, and the moment.
-use Rattle.std.specs.Prelude.{◌≡◌, ◌<◌, ℕ, suc, ◌+◌, true, is_some, nat_eq, slice_get, slice_index_or, List, [], ◌∷◌, ◌++◌, length, take, Option, Some, None, ◌≤◌, Bool, drop, not}
+use Rattle.std.specs.Prelude.{◌≡◌, ◌<◌, ℕ, suc, ◌+◌, true, is_some, nat_eq, slice_get, slice_index_or, List, [], ◌∷◌, ◌++◌, length, take, Option, Some, None, ◌≤◌, Bool, drop, false, not}
+use Rattle.std.specs.List.{list_any}
 use Rattle.packet_frame.specs.Packets.{Framed, next_id, spellings, split, with_front}
 use Rattle.reply_track.specs.Grammar.{renamed}
 use Rattle.server_side.specs.Account.{Account}
@@ -13,7 +14,7 @@ use Rattle.log_story.specs.Executes.{bound_by, prepared_by}
 use Rattle.log_story.specs.Owed.{due_bytes, due_for, kind_of, messages, name_of, number_of, talk_of}
 use Rattle.log_story.specs.Plan.{Plan, Route, com_prepare, own_at}
 use Rattle.log_story.specs.Tale.{Client}
-use Rattle.client_seat.specs.Numbers.{Numbered}
+use Rattle.client_seat.specs.Numbers.{Numbered, drops}
 use Rattle.client_seat.specs.Seats.{Seat}
 use Rattle.client_seat.specs.declared.phase.Phase.{Phase}
 use Rattle.client_seat.specs.declared.phase.Phase.TheVariants as phase
@@ -114,7 +115,8 @@ pub record Answers (x y : Known) (client : Client) (before : List Framed) (messa
 abbrev pub is_refused : Known → Client → (ordinal : ℕ) → Bool
 is_refused x client ordinal = not (is_some (x.plan.routes (name_of client ordinal)))
 
--- under the number of the router's own stands this key of the story's
+-- under the number of the router's own stands this key of the story's; its preparation went there, and with that word on sharing the link; and
+-- the client knows the number still
 pub record IsNumbered (x : Known) (client : Client) (named : ℕ → ℕ) (number : ℕ) (one : Numbered) : Type 0 where
   pub ordinal : ℕ
   pub prepared : prepared_by x.view x.plan client number 1 (messages x.plan client)
@@ -123,6 +125,11 @@ pub record IsNumbered (x : Known) (client : Client) (named : ℕ → ℕ) (numbe
   pub bound : bound_by one.prepared.params number (is_refused x client) (suc ordinal) (drop ordinal (take client.taken (messages x.plan client)))
       (record { types = None; long = [] })
       ≡ one.bound
+  pub route : Route
+  pub went : x.plan.routes (name_of client ordinal) ≡ Some route
+  pub hostgroup : route.hostgroup ≡ one.prepared.hostgroup
+  pub multiplex : route.multiplex ≡ one.prepared.multiplex
+  pub live : list_any (λ (sent : Framed). drops number sent.payload) (drop ordinal (take client.taken (messages x.plan client))) ≡ false
 
 -- More is known, or was read of it: what was answered before its last message stays as it is, and the reply to that message stays.
 pub record IsOnward (x y : Known) (client other : Client) : Type 0 where
@@ -153,4 +160,6 @@ pub record Makes (x : Known) (client : Client) (named : ℕ → ℕ) (number : �
   pub made : is_made reply ≡ true
   pub key : route.key ≡ named one.prepared.key
   pub params : (end_of reply).params ≡ one.prepared.params
+  pub hostgroup : route.hostgroup ≡ one.prepared.hostgroup
+  pub multiplex : route.multiplex ≡ one.prepared.multiplex
   pub unbound : one.bound ≡ record { types = None; long = [] }

@@ -1,17 +1,12 @@
 -- Texts by their numbers, which count from 1 and are never given again.
 use Rattle.std.specs.Prelude.{◌≡◌, ◌⊎◌, ◌<◌, ◌≤◌, ℕ, nat_eq, Option, Some}
 use Rattle.std.specs.HashMap.{get}
-use Rattle.std.specs.Option.{option_map}
 use Rattle.private_model.specs.Story.{Key}
-use Rattle.core_texts.specs.Holding.{Holding}
 use Rattle.core_texts.specs.declared.texts.Texts.{Texts}
-
-abbrev pub holding_at : Texts → (number : ℕ) → Option Holding
-holding_at t number = get nat_eq t.kept number
 
 -- what stands under a number
 abbrev pub key_at : Texts → (number : ℕ) → Option Key
-key_at t number = option_map (λ (h : Holding). h.key) (holding_at t number)
+key_at t number = get nat_eq t.kept number
 
 -- no number is greater than the last
 abbrev pub AreCounted : Texts → Type 0

@@ -1,8 +1,10 @@
 // The texts that clients prepared.
-ghost use Rattle.std.specs.Prelude.{◌≡◌, ◌+◌, ◌<◌, ◌^◌, ℕ, false, true, nat_eq, IfOk, IfSome, None, OnOk, Some};
+ghost use Rattle.std.specs.Prelude.{◌≡◌, ◌+◌, ◌<◌, ◌^◌, ℕ, All, false, true, nat_eq, nat_le, IfOk, IfSome, None, OnOk, Some};
+ghost use Rattle.std.specs.HashMap.{hash_map_len};
+ghost use Rattle.std.specs.HashSet.{contains};
 ghost use Rattle.std.specs.Option.{option_copied};
 ghost use Rattle.pin_classifier.specs.Classes.{class_of};
-ghost use Rattle.core_texts.specs.Texts.{AreCounted, AreLess, AreMore, holding_at, key_at};
+ghost use Rattle.core_texts.specs.Texts.{AreCounted, AreLess, AreMore, key_at};
 
 use crate::kept::Kept;
 use mx_base::{Bytes, OutOfMemory};
@@ -11,15 +13,19 @@ use place_keys::{place_key, places_apart};
 use session_state::Place;
 use session_vars::Slot;
 use std::alloc::Global;
-use std::collections::HashMap;
+use std::collections::{HashMap, HashSet};
 
-/// Texts by their numbers, and their numbers by what they are.
+/// So many texts stay, whether anybody needs them or not.
+const AT_LEAST: usize = 10_000;
+
+/// Texts by their numbers, and their numbers by what they are. Once there are so many (`most`), those are to be forgotten that nobody needs.
 #[derive(Drop)]
 pub struct Texts {
     alloc: Global,
     pub last: u64,
     pub kept: HashMap<u64, Kept>,
     numbers: HashMap<Bytes, u64>,
+    most: usize,
 }
 
 fn copy_of(alloc: Global, place: &Place) -> Result<Place, OutOfMemory>
@@ -54,7 +60,7 @@ fn is_place(alloc: Global, a: &Place, b: &Place) -> Result<bool, OutOfMemory>
 impl Kept {
     // It is this text, of this place.
     fn is(&self, alloc: Global, place: &Place, text: &[u8]) -> Result<bool, OutOfMemory>
-        ensures { IfOk result (λ is. is ≡ true → self.now.key ≡ record { text = text.now; place = place.now }) }
+        ensures { IfOk result (λ is. is ≡ true → self.now ≡ record { text = text.now; place = place.now }) }
     {
         if self.text() == text {
             is_place(alloc, self.place(), place)
@@ -75,12 +81,13 @@ impl Texts {
             last: 0,
             kept: HashMap::new(alloc),
             numbers: HashMap::new(alloc),
+            most: AT_LEAST,
         }
     }
 
     /// What stands under a number.
     pub fn find(&self, number: u64) -> Option<&Kept>
-        ensures { option_copied result ≡ holding_at self.now number }
+        ensures { option_copied result ≡ key_at self.now number }
     {
         self.kept.get(&number)
     }
@@ -127,7 +134,7 @@ impl Texts {
         ensures there { IfOk result (λ number. key_at self.new number ≡ Some (record { text = text.now; place = place.now })) }
         ensures number { IfOk result (λ number. number ≡ self.old.last + 1) }
         ensures last { IfOk result (λ number. self.new.last ≡ number) }
-        ensures others { IfOk result (λ number. (other : ℕ) → nat_eq number other ≡ false → holding_at self.new other ≡ holding_at self.old other) }
+        ensures others { IfOk result (λ number. (other : ℕ) → nat_eq number other ≡ false → key_at self.new other ≡ key_at self.old other) }
     {
         let number = self.last + 1;
         let text = Bytes::from_slice(self.alloc, text)?;
@@ -138,8 +145,8 @@ impl Texts {
         Ok(number)
     }
 
-    /// The number of a text that is needed once more, which was prepared at this place and has this class. One that nobody needed yet gets
-    /// the next number. Numbers of 64 bits don't run out in a life.
+    /// The number of a text that was prepared at this place and has this class. One that isn't there gets the next number. Numbers of 64 bits
+    /// don't run out in a life.
     #[tactic(auto, using(crate::proofs::Keeping::same_more, crate::proofs::Keeping::same_counted, crate::proofs::Keeping::added_more, crate::proofs::Keeping::added_counted))]
     pub fn take(&mut self, place: &Place, text: &[u8], class: Class) -> Result<u64, OutOfMemory>
         requires class { class ≡ class_of text.now }
@@ -150,7 +157,6 @@ impl Texts {
     {
         let bytes = statement_key(self.alloc, place, text)?;
         if let Some(number) = self.number_of(&bytes, place, text)? {
-            self.hold(number);
             return Ok(number);
         }
         if self.last == u64::MAX {
@@ -159,31 +165,11 @@ impl Texts {
         self.add(bytes, place, text, class)
     }
 
-    /// What stands under a number is needed once more. Takes no memory.
-    pub fn hold(&mut self, number: u64)
-        ensures same { (n : ℕ) → key_at self.new n ≡ key_at self.old n }
-        ensures last { self.new.last ≡ self.old.last }
-    {
-        if let Some(kept) = self.kept.get_mut(&number) {
-            kept.hold();
-        }
-    }
-
-    // What stands under a number is needed once less; whether nobody needs it.
-    fn leave_one(&mut self, number: u64) -> bool
-        ensures same { (n : ℕ) → key_at self.new n ≡ key_at self.old n }
-        ensures last { self.new.last ≡ self.old.last }
-    {
-        match self.kept.get_mut(&number) {
-            Some(kept) => kept.leave(),
-            None => false,
-        }
-    }
-
     // It is forgotten.
     #[tactic(auto, using(crate::proofs::Keeping::gone_less, crate::proofs::Keeping::itself_less))]
     fn forget(&mut self, number: u64) -> Result<(), OutOfMemory>
-        ensures { OnOk result (AreLess self.old self.new) }
+        ensures less { OnOk result (AreLess self.old self.new) }
+        ensures others { OnOk result ((other : ℕ) → nat_eq number other ≡ false → key_at self.new other ≡ key_at self.old other) }
     {
         let Some(kept) = self.kept.get(&number) else {
             return Ok(());
@@ -194,15 +180,37 @@ impl Texts {
         Ok(())
     }
 
-    /// What stands under a number is needed once less. Behind the last who needs it, it is forgotten.
-    #[tactic(auto, using(crate::proofs::Keeping::same_less, crate::proofs::Keeping::less_on))]
-    pub fn leave(&mut self, number: u64) -> Result<(), OutOfMemory>
-        ensures { OnOk result (AreLess self.old self.new) }
+    /// Whether those are to be forgotten that nobody needs. Takes no memory.
+    pub fn is_crowded(&self) -> bool
+        ensures { result ≡ nat_le self.now.most (hash_map_len self.now.kept) }
     {
-        if self.leave_one(number) {
-            self.forget(number)
-        } else {
-            Ok(())
+        self.kept.len() >= self.most
+    }
+
+    // The numbers that nobody needs.
+    fn needless(&self, needed: &HashSet<u64>) -> Result<Vec<u64>, OutOfMemory>
+        ensures { IfOk result (λ numbers. All (λ number. contains nat_eq needed.now number ≡ false) numbers.items) }
+    {
+        let mut needless = Vec::new(self.alloc);
+        for number in self.kept.keys() {
+            if !needed.contains(number) {
+                needless.push(*number)?;
+            }
         }
+        Ok(needless)
+    }
+
+    /// Texts are forgotten but those of these numbers. Twice as many may come before others are.
+    #[tactic(auto, using(crate::proofs::Keeping::itself_less, crate::proofs::Keeping::less_on, crate::proofs::Keeping::needed_kept))]
+    pub fn keep_only(&mut self, needed: &HashSet<u64>) -> Result<(), OutOfMemory>
+        ensures less { OnOk result (AreLess self.old self.new) }
+        ensures kept { OnOk result ((number : ℕ) → contains nat_eq needed.now number ≡ true → key_at self.new number ≡ key_at self.old number) }
+    {
+        let needless = self.needless(needed)?;
+        for number in needless.iter() {
+            self.forget(*number)?;
+        }
+        self.most = AT_LEAST.max(self.kept.len().saturating_mul(2));
+        Ok(())
     }
 }

@@ -41,7 +41,7 @@ end_kind payload = by (is_err_payload payload) (is_eof_payload payload) refl ref
   by false true e f = rw (e, f) refl
   by false false e f = rw (e, f) (rows_kind (lenenc_at 1 payload) payload)
 
-plain_reply : (to_prepare : Bool) (payloads : List (List ℕ)) → to_prepare ≡ false → is_prepared (reply_end to_prepare payloads) ≡ false
+pub plain_reply : (to_prepare : Bool) (payloads : List (List ℕ)) → to_prepare ≡ false → is_prepared (reply_end to_prepare payloads) ≡ false
 unfolding reply_end
 plain_reply true payloads is = absurd (cc)
 plain_reply false payloads is = end_kind (last_payload payloads)
@@ -52,7 +52,7 @@ prepare_kind payload = by (is_err_payload payload) refl where
   by true e = rw e refl
   by false e = rw e refl
 
-prepare_reply : (to_prepare : Bool) (payloads : List (List ℕ)) → to_prepare ≡ true
+pub prepare_reply : (to_prepare : Bool) (payloads : List (List ℕ)) → to_prepare ≡ true
     → is_prepared (reply_end to_prepare payloads) ≡ not (is_err (reply_end to_prepare payloads))
 unfolding reply_end
 prepare_reply true payloads is = prepare_kind (first_payload payloads)

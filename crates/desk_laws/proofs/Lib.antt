@@ -4,7 +4,7 @@ mod Rows
 mod Same
 mod Clear
 mod Stays
-mod Answering
+pub mod Answering
 mod Changed
 mod Moves
 mod Hears

@@ -1,10 +1,12 @@
 // The statements that are prepared on a link.
-ghost use Rattle.std.specs.Prelude.{◌≡◌, [], length, not, nat_eq, slice_get, OnOk};
+ghost use Rattle.std.specs.Prelude.{◌≡◌, ◌||◌, ℕ, [], is_some, length, not, nat_eq, slice_get, OnOk};
+ghost use Rattle.std.specs.HashSet.{contains};
 ghost use Rattle.link_state.specs.Stood.{closed, number_of, stood};
 
 use indexmap::IndexMap;
 use mx_base::OutOfMemory;
 use std::alloc::Global;
+use std::collections::HashSet;
 use std::marker::Model;
 
 /// The statements that are prepared on a link to a server, the oldest first, as keys of texts with the numbers that the server gave. A
@@ -44,6 +46,16 @@ impl Standing {
         ensures { result ≡ number_of self.now key }
     {
         self.numbers.get(&key).copied()
+    }
+
+    /// The keys are put into a set.
+    pub fn add_keys(&self, all: &mut HashSet<u64>) -> Result<(), OutOfMemory>
+        ensures { OnOk result ((key : ℕ) → contains nat_eq all.new key ≡ (contains nat_eq all.old key || is_some (number_of self.now key))) }
+    {
+        for key in self.numbers.keys() {
+            all.insert(*key)?;
+        }
+        Ok(())
     }
 
     /// The oldest, with its number.

@@ -14,11 +14,20 @@ use std::mem;
 /// How many statements a client has at most.
 pub const MOST_STATEMENTS: usize = 65_535;
 
-/// A client's prepared statements by their numbers, which count from 1 and are given once.
+/// A client's prepared statements by their numbers, which count from 1 and are given once; and how many bytes of long data they have in all.
 #[derive(Drop)]
 pub struct ClientStatements {
     pub last: u32,
     pub statements: HashMap<u32, Statement>,
+    pub long: u64,
+}
+
+// How many bytes of long data a statement has.
+fn size_of(statement: Option<&Statement>) -> u64 {
+    match statement {
+        Some(statement) => statement.long.size(),
+        None => 0,
+    }
 }
 
 impl ClientStatements {
@@ -30,6 +39,7 @@ impl ClientStatements {
         ClientStatements {
             last: 0,
             statements: HashMap::new(alloc),
+            long: 0,
         }
     }
 
@@ -98,6 +108,7 @@ impl ClientStatements {
     {
         if let Some(statement) = self.statements.get_mut(&number) {
             statement.long.append(alloc, parameter, bytes, most)?;
+            self.long = self.long.saturating_add(bytes.len() as u64);
         }
         Ok(())
     }
@@ -108,6 +119,7 @@ impl ClientStatements {
         ensures last { self.new.last ≡ self.old.last }
     {
         if let Some(statement) = self.statements.get_mut(&number) {
+            self.long = self.long.saturating_sub(statement.long.size());
             statement.long = LongData::new(alloc);
         }
     }
@@ -120,6 +132,7 @@ impl ClientStatements {
     {
         match self.statements.get_mut(&number) {
             Some(statement) => {
+                self.long = self.long.saturating_sub(statement.long.size());
                 let long = mem::replace(&mut statement.long, LongData::new(alloc));
                 long.into_parts()
             }
@@ -133,6 +146,8 @@ impl ClientStatements {
         ensures closed { Changes self.old self.new number None }
         ensures last { self.new.last ≡ self.old.last }
     {
+        let size = size_of(self.statements.get(&number));
+        self.long = self.long.saturating_sub(size);
         self.statements.remove(&number).is_some()
     }
 
@@ -141,6 +156,7 @@ impl ClientStatements {
         ensures last { self.new.last ≡ self.old.last }
         ensures none { (number : ℕ) → statement_at self.new number ≡ None }
     {
+        self.long = 0;
         self.statements.clear();
     }
 }

@@ -60,6 +60,13 @@ impl LongData {
         &self.parts
     }
 
+    /// How many bytes they have.
+    pub fn size(&self) -> u64
+        ensures { result ≡ self.now.size }
+    {
+        self.size
+    }
+
     /// The parts, taken out. Takes no memory.
     pub fn into_parts(self) -> Vec<LongPart>
         ensures { result.items ≡ self.parts }

@@ -248,6 +248,11 @@ module _ (g : Ground) (own : MessageName → Option OwnAnswer) where
           prepared = made_alike (view_on g) client number 1 (messages g.plan client) ∙ was.prepared;
           taken_up = was.taken_up;
           bound = was.bound;
+          route = was.route;
+          went = was.went;
+          hostgroup = was.hostgroup;
+          multiplex = was.multiplex;
+          live = was.live;
         };
     unused = λ number greater.
         made_alike (view_on g) client number 1 (take (client.taken - 1) (messages g.plan client)) ∙ is.unused number greater;
