@@ -1,4 +1,5 @@
-// Configurations, tables of servers and picks of them, recordings, transcripts, plays of a recording, and files and a sink in memory.
+// What administrators say; configurations, tables of servers and picks of them, recordings, transcripts, plays of a recording, and files and a sink in memory.
+mod admin;
 mod answers;
 mod calls;
 mod configs;
@@ -10,6 +11,7 @@ mod rows;
 mod servers;
 mod transcripts;
 mod words;
+mod world;
 
 use crate::packets;
 use check_lines::Fields;
@@ -18,6 +20,9 @@ use check_lines::Fields;
 pub fn read(fields: &mut Fields<'_>) {
     match fields.case.reader {
         "config" => configs::config(fields),
+        "admin" => admin::admin(fields),
+        "admin_from" => admin::admin_from(fields),
+        "admin_command" => admin::admin_command(fields),
         "rows" => configs::rows(fields),
         "rules" => configs::rules(fields),
         "lists" => configs::lists(fields),

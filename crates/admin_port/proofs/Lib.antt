@@ -1,0 +1,14 @@
+pub mod Answered
+pub mod Keyed
+pub mod Lists
+pub mod Patterned
+pub mod Pushed
+pub mod Reading
+pub mod Refusals
+pub mod Replaced
+pub mod Splits
+pub mod Steps
+pub mod Tables
+pub mod Weights
+pub mod Whole
+pub mod Written

@@ -1,0 +1,15 @@
+pub mod Answers
+pub mod Columns
+pub mod Commands
+pub mod Faults
+pub mod Pairs
+pub mod Patterns
+pub mod Payloads
+pub mod RowValues
+pub mod Selecting
+pub mod Sheets
+pub mod Staged
+pub mod Statements
+pub mod Values
+pub mod Variables
+pub mod Words
