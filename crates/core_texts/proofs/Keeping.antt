@@ -9,7 +9,7 @@ use Rattle.session_state.specs.declared.place.Place.{Place}
 use Rattle.place_keys.specs.Keys.{place_key}
 use Rattle.private_model.proofs.Maps.{number_of, same_number}
 use Rattle.private_model.specs.Story.{Key}
-use Rattle.core_texts.specs.Texts.{AreCounted, AreLess, AreMore, key_at}
+use Rattle.core_texts.specs.Texts.{AreLess, AreMore, key_at}
 use Rattle.core_texts.specs.declared.texts.Texts.{Texts}
 
 pub same_more : (old new : Texts) → new.last ≡ old.last → ((n : ℕ) → key_at new n ≡ key_at old n) → AreMore old new
@@ -19,19 +19,35 @@ same_more old new last same = record {
   fresh = λ n key at. inl (sym (same n) ∙ at);
 }
 
-pub same_counted : (old new : Texts) → new.last ≡ old.last → ((n : ℕ) → key_at new n ≡ key_at old n) → AreCounted old → AreCounted new
-same_counted old new last same counted n key at = (let below : n ≤ old.last = counted n key (sym (same n) ∙ at) in omega (arith, below, last))
+pub itself_more : (t : Texts) → AreMore t t
+itself_more t = record { last = omega arith; kept = λ n key at. at; fresh = λ n key at. inl at }
+
+pub more_on : (a b d : Texts) → AreMore a b → AreMore b d → AreMore a d
+more_on a b d one more = record {
+  last = (let first : a.last ≤ b.last = one.last in let next : b.last ≤ d.last = more.last in omega (arith, first, next));
+  kept = λ n key at. more.kept n key (one.kept n key at);
+  fresh = λ n key at. later n key (more.fresh n key at);
+} where
+  before : (n : ℕ) (key : Key) → (key_at a n ≡ Some key) ⊎ ((a.last < n) × (n ≤ b.last)) → (key_at a n ≡ Some key) ⊎ ((a.last < n) × (n ≤ d.last))
+  before n key (inl was) = inl was
+  before n key (inr fresh) =
+      let within : n ≤ b.last = fresh.1 in let next : b.last ≤ d.last = more.last in inr (fresh.0, omega (arith, within, next))
+
+  later : (n : ℕ) (key : Key) → (key_at b n ≡ Some key) ⊎ ((b.last < n) × (n ≤ d.last)) → (key_at a n ≡ Some key) ⊎ ((a.last < n) × (n ≤ d.last))
+  later n key (inl at) = before n key (one.fresh n key at)
+  later n key (inr fresh) =
+      let above : b.last < n = fresh.0 in let first : a.last ≤ b.last = one.last in inr (omega (arith, above, first), fresh.1)
 
 -- the next comes
 
 other_number : (old : Texts) (n : ℕ) → n ≤ old.last → nat_eq (old.last + 1) n ≡ false
 other_number old n below = ne_eqb (old.last + 1) n (λ e. omega (arith, e, below))
 
-pub added_more : (old new : Texts) → AreCounted old → new.last ≡ old.last + 1
+pub added_more : (old new : Texts) → new.last ≡ old.last + 1
     → ((n : ℕ) → nat_eq (old.last + 1) n ≡ false → key_at new n ≡ key_at old n) → AreMore old new
-added_more old new counted last others = record {
+added_more old new last others = record {
   last = omega (arith, last);
-  kept = λ n key at. others n (other_number old n (counted n key at)) ∙ at;
+  kept = λ n key at. others n (other_number old n (old.counted n key at)) ∙ at;
   fresh = λ n key at. by n key at (nat_eq (old.last + 1) n) refl;
 } where
   by : (n : ℕ) (key : Key) → key_at new n ≡ Some key → (b : Bool) → nat_eq (old.last + 1) n ≡ b
@@ -40,13 +56,6 @@ added_more old new counted last others = record {
       let one : old.last + 1 ≡ n = number_of (old.last + 1) n e in
       inr (omega (arith, one), omega (arith, one, last))
   by n key at false e = inl (sym (others n e) ∙ at)
-
-pub added_counted : (old new : Texts) → AreCounted old → new.last ≡ old.last + 1
-    → ((n : ℕ) → nat_eq (old.last + 1) n ≡ false → key_at new n ≡ key_at old n) → AreCounted new
-added_counted old new counted last others n key at = by (nat_eq (old.last + 1) n) refl where
-  by : (b : Bool) → nat_eq (old.last + 1) n ≡ b → n ≤ new.last
-  by true e = (let one : old.last + 1 ≡ n = number_of (old.last + 1) n e in omega (arith, one, last))
-  by false e = (let below : n ≤ old.last = counted n key (sym (others n e) ∙ at) in omega (arith, below, last))
 
 -- it is forgotten
 pub gone_less : (old new : Texts) (number : ℕ) → new.last ≡ old.last

@@ -1,10 +1,10 @@
 // The texts that clients prepared.
-ghost use Rattle.std.specs.Prelude.{◌≡◌, ◌+◌, ◌<◌, ◌^◌, ℕ, All, false, true, nat_eq, nat_le, IfOk, IfSome, None, OnOk, Some};
-ghost use Rattle.std.specs.HashMap.{hash_map_len};
+ghost use Rattle.std.specs.Prelude.{◌≡◌, ◌+◌, ◌<◌, ◌≤◌, ◌^◌, ℕ, All, false, true, nat_eq, nat_le, IfOk, IfSome, None, OnOk, Some};
+ghost use Rattle.std.specs.HashMap.{get, hash_map_len};
 ghost use Rattle.std.specs.HashSet.{contains};
 ghost use Rattle.std.specs.Option.{option_copied};
 ghost use Rattle.pin_classifier.specs.Classes.{class_of};
-ghost use Rattle.core_texts.specs.Texts.{AreCounted, AreLess, AreMore, key_at};
+ghost use Rattle.private_model.specs.Story.{Key};
 
 use crate::kept::Kept;
 use mx_base::{Bytes, OutOfMemory};
@@ -18,7 +18,8 @@ use std::collections::{HashMap, HashSet};
 /// So many texts stay, whether anybody needs them or not.
 const AT_LEAST: usize = 10_000;
 
-/// Texts by their numbers, and their numbers by what they are. Once there are so many (`most`), those are to be forgotten that nobody needs.
+/// Texts by their numbers, of which none is greater than the last, and their numbers by what they are. Once there are so many (`most`), those
+/// are to be forgotten that nobody needs.
 #[derive(Drop)]
 pub struct Texts {
     alloc: Global,
@@ -26,6 +27,7 @@ pub struct Texts {
     pub kept: HashMap<u64, Kept>,
     numbers: HashMap<Bytes, u64>,
     most: usize,
+    pub ghost counted: { (number : ℕ) (key : Key) → get nat_eq kept number ≡ Some key → number ≤ last },
 }
 
 fn copy_of(alloc: Global, place: &Place) -> Result<Place, OutOfMemory>
@@ -71,6 +73,8 @@ impl Kept {
 }
 
 impl Texts {
+    ghost use Rattle.core_texts.specs.Texts.{AreLess, AreMore, key_at};
+
     /// None yet. Takes no memory.
     pub fn new(alloc: Global) -> Self
         ensures last { result.last ≡ 0 }
@@ -139,21 +143,19 @@ impl Texts {
         let number = self.last + 1;
         let text = Bytes::from_slice(self.alloc, text)?;
         let kept = Kept::new(text, copy_of(self.alloc, place)?, class);
-        self.kept.insert(number, kept)?;
-        self.numbers.insert(bytes, number)?;
         self.last = number;
+        self.numbers.insert(bytes, number)?;
+        self.kept.insert(number, kept)?;
         Ok(number)
     }
 
     /// The number of a text that was prepared at this place and has this class. One that isn't there gets the next number. Numbers of 64 bits
     /// don't run out in a life.
-    #[tactic(auto, using(crate::proofs::Keeping::same_more, crate::proofs::Keeping::same_counted, crate::proofs::Keeping::added_more, crate::proofs::Keeping::added_counted))]
+    #[tactic(auto, using(crate::proofs::Keeping::same_more, crate::proofs::Keeping::added_more))]
     pub fn take(&mut self, place: &Place, text: &[u8], class: Class) -> Result<u64, OutOfMemory>
         requires class { class ≡ class_of text.now }
-        requires counted { AreCounted self.old }
         ensures there { IfOk result (λ number. key_at self.new number ≡ Some (record { text = text.now; place = place.now })) }
         ensures more { OnOk result (AreMore self.old self.new) }
-        ensures counted { OnOk result (AreCounted self.new) }
     {
         let bytes = statement_key(self.alloc, place, text)?;
         if let Some(number) = self.number_of(&bytes, place, text)? {
