@@ -1,5 +1,5 @@
 -- What stands next on a link: its client's statement, a step, the question for an insert id, the end of a session, or the QUIT.
-use Rattle.std.specs.Prelude.{ℕ, Bool, not, ◌&&◌, if◌then◌else◌, List, Option, Some, None}
+use Rattle.std.specs.Prelude.{ℕ, ◌+◌, nat_lt, Bool, not, ◌&&◌, if◌then◌else◌, List, Option, Some, None}
 use Rattle.std.specs.Option.{option_map}
 use Rattle.mx_base.specs.declared.names.LinkId.{LinkId}
 use Rattle.session_state.specs.declared.names.SessionName.{SessionName}
@@ -7,7 +7,10 @@ use Rattle.link_state.specs.declared.asking.Asking.{Asking}
 use Rattle.link_state.specs.declared.asking.Form.{Form}
 use Rattle.link_state.specs.declared.asking.Purpose.{Purpose}
 use Rattle.link_state.specs.declared.asking.Purpose.TheVariants as purposes
+use Rattle.link_state.specs.declared.wish.Command as links
+use Rattle.link_state.specs.declared.wish.Command.TheVariants.{Execute, Prepare}
 use Rattle.link_state.specs.declared.wish.Wish.{Wish}
+use Rattle.stmt_map.specs.declared.client.ClientStatements.{ClientStatements}
 use Rattle.link_state.specs.declared.writing.Writing.{Writing}
 use Rattle.lent_link.specs.declared.link.Begins.{Begins}
 use Rattle.lent_link.specs.declared.link.Begins.TheVariants as begins
@@ -32,9 +35,15 @@ with_work work client = record client { desk = record client.desk { work = work 
 
 -- The client's work: its form and its packets go to the link.
 
+-- the number by which its client will know what it prepares
+
+abbrev pub first_number : links.Command → ClientStatements → ℕ
+first_number Prepare statements = if nat_lt statements.last 4294967295 then statements.last + 1 else 0
+first_number _ statements = 0
+
 abbrev pub stated_of : Desk → SessionName → Work → Stated
 stated_of desk name work =
-    record { name = name; ordinal = work.ordinal; key = work.key; multiplex = work.multiplex; first = desk.seat.first; number = 0 }
+    record { name = name; ordinal = work.ordinal; key = work.key; multiplex = work.multiplex; first = desk.seat.first; number = first_number work.command desk.seat.statements }
 
 abbrev pub text_stands : Stated → Option Form → (packets : Option (List ℕ)) → Row → Row
 text_stands s (Some form) (Some packets) row = states s form packets row
@@ -69,9 +78,14 @@ quit_begun l t = link_changed l (with_row farewell) t
 
 -- What stands next is taken back: a statement to its desk, where it is that client's unsent work still.
 
+-- the arguments of an execute stayed there
+abbrev pub packets_back : links.Command → (packets : List ℕ) → Option (List ℕ)
+packets_back Execute packets = None
+packets_back _ packets = Some packets
+
 abbrev pub given_to : SessionName → (ordinal : ℕ) → Form → (packets : List ℕ) → Desk → Work → Work
 given_to name ordinal form packets desk work =
-    if not work.sent && is_of name ordinal desk work then given_back form (Some packets) work else work
+    if not work.sent && is_of name ordinal desk work then given_back form (packets_back work.command packets) work else work
 
 abbrev pub client_given : SessionName → (ordinal : ℕ) → Form → (packets : List ℕ) → Client → Client
 client_given name ordinal form packets client =

@@ -83,11 +83,13 @@ is_joined name _ = false
 abbrev pub is_blind : Form → Bool
 is_blind (forms.Text class) = not class.reads_diag && not class.reads_found
 is_blind forms.Fields = true
+is_blind (forms.Prepare class) = true
 is_blind _ = false
 
 abbrev pub reads_its_own : Form → Pin → Bool
 reads_its_own (forms.Text class) pin = reads_own class pin
 reads_its_own forms.Fields pin = true
+reads_its_own (forms.Prepare class) pin = true
 reads_its_own _ pin = false
 
 -- the session has no Pin, and the link carries nobody, or is lent to it
@@ -203,7 +205,7 @@ prep_passes name ordinal row t = with_work name t (may_prepare row name ordinal)
 
 abbrev pub passes_for : Purpose → Row → Form → Tabled → Bool
 passes_for (purposes.Statement name ordinal key) row form t = with_work name t (may_state row form name ordinal)
-passes_for (purposes.Prep name ordinal key) row form t = false
+passes_for (purposes.Prep name ordinal key) row form t = prep_passes name ordinal row t
 passes_for (purposes.Sync name) row form t = with_session name t (may_sync row form name)
 passes_for purposes.Own row form t = may_own row form
 passes_for (purposes.End name) row form t = option_map_or (may_end row name) row.left false

@@ -1,8 +1,11 @@
 -- What stands next on a link for what is prepared, and what a client has prepared.
-use Rattle.std.specs.Prelude.{◌≡◌, ◌+◌, ℕ, nat_lt, Bool, true, false, List, [], ◌∷◌, Option, Some, None}
+use Rattle.std.specs.Prelude.{◌≡◌, ◌+◌, ℕ, nat_lt, Bool, true, false, is_some, if◌then◌else◌, List, [], ◌∷◌, Option, Some, None}
+use Rattle.std.specs.Option.{option_and_then}
 use Rattle.mx_base.specs.declared.names.ClientNo.{ClientNo}
 use Rattle.mx_base.specs.declared.names.LinkId.{LinkId}
 use Rattle.session_state.specs.declared.names.SessionName.{SessionName}
+use Rattle.session_state.specs.Endings.{is_prepared}
+use Rattle.session_state.specs.declared.reply_end.ReplyEnd.{ReplyEnd}
 use Rattle.session_vars.specs.declared.long_part.LongPart.{LongPart}
 use Rattle.stmt_map.specs.Client.{Changes, fresh}
 use Rattle.stmt_map.specs.declared.client.ClientStatements.{ClientStatements}
@@ -10,6 +13,8 @@ use Rattle.stmt_map.specs.declared.statement.Prepared.{Prepared}
 use Rattle.link_state.specs.Spells.{executes}
 use Rattle.link_state.specs.Stood.{number_of}
 use Rattle.link_state.specs.declared.asking.Form.{Form}
+use Rattle.link_state.specs.declared.asking.Purpose.{Purpose}
+use Rattle.link_state.specs.declared.asking.Purpose.TheVariants as purposes
 use Rattle.served_link.specs.Begins.{prepares}
 use Rattle.served_link.specs.States.{runs}
 use Rattle.served_link.specs.declared.row.Row.{Row}
@@ -23,6 +28,8 @@ use Rattle.core_tables.specs.Arrivals.{seated}
 use Rattle.core_tables.specs.Beginning.{stated_of, with_row, with_work}
 use Rattle.core_tables.specs.Tables.{IsSame, Tabled, client_put, link_changed}
 use Rattle.core_tables.specs.declared.client.Client.{Client}
+use Rattle.core_tables.specs.declared.said.Said.{Said}
+use Rattle.core_tables.specs.declared.said.Said.TheVariants as said
 use Rattle.core_tables.specs.declared.server.Server.{Server}
 
 -- The text of a client's execute is prepared on the way to it.
@@ -89,3 +96,27 @@ IsKeptOf prepared c (Some row) old new = IsKeptAt prepared c row old new
 
 abbrev pub IsKept : Prepared → ClientNo → (old new : Tabled) → Type 0
 IsKept prepared c old new = IsKeptOf prepared c (old.clients c) old new
+
+-- What an answer on a link prepared for a client, in a session that it didn't leave.
+
+abbrev pub Made : Type 0
+Made = ClientNo × Prepared
+
+abbrev pub made_in : SessionName → (key : ℕ) → (multiplex : Option Bool) → ReplyEnd → Made
+made_in name key multiplex end = (name.client, record { key = key; hostgroup = name.hostgroup; multiplex = multiplex; params = end.params })
+
+abbrev pub made_by : Purpose → (multiplex : Option Bool) → ReplyEnd → Option Made
+made_by (purposes.Statement name ordinal key) multiplex end = if is_prepared end then Some (made_in name key multiplex end) else None
+made_by _ multiplex end = None
+
+abbrev pub made_on : Said → Row → Option Made
+made_on (said.Answered purpose end behind) row = if is_some row.left then None else made_by purpose row.multiplex end
+made_on _ row = None
+
+-- it is kept
+abbrev pub IsKeptSo : Option Made → (old new : Tabled) → Type 0
+IsKeptSo None old new = IsSame new old
+IsKeptSo (Some made) old new = IsKept made.1 made.0 old new
+
+abbrev pub IsKeptFor : Said → LinkId → (old new : Tabled) → Type 0
+IsKeptFor result l old new = IsKeptSo (option_and_then (λ (server : Server). made_on result server.row) (old.links l)) old new

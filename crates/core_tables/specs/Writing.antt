@@ -40,6 +40,7 @@ lent_to l name t = client_changed name.client (client_lent name.hostgroup l) t
 
 abbrev pub begun_for : Option Purpose → LinkId → (lasting : Bool) → Tabled → Tabled
 begun_for (Some (purposes.Statement name ordinal key)) l lasting t = client_changed name.client (client_sent name.hostgroup l lasting) t
+begun_for (Some (purposes.Prep name ordinal key)) l lasting t = lent_to l name t
 begun_for _ l lasting t = t
 
 abbrev pub purpose_next : Row → Option Purpose

@@ -1,9 +1,9 @@
 // A client's statement goes to a link, where it stands next, and what stands next is taken back.
-ghost use Rattle.std.specs.Prelude.{◌≡◌, ◌&&◌, not, false, nat_eq};
+ghost use Rattle.std.specs.Prelude.{◌≡◌, ◌+◌, ◌&&◌, if◌then◌else◌, not, false, nat_eq, nat_lt};
 ghost use Rattle.std.specs.HashMap.{get};
 ghost use Rattle.std.specs.Option.{option_map_or};
 ghost use Rattle.client_desk.specs.declared.work.Work.{Work};
-ghost use Rattle.core_tables.specs.Beginning.{client_given, next_back, text_begun, text_stands, with_row};
+ghost use Rattle.core_tables.specs.Beginning.{client_given, first_number, next_back, packets_back, text_begun, text_stands, with_row};
 ghost use Rattle.core_tables.specs.Parting.{IsRowChanged};
 ghost use Rattle.core_tables.specs.Passing.{is_of};
 ghost use Rattle.core_tables.specs.Tables.{IsSame, tables_of};
@@ -13,11 +13,39 @@ use crate::lending::is_of;
 use crate::server::Server;
 use crate::tables::Tables;
 use lent_link::Begins;
-use link_state::{Form, Purpose};
+use link_state::{Command, Form, Purpose};
 use mx_base::{Bytes, LinkId};
 use served_link::Stated;
 use session_state::SessionName;
 use std::collections::HashMap;
+use stmt_map::ClientStatements;
+
+/// The number by which a client will know what its statement prepares.
+pub(crate) fn first_number(command: Command, statements: &ClientStatements) -> u32
+    ensures { result ≡ first_number command statements.now }
+{
+    match command {
+        Command::Prepare => next_of(statements.last),
+        _ => 0,
+    }
+}
+
+// The number behind this one, where there is one.
+fn next_of(last: u32) -> u32
+    ensures { result ≡ (if nat_lt last 4294967295 then last + 1 else 0) }
+{
+    if last < 4294967295 { last + 1 } else { 0 }
+}
+
+// The arguments of an execute stayed at the desk.
+fn packets_back(command: Command, packets: Bytes) -> Option<Bytes>
+    ensures { result ≡ packets_back command packets }
+{
+    match command {
+        Command::Execute => None,
+        _ => Some(packets),
+    }
+}
 
 impl Client {
     // What is taken back is of its unsent work still.
@@ -39,7 +67,7 @@ impl Client {
             return;
         }
         if let Some(work) = &mut self.desk.work {
-            work.give_back(form, Some(packets));
+            work.give_back(form, packets_back(work.command, packets));
         }
     }
 }
@@ -89,6 +117,7 @@ impl Tables {
             return;
         };
         let first = client.desk.seat.first;
+        let statements = &client.desk.seat.statements;
         let Some(work) = &mut client.desk.work else {
             return;
         };
@@ -98,7 +127,7 @@ impl Tables {
             key: work.key,
             multiplex: work.multiplex,
             first,
-            number: 0,
+            number: first_number(work.command, statements),
         };
         let form = work.take_form();
         let packets = work.take_packets();

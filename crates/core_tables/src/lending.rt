@@ -79,6 +79,7 @@ fn is_blind(form: &Form) -> bool
     match form {
         Form::Text(class) => !class.reads_diag && !class.reads_found,
         Form::Fields => true,
+        Form::Prepare(_) => true,
         _ => false,
     }
 }
@@ -89,6 +90,7 @@ fn reads_its_own(form: &Form, pin: Pin) -> bool
     match form {
         Form::Text(class) => reads_own(pin, class),
         Form::Fields => true,
+        Form::Prepare(_) => true,
         _ => false,
     }
 }
@@ -387,7 +389,7 @@ impl Tables {
             Purpose::Statement { name, ordinal, .. } => {
                 self.statement_passes(name, ordinal, row, form)
             }
-            Purpose::Prep { .. } => false,
+            Purpose::Prep { name, ordinal, .. } => self.prep_passes(name, ordinal, row),
             Purpose::Sync { name } => self.sync_passes(name, row, form),
             Purpose::Own => may_own(row, form),
             Purpose::End { name } => may_end(row, name),

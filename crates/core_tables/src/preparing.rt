@@ -9,6 +9,7 @@ ghost use Rattle.core_tables.specs.Tables.{IsSame, tables_of};
 ghost use Rattle.core_tables.specs.Writing.{client_lent, lent_to};
 
 use crate::client::Client;
+use crate::handing::first_number;
 use crate::server::Server;
 use crate::tables::Tables;
 use client_desk::Body;
@@ -167,6 +168,7 @@ impl Tables {
             return Ok(());
         };
         let first = client.desk.seat.first;
+        let statements = &client.desk.seat.statements;
         let Some(work) = &mut client.desk.work else {
             return Ok(());
         };
@@ -179,7 +181,7 @@ impl Tables {
             key: work.key,
             multiplex: work.multiplex,
             first,
-            number: 0,
+            number: first_number(work.command, statements),
         };
         let form = work.take_form();
         server.runs(self.alloc, stated, there, form, &work.body)

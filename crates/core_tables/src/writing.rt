@@ -62,8 +62,12 @@ impl Tables {
         };
         let lasting = lasts(&server.row.link.next);
         let began = server.wrote(n, now);
-        if let Some(Purpose::Statement { name, .. }) = began {
-            sent_in(&mut self.clients, name, link, lasting);
+        match began {
+            Some(Purpose::Statement { name, .. }) => {
+                sent_in(&mut self.clients, name, link, lasting);
+            }
+            Some(Purpose::Prep { name, .. }) => self.lend(link, name),
+            _ => {}
         }
         began
     }

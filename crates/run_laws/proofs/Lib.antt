@@ -4,3 +4,4 @@ pub mod Readable
 pub mod Begun
 pub mod Going
 pub mod Telling
+pub mod Binding

@@ -1,4 +1,5 @@
-//! The bytes that are spelt for an execute read back as that execute, of each that stands on a link in a lawful story.
+//! The bytes that are spelt for an execute read back as that execute, of each that stands on a link in a lawful story, where its arguments are
+//! whole: its own bytes, and what was bound before.
 #![tactic(auto)]
 
 ghost use Rattle.std.specs.Prelude.{◌<◌, ℕ, Some};
