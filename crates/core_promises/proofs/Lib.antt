@@ -9,3 +9,8 @@ pub mod Verdicts
 pub mod Homing
 pub mod Refusing
 pub mod Takings
+pub mod Commands
+pub mod Wanted
+pub mod Statements
+pub mod Knowing
+pub mod Ruling

@@ -28,7 +28,7 @@ use Rattle.step_laws.specs.Taken.{IsAsItWas, SparesOthers, is_called, next_of}
 use Rattle.core_laws.specs.clients.Found.{IsAmong}
 use Rattle.core_laws.specs.entry.Cores.{with_entry}
 use Rattle.router_promises.specs.Takings.{Taking, message_in, taking_then, takings_at, takings_by, takings_from, takings_of}
-use Rattle.core_promises.specs.Judges.{WasTaken, situation_of, takings_along}
+use Rattle.core_promises.specs.Judges.{WasTaken, takings_along}
 
 -- two tales have the same of a client
 pub record IsSeenAlike (setup : Setup) (c : ClientNo) (old new : Tale) : Type 0 where
@@ -38,11 +38,15 @@ pub record IsSeenAlike (setup : Setup) (c : ClientNo) (old new : Tale) : Type 0 
   pub life : (h : Hostgroup) → (view_of setup new).lives c h ≡ (view_of setup old).lives c h
   pub place : (view_of setup new).places c ≡ (view_of setup old).places c
 
--- each of these takings is among the others, in a tale that has the same of this client
+-- each of these takings is among the others, of the same client, in a tale that has the same of it
+pub record IsCovered (setup : Setup) (c : ClientNo) (others : List Taking) (name : MessageName) (taking : Taking) : Type 0 where
+  pub other : Taking
+  pub among : IsAmong others name other
+  pub client : other.client ≡ taking.client
+  pub seen : IsSeenAlike setup c taking.tale other.tale
+
 abbrev pub Covers : Setup → ClientNo → (takings others : List Taking) → Type 0
-Covers setup c takings others =
-    (name : MessageName) (taking : Taking) → IsAmong takings name taking
-    → (other : Taking) × (IsAmong others name other × IsSeenAlike setup c taking.tale other.tale)
+Covers setup c takings others = (name : MessageName) (taking : Taking) → IsAmong takings name taking → IsCovered setup c others name taking
 
 module _ (setup : Setup) (c : ClientNo) where
   abbrev Seen : Tale → Tale → Type 0
@@ -85,14 +89,6 @@ module _ (setup : Setup) (c : ClientNo) where
     held = λ i. (like.view i).held;
     life = λ h. λ i. (like.view i).lives c h;
     place = λ i. (like.view i).places c;
-  }
-
-  pub seen_situation : (old new : Tale) → Seen old new → situation_of setup new c ≡ situation_of setup old c
-  seen_situation old new seen = λ i. record {
-    user = (setup.accounts c).user;
-    place = seen.place i;
-    pins = λ h. (seen.held i (record { client = c; hostgroup = h; life = seen.life h i })).pin;
-    homes = λ h. (seen.held i (record { client = c; hostgroup = h; life = seen.life h i })).home;
   }
 
   -- As a message of its is taken up.
@@ -148,17 +144,17 @@ module _ (setup : Setup) (c : ClientNo) where
 
   pub paired_cover : (xs ys : List Taking) → ArePaired xs ys → Covers setup c xs ys
   paired_cover xs ys are name taking among =
-      let at = paired_at xs ys are among.place taking among.there in (
-        at.0,
-        (
-          record {
-            place = among.place;
-            there = at.1.0;
-            named = ap (λ (x : Client). name_of x (suc x.taken)) at.1.1.client ∙ among.named;
-          },
-          at.1.1.seen,
-        ),
-      )
+      let at = paired_at xs ys are among.place taking among.there in
+      record {
+        other = at.0;
+        among = record {
+          place = among.place;
+          there = at.1.0;
+          named = ap (λ (x : Client). name_of x (suc x.taken)) at.1.1.client ∙ among.named;
+        };
+        client = at.1.1.client;
+        seen = at.1.1.seen;
+      }
 
   abbrev SeenIn : Option Tale → Option Tale → Type 0
   SeenIn None None = Unit {0}
@@ -298,17 +294,16 @@ module _ (setup : Setup) (plan : Plan) (single : (m : MessageName) (route : Rout
     where
       by : (b : Bool) → is_client x.number said.number ≡ b → cond b (x ∷ its xs) (its xs) ≡ said ∷ []
           → (its xs ≡ said ∷ [] → IsSeenAlike setup said.number first (client_goes_on setup plan view e now x)
-          → (other : Taking) × (IsAmong (behind xs x now) name other × IsSeenAlike setup said.number taking.tale other.tale))
-          → (other : Taking) × (IsAmong (here x now ++ behind xs x now) name other × IsSeenAlike setup said.number taking.tale other.tale)
+          → IsCovered setup said.number (behind xs x now) name taking) → IsCovered setup said.number (here x now ++ behind xs x now) name taking
       by true is head later =
           let same : x ≡ said = one_of x (its xs) head in
           let at = paired_cover setup said.number (takings_by setup plan view e first said) (takings_by setup plan view e now said)
           (by_paired setup plan single view e said first now seen) name taking among in
-          let found : IsAmong (here x now) name at.0 = subst (λ (y : Client). IsAmong (here y now) name at.0) (sym same) at.1.0 in
-          (at.0, (among_front (here x now) (behind xs x now) name at.0 found, at.1.1))
+          let found : IsAmong (here x now) name at.other = subst (λ (y : Client). IsAmong (here y now) name at.other) (sym same) at.among in
+          record { other = at.other; among = among_front (here x now) (behind xs x now) name at.other found; client = at.client; seen = at.seen }
       by false is rest later =
           let at = later rest (on_by now seen x is) in
-          (at.0, (among_behind (here x now) (behind xs x now) name at.0 at.1.0, at.1.1))
+          record { other = at.other; among = among_behind (here x now) (behind xs x now) name at.other at.among; client = at.client; seen = at.seen }
 
 -- what it takes up at an entry, once that is told, is among what is taken up there
 pub entry_covers : (setup : Setup) (plan : Plan) → ((m : MessageName) (route : Route) → plan.routes m ≡ Some route → route.mirror ≡ None) → (tale : Tale) (e : Entry) (said : Client) (freed : Tale)
@@ -319,16 +314,19 @@ entry_covers setup plan single tale e said freed first seated called name taking
     let view : View = view_of setup tale in
     let by_it : IsAmong (takings_by setup plan view e freed said) name taking =
     subst (λ (b : Bool). IsAmong (if b then takings_of (length (messages plan said)) setup plan said freed else []) name taking) (sym called) among in
-    subst (λ (now : Tale).
-    (other : Taking) × (IsAmong (takings_from setup plan view e now.clients now) name other × IsSeenAlike setup said.number taking.tale other.tale))
-    (sym first)
+    subst (λ (now : Tale). IsCovered setup said.number (takings_from setup plan view e now.clients now) name taking) (sym first)
     (from_cover setup plan single view e said freed freed.clients freed seated (seen_itself setup said.number freed) name taking by_it)
 
 pub cover_on : (setup : Setup) (c : ClientNo) (xs ys zs : List Taking) → Covers setup c xs ys → Covers setup c ys zs → Covers setup c xs zs
 cover_on setup c xs ys zs one two name taking among =
     let mid = one name taking among in
-    let last = two name mid.0 mid.1.0 in
-    (last.0, (last.1.0, seen_on setup c taking.tale mid.0.tale last.0.tale mid.1.1 last.1.1))
+    let last = two name mid.other mid.among in
+    record {
+      other = last.other;
+      among = last.among;
+      client = last.client ∙ mid.client;
+      seen = seen_on setup c taking.tale mid.other.tale last.other.tale mid.seen last.seen;
+    }
 
 -- Along a log.
 

@@ -1,17 +1,19 @@
 -- What becomes of a message that was taken up.
 use Rattle.std.specs.Prelude.{◌≡◌, ◌≢◌, ℕ, true, ◌∷◌, List, [], Option, Some, None, drop, length, refl}
-use Rattle.std.proofs.Common.{subst, sym, ◌∙◌}
+use Rattle.std.proofs.Common.{ap, subst, sym, ◌∙◌}
 use Rattle.std.proofs.lemmas.Bool.{false≢true}
 use Rattle.query_rules.specs.Effects.{is_first_flag}
 use Rattle.query_rules.specs.Passing.{route_of}
 use Rattle.query_rules.specs.declared.ask.Ask.{Ask}
 use Rattle.query_rules.specs.declared.rule.Rule.{Rule}
+use Rattle.private_model.specs.Names.{MessageName}
+use Rattle.private_model.specs.Story.{Key}
 use Rattle.log_story.specs.Plan.{Route, com_query}
 use Rattle.router_promises.specs.Terms.{Terms, plan_in, setup_in, tale_at}
 use Rattle.router_promises.specs.Verdicts.{Tells}
 use Rattle.router_promises.proofs.Refusals.{at-index}
 use Rattle.core_promises.specs.Asks.{IsRewritten}
-use Rattle.core_promises.specs.Judges.{AreJudged, IsJudged, IsVerdictFor, Situation, goes_by, rulebook_of, situation_of}
+use Rattle.core_promises.specs.Judges.{AreJudged, IsJudged, IsRoutedFor, IsVerdictFor, Situation, rulebook_of, situation_of}
 use Rattle.core_promises.specs.Wrong.{AnswersBy, AsTaken, AsksFor, SendsBy, TakesUp, taken_up, user_of}
 use Rattle.core_promises.proofs.Verdicts.{AnswersSo, GoesSo, IsPassed, answers-so, goes-so}
 
@@ -26,21 +28,30 @@ judged-at terms payload up =
 
 -- how its client stood
 abbrev pub stood : (terms : Terms) (payload : List ℕ) → TakesUp terms payload → Situation
-stood terms payload up = situation_of (setup_in terms) (judged-at terms payload up).taking.tale up.client.number
+stood terms payload up = situation_of (setup_in terms) (plan_in terms) (judged-at terms payload up).taking
+
+-- the user with whom it logged in
+pub stood-user : (terms : Terms) (payload : List ℕ) (up : TakesUp terms payload) → (stood terms payload up).user ≡ user_of up
+stood-user terms payload up =
+    ap (λ (name : MessageName). ((setup_in terms).accounts name.client).user) (judged-at terms payload up).taken.named
 
 pub as-stood : (terms : Terms) (payload : List ℕ) (up : TakesUp terms payload) (fact : Situation → Type 0) → AsTaken up fact → fact (stood terms payload up)
 as-stood terms payload up fact so = so (judged-at terms payload up).taking (judged-at terms payload up).taken
 
+abbrev pub keys_in : Terms → (key : ℕ) → Option Key
+keys_in terms key = Some ((setup_in terms).keys key)
+
 -- what the verdict says of it
 
 pub route-for : (terms : Terms) (payload : List ℕ) (route : Route) (sends : SendsBy terms payload route)
-    → IsVerdictFor (rulebook_of terms.router) (stood terms payload sends.up) sends.up.client.number payload (goes_by route)
+    → IsRoutedFor (rulebook_of terms.router) (stood terms payload sends.up) (keys_in terms) sends.up.client.number payload route
 route-for terms payload route sends = (judged-at terms payload sends.up).goes route sends.goes
 
 pub sent-so : (terms : Terms) (payload : List ℕ) (route : Route) (sends : SendsBy terms payload route)
     → GoesSo terms.router.rules (user_of sends.up) (stood terms payload sends.up).place.schema payload route.text
 sent-so terms payload route sends =
-    goes-so (rulebook_of terms.router) (stood terms payload sends.up) sends.up.client.number payload route (route-for terms payload route sends)
+    subst (λ (user : List ℕ). GoesSo terms.router.rules user (stood terms payload sends.up).place.schema payload route.text) (stood-user terms payload sends.up)
+    (goes-so (rulebook_of terms.router) (stood terms payload sends.up) sends.up.client.number (keys_in terms) payload route (route-for terms payload route sends))
 
 pub answer-for : (terms : Terms) (payload : List ℕ) (payloads : List (List ℕ)) → (answers : AnswersBy terms payload payloads)
     → IsVerdictFor (rulebook_of terms.router) (stood terms payload answers.up) answers.up.client.number payload (Tells payloads)
@@ -49,8 +60,10 @@ answer-for terms payload payloads answers = (judged-at terms payload answers.up)
 pub answered-so : (terms : Terms) (text : List ℕ) (payloads : List (List ℕ)) (answers : AnswersBy terms (com_query ∷ text) payloads)
     → AnswersSo terms.router.rules (user_of answers.up) (stood terms (com_query ∷ text) answers.up).place.schema text payloads
 answered-so terms text payloads answers =
-    answers-so (rulebook_of terms.router) (stood terms (com_query ∷ text) answers.up) answers.up.client.number text payloads
-    (answer-for terms (com_query ∷ text) payloads answers)
+    subst (λ (user : List ℕ). AnswersSo terms.router.rules user (stood terms (com_query ∷ text) answers.up).place.schema text payloads)
+    (stood-user terms (com_query ∷ text) answers.up)
+    (answers-so (rulebook_of terms.router) (stood terms (com_query ∷ text) answers.up) answers.up.client.number text payloads
+    (answer-for terms (com_query ∷ text) payloads answers))
 
 -- a query goes to a server only where some pass of the rules, for its client's user in its schema, doesn't stop it
 pub unstopped-by : (terms : Terms) (text : List ℕ) (route : Route) (sends : SendsBy terms (com_query ∷ text) route)

@@ -1,10 +1,10 @@
 -- What becomes of a client's message: what the promise's verdict says of it by the configuration's rules, and by what is so of its client as the
 -- message is taken up.
-use Rattle.std.specs.Prelude.{◌≡◌, ◌<◌, ◌||◌, ℕ, suc, nat_eq, slice_get, slice_index_or, Bool, true, All, find, if◌then◌else◌, is_some, length, map}
+use Rattle.std.specs.Prelude.{◌≡◌, ◌<◌, ℕ, suc, slice_get, Bool, true, false, All, find, is_some, length, map}
 use Rattle.std.specs.Prelude.{List, [], ◌∷◌, ◌++◌, Option, Some, None}
+use Rattle.std.specs.Option.{option_and_then}
 use Rattle.mx_wire.specs.Log.{Log}
 use Rattle.packet_frame.specs.Packets.{Framed}
-use Rattle.client_session.specs.Errors.{unknown_command}
 use Rattle.hostgroups.specs.declared.row.ServerRow.{ServerRow}
 use Rattle.query_rules.specs.Effects.{is_first_flag}
 use Rattle.query_rules.specs.declared.rule.Rule.{Rule}
@@ -12,36 +12,25 @@ use Rattle.session_state.specs.declared.pin.Pin.{Pin}
 use Rattle.session_state.specs.declared.place.Place.{Place}
 use Rattle.server_rule.specs.Classes.{router_reads}
 use Rattle.private_model.specs.Names.{ClientNo, Hostgroup, LinkId, MessageName}
+use Rattle.private_model.specs.Story.{Key}
 use Rattle.private_model.specs.View.{Held, Setup, present}
 use Rattle.link_laws.specs.Stands.{Codes}
 use Rattle.log_story.specs.Headline.{tale_of}
 use Rattle.log_story.specs.Owed.{messages, name_of}
-use Rattle.log_story.specs.Plan.{Plan, Route, com_execute, com_long_data, com_prepare, com_statement_reset, own_at}
+use Rattle.log_story.specs.Plan.{Plan, Route, own_at}
 use Rattle.log_story.specs.Tale.{Client, Tale, first_tale, view_of}
 use Rattle.log_story.specs.Telling.{tale_step}
 use Rattle.tale_world.specs.Decided.{Decided}
 use Rattle.core_laws.specs.entry.Tells.{Fits, IsOf}
 use Rattle.router_promises.specs.Router.{Router, home_of}
-use Rattle.router_promises.specs.Statements.{com_close}
 use Rattle.router_promises.specs.Takings.{Taking, message_in, takings_at}
 use Rattle.router_promises.specs.Terms.{Terms, plan_in, setup_in, tale_at}
-use Rattle.router_promises.specs.Verdicts.{Goes, Tells, Verdict, com_fetch, tells_one}
+use Rattle.router_promises.specs.Verdicts.{Goes, Tells, Verdict, Wanted}
 use Rattle.message_judge.specs.Judging.{judged, verdict_by}
 use Rattle.message_judge.specs.declared.caller.Caller.{Caller}
+use Rattle.message_judge.specs.declared.caller.Prepared.{Prepared}
 use Rattle.message_judge.specs.declared.caller.Standing.{Standing}
-
--- Commands about prepared statements aren't served: the two that have no answer get none.
-
-abbrev pub is_silent : (byte : ℕ) → Bool
-is_silent byte = nat_eq byte com_long_data || nat_eq byte com_close
-
-abbrev pub is_of_statement : (byte : ℕ) → Bool
-is_of_statement byte =
-    is_silent byte
-    || (nat_eq byte com_prepare || (nat_eq byte com_execute || (nat_eq byte com_statement_reset || nat_eq byte com_fetch)))
-
-abbrev pub unserved : (byte : ℕ) → Verdict
-unserved byte = if is_silent byte then Tells [] else tells_one unknown_command
+use Rattle.core_promises.specs.Statements.{is_given, number_named, statement_of}
 
 -- What messages are judged by: rules, each user's default hostgroup, and the hostgroups of servers in their order.
 pub record Rulebook : Type 0 where
@@ -54,43 +43,49 @@ abbrev pub rulebook_of : Router → Rulebook
 rulebook_of router =
     record { rules = router.rules; home = home_of router; hostgroups = map (λ (row : ServerRow). row.hostgroup) router.servers }
 
--- What is so of a client in a tale: who it is, where it stands, why its sessions keep their links, and which links carry them.
+-- What is so of a client: who it is, where it stands, why its sessions keep their links, and which links carry them; what it prepared under each
+-- number, and under which numbers it has.
 pub record Situation : Type 0 where
   pub user : List ℕ
   pub place : Place
   pub pins : Hostgroup → Pin
   pub homes : Hostgroup → Option LinkId
+  pub statements : (number : ℕ) → Option Prepared
+  pub given : (number : ℕ) → Bool
 
 abbrev pub held_of : Setup → Tale → ClientNo → Hostgroup → Held
 held_of setup tale c hostgroup = (view_of setup tale).held (present (view_of setup tale) c hostgroup)
 
-abbrev pub situation_of : Setup → Tale → ClientNo → Situation
-situation_of setup tale c = record {
-  user = (setup.accounts c).user;
-  place = (view_of setup tale).places c;
-  pins = λ hostgroup. (held_of setup tale c hostgroup).pin;
-  homes = λ hostgroup. (held_of setup tale c hostgroup).home;
+-- just before its message is taken up
+abbrev pub situation_of : Setup → Plan → Taking → Situation
+situation_of setup plan taking = record {
+  user = (setup.accounts taking.client.number).user;
+  place = (view_of setup taking.tale).places taking.client.number;
+  pins = λ hostgroup. (held_of setup taking.tale taking.client.number hostgroup).pin;
+  homes = λ hostgroup. (held_of setup taking.tale taking.client.number hostgroup).home;
+  statements = statement_of setup plan taking.client taking.tale;
+  given = is_given (view_of setup taking.tale) plan taking.client;
 }
 
 -- the hostgroup of its open transaction
 abbrev pub transaction_of : Rulebook → Situation → Option Hostgroup
 transaction_of book situation = find (λ hostgroup. (situation.pins hostgroup).tx) book.hostgroups
 
--- What may be known of a client: its user, schema, settings, flag and last hostgroup; the hostgroup of its transaction; why its sessions keep
--- their links; and in which hostgroups there is a link or a server for it.
+-- What may be known of a client: its user, schema, settings, flag and last hostgroup; the hostgroup of its transaction, and the next number of a
+-- statement; the statement that its message names; why its sessions keep their links; and in which hostgroups there is a link or a server for it.
 pub record Knowledge : Type 0 where
   pub caller : Caller
   pub standing : Standing
+  pub prepared : Option Prepared
   pub pins : Hostgroup → Pin
   pub is_there : Hostgroup → Bool
 
 abbrev pub verdict_on : List Rule → Knowledge → (payload : List ℕ) → Verdict
 verdict_on rules known payload =
-    if is_of_statement (slice_index_or payload 0 0) then unserved (slice_index_or payload 0 0)
-    else verdict_by known.pins known.is_there (judged router_reads rules known.caller known.standing None payload).draft
+    verdict_by known.pins known.is_there (judged router_reads rules known.caller known.standing known.prepared payload).draft
 
 -- It is this on a message of this client, of which this is so. There is a link for it where one carries its session; its flag is one by which
--- rules may be tried first.
+-- rules may be tried first; a statement is what it prepared under the number that the message names, and its next number wasn't given yet.
 pub record IsVerdictFor (book : Rulebook) (situation : Situation) (c : ClientNo) (payload : List ℕ) (verdict : Verdict) : Type 0 where
   pub known : Knowledge
   pub client : known.caller.number ≡ c
@@ -101,10 +96,16 @@ pub record IsVerdictFor (book : Rulebook) (situation : Situation) (c : ClientNo)
   pub pins : known.pins ≡ situation.pins
   pub there : (hostgroup : Hostgroup) → is_some (situation.homes hostgroup) ≡ true → known.is_there hostgroup ≡ true
   pub flag : is_first_flag book.rules known.caller.flag ≡ true
+  pub prepared : (one : Prepared) → known.prepared ≡ Some one → option_and_then situation.statements (number_named payload) ≡ Some one
+  pub number : (n : ℕ) → known.standing.next_number ≡ Some n → situation.given n ≡ false
   pub is : verdict ≡ verdict_on book.rules known payload
 
-abbrev pub goes_by : Route → Verdict
-goes_by route = Goes (record { route = route; key = None })
+-- It goes to a server by this route; and where it is to be prepared, or was, what is to stand under the route's key does.
+pub record IsRoutedFor (book : Rulebook) (situation : Situation) (keys : (key : ℕ) → Option Key) (c : ClientNo) (payload : List ℕ) (route : Route) : Type 0 where
+  pub wanted : Wanted
+  pub routed : record wanted.route { key = route.key } ≡ route
+  pub keyed : (key : Key) → wanted.key ≡ Some key → keys route.key ≡ Some key
+  pub is : IsVerdictFor book situation c payload (Goes wanted)
 
 -- The messages that are taken up along a log, in order.
 abbrev pub takings_along : Setup → Plan → Tale → Log → List Taking
@@ -123,9 +124,9 @@ pub record IsJudged (book : Rulebook) (setup : Setup) (plan : Plan) (log : Log) 
   pub taking : Taking
   pub taken : WasTaken setup plan log name taking
   pub goes : (route : Route) → plan.routes name ≡ Some route
-      → IsVerdictFor book (situation_of setup taking.tale name.client) name.client payload (goes_by route)
+      → IsRoutedFor book (situation_of setup plan taking) (λ key. Some (setup.keys key)) name.client payload route
   pub tells : (payloads : List (List ℕ)) → plan.routes name ≡ None → own_at plan (length log) name ≡ Some payloads
-      → IsVerdictFor book (situation_of setup taking.tale name.client) name.client payload (Tells payloads)
+      → IsVerdictFor book (situation_of setup plan taking) name.client payload (Tells payloads)
 
 -- of each message of a client
 abbrev pub AreJudged : Rulebook → Setup → Plan → Log → Client → Type 0

@@ -1,4 +1,5 @@
 pub mod Asks
+pub mod Statements
 pub mod Judges
 pub mod Ruled
 pub mod Waits

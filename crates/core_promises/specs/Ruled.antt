@@ -1,45 +1,87 @@
 -- Turns of a client by what the verdict says of what came up.
-use Rattle.std.specs.Prelude.{ℕ, List, [], ◌∷◌}
+use Rattle.std.specs.Prelude.{ℕ, nat_le, List, [], ◌∷◌, Option}
+use Rattle.std.specs.Option.{option_and_then, option_map}
 use Rattle.mx_base.specs.declared.names.ClientNo.{ClientNo}
+use Rattle.pin_classifier.specs.Classes.{class_of}
 use Rattle.query_rules.specs.Passing.{rules_of}
 use Rattle.client_session.specs.Setups.{Setup}
 use Rattle.client_desk.specs.Desks.{session_of}
 use Rattle.client_desk.specs.declared.desk.Desk.{Desk}
+use Rattle.stmt_map.specs.Client.{statement_at}
+use Rattle.stmt_map.specs.declared.client.ClientStatements.{ClientStatements}
+use Rattle.stmt_map.specs.declared.statement.Statement.{Statement}
+use Rattle.private_model.specs.Story.{Key}
 use Rattle.core_service.specs.Serves.{home_in}
 use Rattle.core_service.specs.declared.service.Service.{Service}
 use Rattle.core_tables.specs.Tables.{Tabled}
 use Rattle.core_tables.specs.declared.client.Client.{Client}
 use Rattle.core_laws.specs.clients.Found.{desk_up, user_in}
 use Rattle.core_laws.specs.clients.Turns.{Answers, Choice, Goes, Halt, IsTurn, Turns}
+use Rattle.router_promises.specs.Statements.{are_types}
 use Rattle.router_promises.specs.Verdicts.{Tells}
-use Rattle.core_promises.specs.Judges.{IsVerdictFor, Rulebook, Situation, goes_by}
+use Rattle.message_judge.specs.declared.caller.Prepared.{Prepared}
+use Rattle.core_promises.specs.Judges.{IsRoutedFor, IsVerdictFor, Rulebook, Situation}
 
 -- what the core serves by
 abbrev pub book_of : Service → Rulebook
 book_of service = record { rules = rules_of service.rules; home = home_in service.users; hostgroups = service.hostgroups }
 
+-- What a client prepared under a number, where its key has this text and place; and by the texts that are kept.
+
+abbrev pub known_as : Key → Statement → Prepared
+known_as key statement = record {
+  text = key.text;
+  place = key.place;
+  params = statement.prepared.params;
+  bound = are_types statement.prepared.params statement.types;
+  hostgroup = statement.prepared.hostgroup;
+  multiplex = statement.prepared.multiplex;
+  class = class_of key.text;
+}
+
+abbrev pub known_by : (keys : (key : ℕ) → Option Key) → Statement → Option Prepared
+known_by keys statement = option_map (λ (key : Key). known_as key statement) (keys statement.prepared.key)
+
+abbrev pub known_in : (keys : (key : ℕ) → Option Key) → ClientStatements → (number : ℕ) → Option Prepared
+known_in keys statements number = option_and_then (known_by keys) (statement_at statements number)
+
 -- what is so of a client by its desk; and by its row before the look at which its message came up
 
-abbrev pub situation_at : Desk → Situation
-situation_at desk = record {
+abbrev pub situation_at : (keys : (key : ℕ) → Option Key) → Desk → Situation
+situation_at keys desk = record {
   user = user_in desk.seat.phase;
   place = desk.seat.place;
   pins = λ hostgroup. (session_of desk hostgroup).pin;
   homes = λ hostgroup. (session_of desk hostgroup).home;
+  statements = known_in keys desk.seat.statements;
+  given = λ number. nat_le number desk.seat.statements.last;
 }
 
-abbrev pub situation_up : Setup → (default : List ℕ) → Client → Situation
-situation_up setup default row = situation_at (desk_up setup default row)
+abbrev pub situation_up : (keys : (key : ℕ) → Option Key) → Setup → (default : List ℕ) → Client → Situation
+situation_up keys setup default row = situation_at keys (desk_up setup default row)
 
-abbrev pub IsRuled : Rulebook → (choice : Choice) → (setup : Setup) → (default : List ℕ) → (c : ClientNo) → (old new : Tabled)
+-- the rules, and the texts that are kept by their numbers
+pub record Ruling : Type 0 where
+  pub book : Rulebook
+  pub keys : (key : ℕ) → Option Key
+
+abbrev pub ruling_of : Service → (keys : (key : ℕ) → Option Key) → Ruling
+ruling_of service keys = record { book = book_of service; keys = keys }
+
+-- this choice is what the verdict says of a message
+abbrev pub IsChoiceFor : Choice → Rulebook → Situation → (keys : (key : ℕ) → Option Key) → ClientNo → (payload : List ℕ) → Type 0
+IsChoiceFor (Goes route keyed) book situation keys c payload = IsRoutedFor book situation keys c payload route
+IsChoiceFor (Answers payloads) book situation keys c payload = IsVerdictFor book situation c payload (Tells payloads)
+
+abbrev pub IsRuled : Ruling → (choice : Choice) → (setup : Setup) → (default : List ℕ) → (c : ClientNo) → (old new : Tabled)
     → IsTurn choice setup default c old new → Type 0
-IsRuled book (Goes route) setup default c old new turn =
-    IsVerdictFor book (situation_up setup default turn.up.row) c turn.up.message.payload (goes_by route)
-IsRuled book (Answers payloads) setup default c old new turn =
-    IsVerdictFor book (situation_up setup default turn.up.row) c turn.up.message.payload (Tells payloads)
+IsRuled ruling (Goes route keyed) setup default c old new turn =
+    IsChoiceFor (Goes route keyed) ruling.book (situation_up ruling.keys setup default turn.up.row) ruling.keys c turn.up.message.payload
+IsRuled ruling (Answers payloads) setup default c old new turn =
+    IsChoiceFor (Answers payloads) ruling.book (situation_up ruling.keys setup default turn.up.row) ruling.keys c turn.up.message.payload
 
-abbrev pub AreRuled : Rulebook → (choices : List Choice) → (halt : Halt) → (setup : Setup) → (default : List ℕ) → (c : ClientNo)
-    → (old new : Tabled) → Turns choices halt setup default c old new → Type 0
-AreRuled book [] halt setup default c old new turns = Unit {0}
-AreRuled book (choice ∷ others) halt setup default c old new turns =
-    IsRuled book choice setup default c old turns.0 turns.1 × AreRuled book others halt setup default c turns.0 new turns.2
+abbrev pub AreRuled : Ruling → (choices : List Choice) → (halt : Halt) → (setup : Setup) → (default : List ℕ) → (c : ClientNo) → (old new : Tabled)
+    → Turns choices halt setup default c old new → Type 0
+AreRuled ruling [] halt setup default c old new turns = Unit {0}
+AreRuled ruling (choice ∷ others) halt setup default c old new turns =
+    IsRuled ruling choice setup default c old turns.0 turns.1 × AreRuled ruling others halt setup default c turns.0 new turns.2

@@ -1,5 +1,5 @@
 -- Words for routers that are wrong: what no log has that keeps clients apart.
-use Rattle.std.specs.Prelude.{◌≡◌, ℕ, suc, ◌<◌, Bool, true, false, ◌||◌, nat_eq, List, ◌∷◌, ◌++◌, length, slice_get, slice_index_or, Some, None}
+use Rattle.std.specs.Prelude.{◌≡◌, ℕ, suc, ◌<◌, Bool, true, false, ◌||◌, nat_eq, List, ◌∷◌, ◌++◌, length, slice_get, slice_index_or, unwrap_or, Option, Some, None}
 use Rattle.mx_wire.specs.Log.{Log, is_open}
 use Rattle.mx_wire.specs.declared.entry.Entry.{Entry}
 use Rattle.packet_frame.specs.Packets.{Framed}
@@ -10,7 +10,7 @@ use Rattle.query_rules.specs.declared.rule.Rule.{Rule}
 use Rattle.private_model.specs.Names.{Hostgroup, MessageName, SessionName}
 use Rattle.private_model.specs.Story.{Happening, Story}
 use Rattle.log_story.specs.Owed.{messages, name_of}
-use Rattle.log_story.specs.Plan.{Route, com_field_list, com_init_db, com_query, own_at}
+use Rattle.log_story.specs.Plan.{Route, com_execute, com_field_list, com_init_db, com_prepare, com_query, own_at}
 use Rattle.log_story.specs.Tale.{Client}
 use Rattle.router_promises.specs.Dues.{is_unsent}
 use Rattle.router_promises.specs.Ends.{was_answered}
@@ -19,6 +19,7 @@ use Rattle.router_promises.specs.Terms.{Terms, plan_in, setup_in, tale_at}
 use Rattle.router_promises.specs.Wakes.{has_ended}
 use Rattle.router_promises.specs.Wrong.{IsWait}
 use Rattle.router_promises.specs.Takings.{Taking}
+use Rattle.message_judge.specs.declared.caller.Prepared.{Prepared}
 use Rattle.core_promises.specs.Judges.{Situation, WasTaken, situation_of}
 use Rattle.core_promises.specs.Sessions.{KeepsApart}
 
@@ -85,7 +86,7 @@ user_of {terms} up = ((setup_in terms).accounts up.client.number).user
 abbrev pub AsTaken : {terms : Terms} {payload : List ℕ} → TakesUp terms payload → (Situation → Type 0) → Type 0
 AsTaken {terms} up fact =
     (taking : Taking) → WasTaken (setup_in terms) (plan_in terms) up.log (taken_up up) taking
-    → fact (situation_of (setup_in terms) taking.tale up.client.number)
+    → fact (situation_of (setup_in terms) (plan_in terms) taking)
 
 -- and it goes to a server by this route
 pub record SendsBy (terms : Terms) (payload : List ℕ) (route : Route) : Type 0 where
@@ -104,9 +105,11 @@ pub record AnswersBy (terms : Terms) (payload : List ℕ) (payloads : List (List
   pub nowhere : (plan_in terms).routes (taken_up up) ≡ None
   pub answers : own_at (plan_in terms) (length up.log) (taken_up up) ≡ Some payloads
 
--- a query, the choice of a schema, or the question for a table's columns
+-- a query or a text to be prepared; the choice of a schema, the question for a table's columns, or an execute
 abbrev pub is_for_servers : (byte : ℕ) → Bool
-is_for_servers byte = nat_eq byte com_query || (nat_eq byte com_init_db || nat_eq byte com_field_list)
+is_for_servers byte =
+    (nat_eq byte com_query || nat_eq byte com_prepare)
+    || (nat_eq byte com_init_db || (nat_eq byte com_field_list || nat_eq byte com_execute))
 
 -- rules leave a text in this hostgroup, and it reads neither an insert id nor diagnostics
 pub record StaysIn (home : Hostgroup) (routed : Routed) : Type 0 where
@@ -127,3 +130,8 @@ pub record RefusesUser (user why : List ℕ) (rule : Rule) : Type 0 where
 -- no other flag is set for what comes next
 abbrev pub SetsNoFlag : List Rule → Type 0
 SetsNoFlag rules = (flag : ℕ) → is_first_flag rules flag ≡ true → flag ≡ 0
+
+-- an execute of this statement goes where that was prepared, but for an open transaction, and with its word on sharing the link; of none it goes nowhere
+abbrev pub IsOfStatement : (transaction : Option Hostgroup) → Route → Option Prepared → Type 0
+IsOfStatement transaction route None = ⊥
+IsOfStatement transaction route (Some one) = (route.hostgroup ≡ unwrap_or transaction one.hostgroup) × (route.multiplex ≡ one.multiplex)

@@ -1,12 +1,16 @@
 // What the verdict says of a message that goes to a server; and routers that do otherwise with one: none that keeps its clients apart does so.
-ghost use Rattle.std.specs.Prelude.{◌≡◌, ◌≢◌, ℕ, false, true, List, [], ◌∷◌, slice_index_or, Some, None};
+ghost use Rattle.std.specs.Prelude.{◌≡◌, ◌≢◌, ℕ, false, true, List, [], ◌∷◌, slice_index_or, Option, Some, None};
+ghost use Rattle.std.specs.Option.{option_and_then};
 ghost use Rattle.core_promises.specs.Asks.{IsTextOf};
-ghost use Rattle.core_promises.specs.Judges.{IsVerdictFor, Rulebook, Situation, goes_by, rulebook_of, situation_of, transaction_of};
-ghost use Rattle.core_promises.specs.Wrong.{AnswersBy, AsTaken, AsksFor, RefusesUser, SendsBy, SetsNoFlag, StaysIn, is_for_servers, user_of};
-ghost use Rattle.log_story.specs.Plan.{Route, com_init_db, com_query};
+ghost use Rattle.core_promises.specs.Judges.{IsRoutedFor, Rulebook, Situation, rulebook_of, situation_of, transaction_of};
+ghost use Rattle.core_promises.specs.Statements.{number_named};
+ghost use Rattle.core_promises.specs.Wrong.{AnswersBy, AsTaken, AsksFor, IsOfStatement, RefusesUser, SendsBy, SetsNoFlag, StaysIn, is_for_servers, user_of};
+ghost use Rattle.message_judge.specs.declared.caller.Prepared.{Prepared};
+ghost use Rattle.log_story.specs.Plan.{Route, com_execute, com_init_db, com_prepare, com_query};
 ghost use Rattle.pin_classifier.specs.Classes.{class_of};
 ghost use Rattle.pin_classifier.specs.declared.class.Refusal.{Refusal};
 ghost use Rattle.private_model.specs.Names.{ClientNo, Hostgroup};
+ghost use Rattle.private_model.specs.Story.{Key};
 ghost use Rattle.query_rules.specs.Effects.{is_first_flag};
 ghost use Rattle.query_rules.specs.Passing.{route_of};
 ghost use Rattle.query_rules.specs.declared.ask.Ask.{Ask};
@@ -15,30 +19,30 @@ ghost use Rattle.query_rules.specs.declared.rule.Rule.{Rule};
 ghost use Rattle.reply_text.specs.Replies.{ok_payload};
 ghost use Rattle.router_promises.specs.Router.{home_of};
 ghost use Rattle.router_promises.specs.Takings.{Taking};
-ghost use Rattle.router_promises.specs.Terms.{Terms, setup_in};
+ghost use Rattle.router_promises.specs.Terms.{Terms, plan_in, setup_in};
 ghost use Rattle.router_promises.specs.Verdicts.{com_ping, held_in, transaction_in, user_in};
 
 /// What is so of a client as a message of its is taken up is what the promise of shared links knows of it then.
 pub fn situations_are_promised()
     ensures transaction { (terms : Terms) (taking : Taking)
-        → transaction_of (rulebook_of terms.router) (situation_of (setup_in terms) taking.tale taking.client.number) ≡ transaction_in terms taking }
+        → transaction_of (rulebook_of terms.router) (situation_of (setup_in terms) (plan_in terms) taking) ≡ transaction_in terms taking }
     ensures user { (terms : Terms) (taking : Taking)
-        → (situation_of (setup_in terms) taking.tale taking.client.number).user ≡ user_in terms taking }
+        → (situation_of (setup_in terms) (plan_in terms) taking).user ≡ user_in terms taking }
     ensures pins { (terms : Terms) (taking : Taking) (hostgroup : Hostgroup)
-        → (situation_of (setup_in terms) taking.tale taking.client.number).pins hostgroup ≡ (held_in terms taking hostgroup).pin }
+        → (situation_of (setup_in terms) (plan_in terms) taking).pins hostgroup ≡ (held_in terms taking hostgroup).pin }
 {}
 
 /// Where the verdict says that a message goes to a server, it says so of the client's own text, or of what the rules make of that.
 pub fn verdicts_ask()
-    ensures { (book : Rulebook) (situation : Situation) (c : ClientNo) (payload : List ℕ) (route : Route)
-        → IsVerdictFor book situation c payload (goes_by route) → IsTextOf book.rules payload route.text }
+    ensures { (book : Rulebook) (situation : Situation) (keys : (key : ℕ) → Option Key) (c : ClientNo) (payload : List ℕ) (route : Route)
+        → IsRoutedFor book situation keys c payload route → IsTextOf book.rules payload route.text }
 {}
 
 /// A query goes to its user's default hostgroup where no transaction is open, and where at each flag by which rules may be tried first they leave it
 /// there, as a text that reads neither an insert id nor diagnostics.
 pub fn verdicts_go_home()
-    ensures { (book : Rulebook) (situation : Situation) (c : ClientNo) (text : List ℕ) (route : Route)
-        → IsVerdictFor book situation c (com_query ∷ text) (goes_by route) → transaction_of book situation ≡ None
+    ensures { (book : Rulebook) (situation : Situation) (keys : (key : ℕ) → Option Key) (c : ClientNo) (text : List ℕ) (route : Route)
+        → IsRoutedFor book situation keys c (com_query ∷ text) route → transaction_of book situation ≡ None
         → ((ask : Ask) → ask.text ≡ text → ask.user ≡ situation.user → ask.schema ≡ situation.place.schema
         → ask.default_hostgroup ≡ book.home situation.user → is_first_flag book.rules ask.flag ≡ true
         → StaysIn (book.home situation.user) (route_of book.rules ask)) → route.hostgroup ≡ book.home situation.user }
@@ -46,9 +50,43 @@ pub fn verdicts_go_home()
 
 /// And where a transaction is open it goes to that one's hostgroup, whatever the rules say.
 pub fn verdicts_stay_in_transactions()
-    ensures { (book : Rulebook) (situation : Situation) (c : ClientNo) (text : List ℕ) (route : Route) (hostgroup : Hostgroup)
-        → IsVerdictFor book situation c (com_query ∷ text) (goes_by route) → transaction_of book situation ≡ Some hostgroup
+    ensures { (book : Rulebook) (situation : Situation) (keys : (key : ℕ) → Option Key) (c : ClientNo) (text : List ℕ) (route : Route)
+        (hostgroup : Hostgroup) → IsRoutedFor book situation keys c (com_query ∷ text) route → transaction_of book situation ≡ Some hostgroup
         → route.hostgroup ≡ hostgroup }
+{}
+
+/// An execute goes to a server only of what its client prepared under the number that it names: there where that was prepared, where no transaction
+/// is open, and with what a rule said then of sharing the link.
+pub fn verdicts_run_what_was_prepared()
+    ensures { (book : Rulebook) (situation : Situation) (keys : (key : ℕ) → Option Key) (c : ClientNo) (rest : List ℕ) (route : Route)
+        → IsRoutedFor book situation keys c (com_execute ∷ rest) route
+        → IsOfStatement (transaction_of book situation) route (option_and_then situation.statements (number_named (com_execute ∷ rest))) }
+{}
+
+/// What is prepared gets a number under which nothing was prepared before.
+pub fn verdicts_give_new_numbers()
+    ensures { (book : Rulebook) (situation : Situation) (keys : (key : ℕ) → Option Key) (c : ClientNo) (text : List ℕ) (route : Route)
+        → IsRoutedFor book situation keys c (com_prepare ∷ text) route → situation.given route.number ≡ false }
+{}
+
+/// An execute goes to a server of a statement that its client didn't prepare, or that it closed.
+pub fn runs_what_wasnt_prepared()
+    ensures { (terms : Terms) (rest : List ℕ) (route : Route) (sends : SendsBy terms (com_execute ∷ rest) route)
+        → AsTaken sends.up (λ situation. option_and_then situation.statements (number_named (com_execute ∷ rest)) ≡ None) → ⊥ }
+{}
+
+/// An execute goes elsewhere than its statement was prepared, and no transaction is open.
+pub fn runs_elsewhere()
+    ensures { (terms : Terms) (rest : List ℕ) (route : Route) (sends : SendsBy terms (com_execute ∷ rest) route) (hostgroup : Hostgroup)
+        → AsTaken sends.up (λ situation. transaction_of (rulebook_of terms.router) situation ≡ None)
+        → AsTaken sends.up (λ situation. (one : Prepared) → option_and_then situation.statements (number_named (com_execute ∷ rest)) ≡ Some one
+        → one.hostgroup ≡ hostgroup) → route.hostgroup ≢ hostgroup → ⊥ }
+{}
+
+/// A text is prepared under a number that was given before.
+pub fn gives_a_number_again()
+    ensures { (terms : Terms) (text : List ℕ) (route : Route) (sends : SendsBy terms (com_prepare ∷ text) route)
+        → AsTaken sends.up (λ situation. situation.given route.number ≡ true) → ⊥ }
 {}
 
 /// A query goes elsewhere than to its user's default hostgroup, of a client that has no transaction open as it is taken up, where the rules leave it there.
@@ -72,8 +110,8 @@ pub fn sends_what_is_refused()
         → (class_of text).refusal ≡ Some why → ⊥ }
 {}
 
-/// A command goes to a server that is no query, no choice of a schema and no question for a table's columns: a QUIT, a PING, or one for a prepared
-/// statement.
+/// A command goes to a server that is no query, no text to be prepared, no execute, no choice of a schema and no question for a table's columns: a
+/// QUIT, a PING, a STMT_CLOSE.
 pub fn sends_another_command()
     ensures { (terms : Terms) (payload : List ℕ) (route : Route) → SendsBy terms payload route
         → is_for_servers (slice_index_or payload 0 0) ≡ false → ⊥ }

@@ -1,0 +1,53 @@
+-- Where more is known of what a client prepared, a verdict is so as well.
+use Rattle.std.specs.Prelude.{◌≡◌, ℕ, Bool, true, false, find, is_some, List, Option, Some, None}
+use Rattle.std.specs.Option.{option_and_then}
+use Rattle.std.proofs.Common.{refl, sym, ap, subst, ◌∙◌}
+use Rattle.session_state.specs.declared.pin.Pin.{Pin}
+use Rattle.private_model.specs.Names.{ClientNo, Hostgroup, LinkId}
+use Rattle.private_model.specs.Story.{Key}
+use Rattle.log_story.specs.Plan.{Route}
+use Rattle.router_promises.specs.Verdicts.{Verdict}
+use Rattle.message_judge.specs.declared.caller.Prepared.{Prepared}
+use Rattle.core_promises.specs.Judges.{IsRoutedFor, IsVerdictFor, Rulebook, Situation}
+use Rattle.core_promises.specs.Statements.{number_named}
+
+-- what is so of a client in one is so in the other, but that it may have prepared more under its numbers
+pub record KnowsMore (one other : Situation) : Type 0 where
+  pub user : other.user ≡ one.user
+  pub place : other.place ≡ one.place
+  pub pins : other.pins ≡ one.pins
+  pub homes : other.homes ≡ one.homes
+  pub statements : (number : ℕ) (prepared : Prepared) → one.statements number ≡ Some prepared → other.statements number ≡ Some prepared
+  pub given : (number : ℕ) → one.given number ≡ false → other.given number ≡ false
+
+named : (one other : Situation) → KnowsMore one other → (number : Option ℕ) (prepared : Prepared)
+    → option_and_then one.statements number ≡ Some prepared → option_and_then other.statements number ≡ Some prepared
+named one other within None prepared is = is
+named one other within (Some number) prepared is = within.statements number prepared is
+
+pub verdict_within : (book : Rulebook) (one other : Situation) → KnowsMore one other → (c : ClientNo) (payload : List ℕ) (verdict : Verdict)
+    → IsVerdictFor book one c payload verdict → IsVerdictFor book other c payload verdict
+verdict_within book one other within c payload verdict for = record {
+  known = for.known;
+  client = for.client;
+  login = for.login ∙ sym within.user;
+  home = for.home ∙ ap book.home (sym within.user);
+  place = for.place ∙ sym within.place;
+  transaction = for.transaction ∙ ap (λ (pins : Hostgroup → Pin). find (λ (h : Hostgroup). (pins h).tx) book.hostgroups) (sym within.pins);
+  pins = for.pins ∙ sym within.pins;
+  there = λ h some. for.there h (ap (λ (homes : Hostgroup → Option LinkId). is_some (homes h)) (sym within.homes) ∙ some);
+  flag = for.flag;
+  prepared = λ prepared is. named one other within (number_named payload) prepared (for.prepared prepared is);
+  number = λ n is. within.given n (for.number n is);
+  is = for.is;
+}
+
+pub routed_within : (book : Rulebook) (one other : Situation) → KnowsMore one other → (keys more : (key : ℕ) → Option Key)
+    → ((k : ℕ) (key : Key) → keys k ≡ Some key → more k ≡ Some key) → (c : ClientNo) (payload : List ℕ) (route : Route)
+    → IsRoutedFor book one keys c payload route → IsRoutedFor book other more c payload route
+routed_within book one other within keys more keep c payload route routed = record {
+  wanted = routed.wanted;
+  routed = routed.routed;
+  keyed = λ key is. keep route.key key (routed.keyed key is);
+  is = verdict_within book one other within c payload _ routed.is;
+}
