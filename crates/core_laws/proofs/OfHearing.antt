@@ -21,3 +21,7 @@ pub mod Ended
 pub mod Entering
 pub mod Reading
 pub mod Preparing
+pub mod Answered
+pub mod Making
+pub mod Filing
+pub mod Made

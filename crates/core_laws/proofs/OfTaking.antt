@@ -3,6 +3,7 @@ pub mod Going
 pub mod Owing
 pub mod Behind
 pub mod Standing
+pub mod Requested
 pub mod Leaving
 pub mod Laws
 pub mod Joining

@@ -1,5 +1,5 @@
 -- How the row of a client stands for it.
-use Rattle.std.specs.Prelude.{◌≡◌, ◌<◌, ◌≤◌, ◌-◌, ◌++◌, ℕ, suc, length, slice_get, Bool, true, false, not, is_some, List, [], Option, Some, None}
+use Rattle.std.specs.Prelude.{◌≡◌, ◌<◌, ◌≤◌, ◌+◌, ◌-◌, ◌++◌, ℕ, suc, nat_eq, length, slice_get, slice_index_or, Bool, true, false, not, is_some, List, [], Option, Some, None}
 use Rattle.std.specs.Option.{option_map}
 use Rattle.mx_base.specs.declared.names.Hostgroup.{Hostgroup}
 use Rattle.server_side.specs.Account.{Account as Login}
@@ -7,12 +7,12 @@ use Rattle.packet_frame.specs.Packets.{Framed, next_id}
 use Rattle.private_model.specs.View.{present}
 use Rattle.log_story.specs.Clients.{is_answered}
 use Rattle.log_story.specs.Honest.{IsFront}
-use Rattle.log_story.specs.Owed.{due_bytes, messages, name_of}
-use Rattle.log_story.specs.Plan.{Route, word_at}
+use Rattle.log_story.specs.Owed.{due_bytes, messages, name_of, number_of}
+use Rattle.log_story.specs.Plan.{Route, com_prepare, word_at}
 use Rattle.log_story.specs.Servers.{logged_in_as}
 use Rattle.log_story.specs.Tale as tales
 use Rattle.session_vars.specs.Settings.{collation_settings}
-use Rattle.link_state.specs.declared.wish.Command.TheVariants.{Plain}
+use Rattle.link_state.specs.declared.wish.Command.TheVariants.{Prepare}
 use Rattle.client_seat.specs.Seats.{account_in, is_ended}
 use Rattle.client_seat.specs.declared.seat.Seat.{Seat}
 use Rattle.client_seat.specs.declared.phase.Phase.{Phase}
@@ -24,12 +24,20 @@ use Rattle.desk_laws.specs.Stands.{AreToCome, IsDesk}
 use Rattle.core_tables.specs.declared.client.Client.{Client}
 use Rattle.core_stands.specs.Grounds.{Ground, known_on, view_on}
 
+-- What is prepared gets the client's next number.
+abbrev pub IsNumberedNext : Ground → tales.Client → Client → Work → Type 0
+IsNumberedNext g client row work =
+    (number_of g.plan (name_of client work.ordinal) ≡ row.desk.seat.statements.last + 1) × (row.desk.seat.statements.last < 4294967295)
+
 -- Its statement in work is its last message, which went to that hostgroup, and its reply goes on from that message's id. Before it is sent
 -- nothing of a reply came, and behind that it is where its session is.
 pub record IsWorking (g : Ground) (client : tales.Client) (row : Client) (work : Work) : Type 0 where
   pub last : work.ordinal ≡ client.taken
   pub went : row.went ≡ Some work.hostgroup
-  pub command : work.command ≡ Plain
+  pub number : work.command ≡ Prepare → IsNumberedNext g client row work
+  pub only : 0 < number_of g.plan (name_of client work.ordinal) → work.command ≡ Prepare
+  pub prepares : work.command ≡ Prepare → (message : Framed) → slice_get (messages g.plan client) (client.taken - 1) ≡ Some message
+      → nat_eq (slice_index_or message.payload 0 0) com_prepare ≡ true
   pub first : (message : Framed) → slice_get (messages g.plan client) (client.taken - 1) ≡ Some message → row.desk.seat.first ≡ next_id message.last
   pub unsent : work.sent ≡ false → row.desk.seat.outbox.coming ≡ []
   pub there : work.sent ≡ true → (session_of row.desk work.hostgroup).home ≡ (view_on g).carriers (name_of client work.ordinal)

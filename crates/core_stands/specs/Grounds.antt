@@ -1,5 +1,5 @@
 -- What a core stands for: a tale, by one setup and one plan.
-use Rattle.std.specs.Prelude.{◌≡◌, Bool, false, not, ◌&&◌, ◌||◌}
+use Rattle.std.specs.Prelude.{◌≡◌, ℕ, Some, Bool, false, not, ◌&&◌, ◌||◌}
 use Rattle.client_seat.specs.Stands.{Known}
 use Rattle.private_model.specs.Names.{ClientNo, LinkId}
 use Rattle.private_model.specs.Story.{is_client}
@@ -7,6 +7,10 @@ use Rattle.private_model.specs.View.{Setup, View}
 use Rattle.link_laws.specs.Stands.{Codes}
 use Rattle.log_story.specs.Plan.{Plan, is_by_now}
 use Rattle.log_story.specs.Tale.{Tale, first_tale, view_of}
+
+-- code has the law's keys for numbers
+abbrev pub AreNamed : Codes → Type 0
+AreNamed codes = (key : ℕ) → codes key ≡ Some key
 
 -- `codes` are the numbers that code has for the law's keys; `over` says who ended, and `fresh` of whom bytes were read that weren't looked at.
 pub record Ground : Type 0 where

@@ -5,13 +5,14 @@ use Rattle.reply_track.specs.Tracking.{started}
 use Rattle.mx_base.specs.declared.tag.Tag.{Tag}
 use Rattle.mx_base.specs.declared.tag.Tag.TheVariants as tags
 use Rattle.private_model.specs.Commands as commands
-use Rattle.private_model.specs.Commands.{Command}
+use Rattle.private_model.specs.Commands.{Command, Run}
 use Rattle.private_model.specs.Names.{LinkId, SessionName}
 use Rattle.private_model.specs.Story as story
 use Rattle.private_model.specs.Story.{Due, message_of}
 use Rattle.private_model.specs.View as view
 use Rattle.private_model.specs.View.{Link, View}
 use Rattle.tale_world.specs.Tests.{is_told_key}
+use Rattle.log_story.specs.Owed.{number_of}
 use Rattle.log_story.specs.Plan as plan
 use Rattle.log_story.specs.Plan.{step_payload, text_payload}
 use Rattle.log_story.specs.Servers.{reply_id}
@@ -20,8 +21,6 @@ use Rattle.log_story.specs.Tale.{is_to_server, link_in}
 use Rattle.link_state.specs.Asks.{kind_of}
 use Rattle.link_state.specs.Spells.{spelt}
 use Rattle.link_state.specs.declared.asking.Asking.{Asking}
-use Rattle.link_state.specs.declared.asking.Form.{Form}
-use Rattle.link_state.specs.declared.asking.Form.TheVariants as forms
 use Rattle.link_state.specs.declared.asking.Purpose.{Purpose}
 use Rattle.link_state.specs.declared.asking.Purpose.TheVariants as purposes
 use Rattle.link_state.specs.declared.state.Carried.{Carried}
@@ -37,7 +36,7 @@ use Rattle.row_laws.specs.Rows.{IsRowIn}
 use Rattle.row_laws.specs.Unread.{sought}
 use Rattle.row_laws.specs.Whose.{OfStatement}
 use Rattle.client_desk.specs.declared.work.Work.{Work}
-use Rattle.desk_laws.specs.Stands.{is_text}
+use Rattle.desk_laws.specs.Stands.{is_text, message_at}
 use Rattle.step_laws.specs.Seats.{IsSeated}
 use Rattle.core_tables.specs.Tables.{Tabled}
 use Rattle.core_tables.specs.declared.client.Client.{Client}
@@ -70,15 +69,20 @@ pub record IsTakenUp (g : Ground) (n : SessionName) (ordinal : ℕ) : Type 0 whe
   pub number : client.number ≡ n.client
   pub by_now : ordinal ≤ client.taken
 
-abbrev pub is_preparing : Form → Bool
-is_preparing (forms.Prepare class) = true
-is_preparing _ = false
+-- what a client asks for is a text, or the execute of one
+abbrev pub IsAskedFor : Command → Type 0
+IsAskedFor (Run text schema settings args) = Unit {0}
+IsAskedFor command = is_text command ≡ true
+
+-- the client's number of what its message prepares
+abbrev pub own_number : Ground → SessionName → (ordinal : ℕ) → ℕ
+own_number g n ordinal = number_of g.plan (message_at n.client ordinal)
 
 pub record IsNextStatement (g : Ground) (t : Tabled) (row : Row) (link : Link) (asking : Asking) (n : SessionName) (ordinal : ℕ) : Type 0 where
   pub said : (due : Due) → (view_on g).dues n ≡ Some due → due.ordinal ≡ ordinal → IsReadied g.setup.reads g.codes row link asking (story.Statement n due)
   pub first : IsFirst t n ordinal row.link.first
-  pub text : (due : Due) → (view_on g).dues n ≡ Some due → due.ordinal ≡ ordinal → is_text due.command ≡ true
-  pub plain : is_preparing asking.form ≡ false
+  pub asked : (due : Due) → (view_on g).dues n ≡ Some due → due.ordinal ≡ ordinal → IsAskedFor due.command
+  pub number : row.link.number ≡ own_number g n ordinal
   pub taken_up : IsTakenUp g n ordinal
 
 -- The text of what is due is prepared first: the link was told its place, and stays so until that begins.
@@ -122,7 +126,7 @@ pub record IsReplying (g : Ground) (t : Tabled) (l : LinkId) (row : Row) (asking
   pub last : work.ordinal ≡ ordinal
   pub sent : work.sent ≡ true
   pub hostgroup : work.hostgroup ≡ n.hostgroup
-  pub plain : is_preparing asking.form ≡ false
+  pub number : row.link.number ≡ own_number g n ordinal
   pub first : client.desk.seat.first ≡ row.link.first
   pub coming : client.desk.seat.outbox.coming
       ≡ renumbered (started (sought (kind_of asking.form) (reply_id (g.tale.wires l)) row.link.first row.link.number)) (g.tale.wires l).unread

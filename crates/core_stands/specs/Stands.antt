@@ -83,7 +83,7 @@ ArePrepared g t =
     (client : tales.Client) → IsSeated g.tale client → (row : Client) → t.clients client.number ≡ Some row
     → is_ended row.desk.seat.phase ≡ false → IsPrepared g client row
 
--- What became due goes by the route of its message, and only what is prepared gets a number of its client's: a text, by the route's key and where
+-- What became due goes by the route of its message, in its hostgroup and with its word on sharing the link, and only what is prepared gets a number of its client's: a text, by the route's key and where
 -- its client stands; or an execute of what is prepared by its key, with whole arguments.
 
 abbrev pub IsTextAt : Key → (text schema : List ℕ) → (settings : List SlotValue) → Type 0
@@ -91,13 +91,16 @@ IsTextAt key text schema settings =
     (text ≡ key.text) × ((schema ≡ key.place.schema) × (core settings ≡ core key.place.settings))
 
 abbrev pub IsKeyedFor : Setup → Route → Due → Command → Type 0
-IsKeyedFor setup route due (Prepare text) = (route.key ≡ due.key) × (setup.keys due.key ≡ record { text = text; place = due.place })
+IsKeyedFor setup route due (Prepare text) =
+    (route.key ≡ due.key) × ((setup.keys due.key ≡ record { text = text; place = due.place }) × (0 < route.number))
 IsKeyedFor setup route due (Run text schema settings args) = (route.number ≡ 0) × IsTextAt (setup.keys due.key) text schema settings
 IsKeyedFor setup route due _ = route.number ≡ 0
 
 pub record IsDuly (setup : Setup) (plan : Plan) (n : SessionName) (due : Due) : Type 0 where
   pub route : Route
   pub routed : plan.routes (message_of n due) ≡ Some route
+  pub hostgroup : route.hostgroup ≡ n.hostgroup
+  pub multiplex : route.multiplex ≡ due.multiplex
   pub keyed : IsKeyedFor setup route due due.command
   pub whole : HasArgs due.command
 

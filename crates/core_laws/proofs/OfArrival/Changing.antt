@@ -205,7 +205,6 @@ pub record IsChange (g : Ground) (by : Aside) (t now : Tabled) (c : ClientNo) (f
   pub others : (other : ClientNo) → is_client c other ≡ false → now.clients other ≡ t.clients other
   pub numbers : (l : LinkId) → now.numbers l ≡ t.numbers l
   pub links : (l : LinkId) → now.links l ≡ t.links l
-  pub keeps : is_ended seat.phase ≡ false → KeepsPrepared row.desk.seat seat
 
 -- a row with the sessions of another
 pub record IsWith (t : Tabled) (c : ClientNo) (row other : Client) : Type 0 where
@@ -217,7 +216,7 @@ module _ (g : Ground) (by : Aside) (t now : Tabled) (c : ClientNo) (f : tales.Cl
   abbrev after : Ground
   after = regrounded by g
 
-  kept-by : (n : ClientNo) (b : Bool) → is_client c n ≡ b → is_some (now.clients n) ≡ is_some (t.clients n)
+  pub kept-by : (n : ClientNo) (b : Bool) → is_client c n ≡ b → is_some (now.clients n) ≡ is_some (t.clients n)
   kept-by n true is =
       subst (λ (m : ClientNo). is_some (now.clients m) ≡ is_some (t.clients m)) (client-true c n is)
       (ap is_some change.changed ∙ sym (ap is_some change.there))
@@ -257,7 +256,7 @@ module _ (g : Ground) (by : Aside) (t now : Tabled) (c : ClientNo) (f : tales.Cl
   home-so : (l : LinkId) (n : SessionName) (server : Server) → IsHome t l n server → IsHome now l n server
   home-so l n server is = record { there = change.links l ∙ is.there; carries = is.carries; present = is.present; whole = is.whole }
 
-  are-homes : AreHomes g t → AreHomes after now
+  pub are-homes : AreHomes g t → AreHomes after now
   are-homes are = record {
     carried = λ n r h l there home.
         let old = had-by n r (is_client c n) refl there in
@@ -273,7 +272,7 @@ module _ (g : Ground) (by : Aside) (t now : Tabled) (c : ClientNo) (f : tales.Cl
 
   -- what links read
 
-  read-by : (glance (reseat seat row) ≡ glance row) ⊎ (row.desk.work ≡ None) → (n : ClientNo) (b : Bool) → is_client c n ≡ b → IsGlanced t now n ⊎ AreIdle t now n
+  pub read-by : (glance (reseat seat row) ≡ glance row) ⊎ (row.desk.work ≡ None) → (n : ClientNo) (b : Bool) → is_client c n ≡ b → IsGlanced t now n ⊎ AreIdle t now n
   read-by (inl same) n true is =
       inl (subst (λ (m : ClientNo). IsGlanced t now m) (client-true c n is)
       (ap (option_map glance) change.changed ∙ ap (λ seen. Some seen) same ∙ sym (ap (option_map glance) change.there)))
@@ -285,17 +284,18 @@ module _ (g : Ground) (by : Aside) (t now : Tabled) (c : ClientNo) (f : tales.Cl
       }))
   read-by same n false is = inl (ap (option_map glance) (change.others n is))
 
-  row-before : (n : ClientNo) (r : Client) → now.clients n ≡ Some r → is_ended r.desk.seat.phase ≡ false → (b : Bool) → is_client c n ≡ b → RowOf t n r
-  row-before n r there going true is =
+  row-before : (is_ended seat.phase ≡ false → KeepsPrepared row.desk.seat seat) → (n : ClientNo) (r : Client) → now.clients n ≡ Some r
+      → is_ended r.desk.seat.phase ≡ false → (b : Bool) → is_client c n ≡ b → RowOf t n r
+  row-before keeps n r there going true is =
       let same = client-true c n is in
       let r_is : reseat seat row ≡ r = same-some (now.clients n) (reseat seat row) r (ap now.clients (sym same) ∙ change.changed) there in
       row_kept t n row r (ap t.clients (sym same) ∙ change.there)
-      (subst (λ (x : Client). KeepsPrepared row.desk.seat x.desk.seat) r_is (change.keeps (ap (λ (x : Client). is_ended x.desk.seat.phase) r_is ∙ going)))
-  row-before n r there going false is = row_itself t n r (sym (change.others n is) ∙ there) going
+      (subst (λ (x : Client). KeepsPrepared row.desk.seat x.desk.seat) r_is (keeps (ap (λ (x : Client). is_ended x.desk.seat.phase) r_is ∙ going)))
+  row-before keeps n r there going false is = row_itself t n r (sym (change.others n is) ∙ there) going
 
-  pub stands-by : InWork → RowsStay → (service : Service) → Stands service g t → (glance (reseat seat row) ≡ glance row) ⊎ (row.desk.work ≡ None)
-      → All IsStood g.tale.clients → Stands service after now
-  stands-by in_work stay service was same each = record {
+  pub stands-by : InWork → RowsStay → (service : Service) → Stands service g t → (is_ended seat.phase ≡ false → KeepsPrepared row.desk.seat seat)
+      → (glance (reseat seat row) ≡ glance row) ⊎ (row.desk.work ≡ None) → All IsStood g.tale.clients → Stands service after now
+  stands-by in_work stay service was keeps same each = record {
     service_is = was.service_is;
     room_is = was.room_is;
     clients = are-clients g by t now f told-so was.clients each;
@@ -305,7 +305,7 @@ module _ (g : Ground) (by : Aside) (t now : Tabled) (c : ClientNo) (f : tales.Cl
     homes = are-homes was.homes;
     lawful = was.lawful;
     prepared = told_prepared g after.tale by.over by.fresh t now f change.clients change.number change.taken change.more was.clients was.prepared
-        (λ n r there going. row-before n r there going (is_client c n) refl);
+        (λ n r there going. row-before keeps n r there going (is_client c n) refl);
     duly = was.duly;
   }
 

@@ -130,7 +130,7 @@ module _ (g : Ground) (by : Aside) (n : ℕ) (client : tales.Client) (row : Clie
       over-like g by client (fuller n client) like row (wrote n seat) (over ∙ is.over)
       (ap (λ (m : ℕ). word_at g.plan m client.number) moment) is
   phase-in false is =
-      going-like g by client (fuller n client) like row (wrote n seat) (over ∙ is.going) refl refl (λ busy. refl) (λ busy message at. at)
+      going-like g by client (fuller n client) like row (wrote n seat) (over ∙ is.going) refl refl (λ busy. (refl, refl)) (λ busy message at. at)
       is.account is.collation is.unmoved is
 
   got-so : by.fresh client.number ≡ g.fresh client.number → IsClient g client row → IsClient after (fuller n client) (reseat (wrote n seat) row)
@@ -169,7 +169,6 @@ module _ (in_work : InWork) (stay : RowsStay) (service : Service) (g : Ground) (
     others = λ other apart. same.clients other ∙ put-other c other _ t apart;
     numbers = same.numbers;
     links = same.links;
-    keeps = λ on. record { going = on; statements = refl; answered = refl };
   }
 
   other-so : (c : ClientNo) (client x : tales.Client) → IsKnown g c client → client.link ≡ link → IsAt g t x → is_client c x.number ≡ false
@@ -198,7 +197,8 @@ module _ (in_work : InWork) (stay : RowsStay) (service : Service) (g : Ground) (
       let aside : is_to_server g.tale link ≡ false = ap (is_to_server g.tale) (sym named.2) ∙ at.aside in
       let changes = change c row there same in
       subst (λ (tale : Tale). Stands service (on g tale) now) (sym (written-tale g link tag bytes aside))
-      (stands-by g gets_by t now c f row (wrote (length bytes) row.desk.seat) changes in_work stay service was (inl refl)
+      (stands-by g gets_by t now c f row (wrote (length bytes) row.desk.seat) changes in_work stay service was
+      (λ on. record { going = on; statements = refl; answered = refl }) (inl refl)
       (each-by g gets_by t now c f row (wrote (length bytes) row.desk.seat) changes client named.1 was.clients
       (own-so c client row was named.1 named.2 there within)
       (λ x here apart. other-so c client x named.1 named.2 here apart (is_link_id x.link link) refl)))

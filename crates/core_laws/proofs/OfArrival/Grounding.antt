@@ -68,8 +68,8 @@ module _ (by : Aside) (g : Ground) (t : Tabled) (on : GoOn g.tale (regrounded by
   next-statement n ordinal row link asking is = record {
     said = is.said;
     first = is.first;
-    text = is.text;
-    plain = is.plain;
+    asked = is.asked;
+    number = is.number;
     taken_up = taken-so n ordinal is.taken_up;
   }
 
@@ -97,7 +97,7 @@ module _ (by : Aside) (g : Ground) (t : Tabled) (on : GoOn g.tale (regrounded by
     last = is.last;
     sent = is.sent;
     hostgroup = is.hostgroup;
-    plain = is.plain;
+    number = is.number;
     first = is.first;
     coming = is.coming;
   }

@@ -1,5 +1,5 @@
 -- A client stands in another ground as one that is like it stood: what it is owed, and which of its messages are answered, is the same.
-use Rattle.std.specs.Prelude.{◌≡◌, ◌≤◌, ◌+◌, ◌-◌, ℕ, zero, suc, Bool, true, false, not, ◌||◌, is_some, nat_eq, if◌then◌else◌, length, slice_get, take, List, [], ◌∷◌, ◌++◌, Option, Some, None}
+use Rattle.std.specs.Prelude.{◌≡◌, ◌<◌, ◌≤◌, ◌+◌, ◌-◌, ℕ, zero, suc, Bool, true, false, not, ◌||◌, is_some, nat_eq, if◌then◌else◌, length, slice_get, take, List, [], ◌∷◌, ◌++◌, Option, Some, None}
 use Rattle.std.specs.Option.{option_map}
 use Rattle.std.proofs.Common.{◌∙◌, refl, sym, ap, subst, arith}
 use Rattle.std.proofs.lemmas.List.{length-take}
@@ -19,6 +19,7 @@ use Rattle.client_seat.specs.declared.phase.Phase.{Phase}
 use Rattle.client_seat.specs.declared.phase.Phase.TheVariants as phase
 use Rattle.client_seat.specs.declared.seat.Seat.{Seat}
 use Rattle.client_desk.specs.declared.work.Work.{Work}
+use Rattle.stmt_map.specs.declared.client.ClientStatements.{ClientStatements}
 use Rattle.core_tables.specs.declared.client.Client.{Client}
 use Rattle.core_stands.specs.Clients.{IsClientOr, IsFrontOf, IsGoing, IsOver, IsOwing, IsPhase, IsWorkingOr}
 use Rattle.core_stands.specs.Grounds.{Ground, known_on, view_on}
@@ -105,26 +106,38 @@ module _ (g : Ground) (by : Aside) (x y : tales.Client) (like : IsLike g by x y)
   abbrev IsUnmoved : Seat → Type 0
   IsUnmoved seat = seat.phase ≡ phase.LoggingIn → (view_on g).places y.number ≡ g.setup.places y.number
 
+  -- what its work needs of its seat is there still
+  abbrev AreKept : (old new : Seat) → Type 0
+  AreKept old new = (new.first ≡ old.first) × (new.statements ≡ old.statements)
+
   abbrev IsSaid : Option Work → Type 0
   IsSaid work = is_some work ≡ true → (message : Framed) → slice_get (messages g.plan y) (x.taken - 1) ≡ Some message
       → slice_get (messages g.plan x) (x.taken - 1) ≡ Some message
 
   working-like : (row : Client) (seat : Seat) (work : Option Work) → seat.outbox.coming ≡ row.desk.seat.outbox.coming
-      → (is_some work ≡ true → seat.first ≡ row.desk.seat.first) → IsSaid work → IsWorkingOr g x row work → IsWorkingOr after y (reseat seat row) work
-  working-like row seat None same first said is = same ∙ is
-  working-like row seat (Some work) same first said is = record {
+      → (is_some work ≡ true → AreKept row.desk.seat seat) → IsSaid work → IsWorkingOr g x row work → IsWorkingOr after y (reseat seat row) work
+  working-like row seat None same kept said is = same ∙ is
+  working-like row seat (Some work) same kept said is = record {
     last = is.last ∙ sym like.taken;
     went = is.went;
-    command = is.command;
-    first = λ message at. first refl ∙ is.first message (said refl message (ap (λ (n : ℕ). slice_get (messages g.plan y) (n - 1)) (sym like.taken) ∙ at));
+    number = λ prepares.
+        let next = is.number prepares in
+        let last : seat.statements.last ≡ row.desk.seat.statements.last = ap (λ (s : ClientStatements). s.last) (kept refl).1 in (
+          ap (number_of g.plan) (λ i. record { client = like.number i; ordinal = work.ordinal }) ∙ next.0 ∙ ap (λ (n : ℕ). n + 1) (sym last),
+          subst (λ (n : ℕ). n < 4294967295) (sym last) next.1,
+        );
+    only = λ some. is.only (subst (λ (n : ℕ). 0 < n) (ap (number_of g.plan) (λ i. record { client = like.number i; ordinal = work.ordinal })) some);
+    prepares = λ prepares message at.
+        is.prepares prepares message (said refl message (ap (λ (n : ℕ). slice_get (messages g.plan y) (n - 1)) (sym like.taken) ∙ at));
+    first = λ message at. (kept refl).0 ∙ is.first message (said refl message (ap (λ (n : ℕ). slice_get (messages g.plan y) (n - 1)) (sym like.taken) ∙ at));
     unsent = λ unsent. same ∙ is.unsent unsent;
     there = λ sent. is.there sent ∙ ap (view_on g).carriers (λ i. record { client = sym like.number i; ordinal = work.ordinal });
   }
 
   pub going-like : (row : Client) (seat : Seat) → by.over y.number ≡ false → seat.answered ≡ row.desk.seat.answered
-      → seat.outbox.coming ≡ row.desk.seat.outbox.coming → (is_some row.desk.work ≡ true → seat.first ≡ row.desk.seat.first) → IsSaid row.desk.work
+      → seat.outbox.coming ≡ row.desk.seat.outbox.coming → (is_some row.desk.work ≡ true → AreKept row.desk.seat seat) → IsSaid row.desk.work
       → LogsInAs seat → Collates seat → IsUnmoved seat → IsGoing g x row → IsGoing after y (reseat seat row)
-  going-like row seat over answered coming first said account collation unmoved is = record {
+  going-like row seat over answered coming kept said account collation unmoved is = record {
     going = over;
     earlier = λ ordinal below.
         let within : ordinal ≤ x.taken = omega (arith, below, like.taken) in
@@ -133,7 +146,7 @@ module _ (g : Ground) (by : Aside) (x y : tales.Client) (like : IsLike g by x y)
     went = is.went ∙ ap (λ (m : MessageName). option_map (λ (route : Route). route.hostgroup) (g.plan.routes m))
         (λ i. record { client = sym like.number i; ordinal = sym like.taken i });
     busy = is.busy ∙ ap not (sym answered);
-    working = working-like row seat row.desk.work coming first said is.working;
+    working = working-like row seat row.desk.work coming kept said is.working;
     unmoved = unmoved;
     account = account;
     collation = collation;
@@ -168,7 +181,7 @@ module _ (g : Ground) (by : Aside) (x : tales.Client) (before : IsAsBefore g by 
   phase-before : (row : Client) (ended : Bool) → IsPhase ended g x row → IsPhase ended later x row
   phase-before row true is = over-like g by x x like row row.desk.seat (before.over ∙ is.over) (before.word is.over) is
   phase-before row false is =
-      going-like g by x x like row row.desk.seat (before.over ∙ is.going) refl refl (λ busy. refl) (λ busy message at. at) is.account is.collation is.unmoved is
+      going-like g by x x like row row.desk.seat (before.over ∙ is.going) refl refl (λ busy. (refl, refl)) (λ busy message at. at) is.account is.collation is.unmoved is
 
   over-of : (row : Client) (ended : Bool) → IsPhase ended g x row → ended ≡ true → g.over x.number ≡ true
   over-of row true is does = is.over

@@ -84,7 +84,6 @@ module _ (in_work : InWork) (stay : RowsStay) (goes : Goes) (waits : Waits_so) (
     others = λ other apart. same.clients other ∙ put-other c other _ t apart;
     numbers = same.numbers;
     links = same.links;
-    keeps = λ on. keeps-so new there;
   }
 
   other-so : (x : tales.Client) → IsAt g t x → is_client c x.number ≡ false → IsClientOr after x (t.clients x.number)
@@ -98,7 +97,7 @@ module _ (in_work : InWork) (stay : RowsStay) (goes : Goes) (waits : Waits_so) (
 
   stood : Stood g now client row
   stood new there read stands =
-      stands-by g by t now c (λ (x : tales.Client). x) row new (change new there) in_work stay g.plan.service was read
+      stands-by g by t now c (λ (x : tales.Client). x) row new (change new there) in_work stay g.plan.service was (λ on. keeps-so new there) read
       (each-by g by t now c (λ (x : tales.Client). x) row new (change new there) client look.known was.clients stands other-so)
 
   -- it is served
@@ -106,7 +105,7 @@ module _ (in_work : InWork) (stay : RowsStay) (goes : Goes) (waits : Waits_so) (
   going-then : IsGoing after client (reseat seat row)
   going-then =
       going-like g by client client (record { number = refl; taken = refl; own = λ ordinal below. refl }) row seat going.going refl refl
-      (λ busy. refl) (λ busy message at. at) going.account going.collation going.unmoved going
+      (λ busy. (refl, refl)) (λ busy message at. at) going.account going.collation going.unmoved going
 
   served-client : (account : Account) → seat.phase ≡ phase.Serving account → IsClient after client (reseat seat row)
   served-client account serves =

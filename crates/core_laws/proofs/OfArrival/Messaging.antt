@@ -145,7 +145,7 @@ module _ (g : Ground) (now : Tabled) (client : tales.Client) (row : Client) wher
       coming = own.coming;
       phase = subst (λ (at : Phase). IsPhase (is_ended at) after client (reseat (framed framer first) row)) (sym serves)
           (going-like after (looking after fresh) client client (record { number = refl; taken = refl; own = λ ordinal below. refl })
-          (reseat seat row) (framed framer first) going.going refl refl same (λ busy message at. at) going.account going.collation going.unmoved going);
+          (reseat seat row) (framed framer first) going.going refl refl (λ busy. (same busy, refl)) (λ busy message at. at) going.account going.collation going.unmoved going);
     }
 
     -- how much waits for it

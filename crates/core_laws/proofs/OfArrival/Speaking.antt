@@ -169,7 +169,7 @@ module _ (g : Ground) (by : Aside) (bytes : List ℕ) (client : tales.Client) (r
       → IsPhase ended after (more bytes client) (reseat (keeping bytes seat) row)
   phase-in true isnt unended heard is = false-true true isnt refl
   phase-in false isnt unended heard is =
-      going-like g by client (more bytes client) like row (keeping bytes seat) (over ∙ is.going) refl refl (λ busy. refl)
+      going-like g by client (more bytes client) like row (keeping bytes seat) (over ∙ is.going) refl refl (λ busy. (refl, refl))
       (said-in seat.phase heard unended is) is.account is.collation is.unmoved is
 
   pub spoken : ((plan : Plan) (x : tales.Client) (s : Seat) (other : List ℕ) → IsHeard plan x s → IsHeard plan (more other x) (got other s))
@@ -209,7 +209,6 @@ module _ (in_work : InWork) (stay : RowsStay) (hears : Hears) (service : Service
     others = λ other apart. same.clients other ∙ put-other c other _ t apart;
     numbers = same.numbers;
     links = same.links;
-    keeps = λ on. record { going = unended; statements = refl; answered = refl };
   }
 
   other-so : (c : ClientNo) (client x : tales.Client) → Stands service g t → IsKnown g c client → client.link ≡ link → IsAt g t x → is_client c x.number ≡ false
@@ -242,7 +241,8 @@ module _ (in_work : InWork) (stay : RowsStay) (hears : Hears) (service : Service
       let aside : is_to_server g.tale link ≡ false = ap (is_to_server g.tale) (sym named.2) ∙ at.aside in
       let changes = change c row there unended same in
       subst (λ (tale : Tale). Stands service (freshened c (on g tale)) now) (sym (heard-tale g link bytes aside))
-      (stands-by g (spoken_by c) t now c f row (keeping bytes row.desk.seat) changes in_work stay service was (inl refl)
+      (stands-by g (spoken_by c) t now c f row (keeping bytes row.desk.seat) changes in_work stay service was
+      (λ on. record { going = unended; statements = refl; answered = refl }) (inl refl)
       (each-by g (spoken_by c) t now c f row (keeping bytes row.desk.seat) changes client named.1 was.clients
       (own-so c client row was named.1 named.2 there unended)
       (λ x here apart. other-so c client x was named.1 named.2 here apart (is_link_id x.link link) refl)))

@@ -51,7 +51,7 @@ use Rattle.core_laws.specs.clients.Turns.{Choice, Ends, Halt, Quits, Rests as Re
 pub record Laws : Type 0 where
   pub turns : (service : Service) (default : List ℕ) (first client : tales.Client) (from : Tale) (g : Ground) (t now : Tabled)
       (choices : List Choice) (halt : Halt) → IsTurning service default first from g t client
-      → PlanHas choices halt g.plan g.tale.moment (name_of client (suc client.taken))
+      → PlanHas choices halt g.setup.keys g.plan g.tale.moment (name_of client (suc client.taken))
       → Turns choices halt service default client.number t now
       → StandsBehind halt service first from (client.taken + count_by choices halt) g client.number now
   pub leaves : (service : Service) (g : Ground) (t : Tabled) (client : tales.Client) (row : Client) (by : Seat → Seat) → Stands service g t

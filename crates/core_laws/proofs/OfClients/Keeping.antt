@@ -116,7 +116,7 @@ module _ (service : Service) (default : List ℕ) (c : ClientNo) where
   answer_keeps false old between new row flag packets statements up makes = changes_then old between _ new up makes
 
   turn_keeps : (choice : Choice) (old new : Tabled) → IsTurn choice service default c old new → KeepsRows old new
-  turn_keeps (Goes route) old new turn = changes_then old turn.between _ new turn.up turn.same
+  turn_keeps (Goes route keyed) old new turn = changes_then old turn.between _ new turn.up turn.same
   turn_keeps (Answers payloads) old new turn =
       answer_keeps (is_reset turn.up.message) old turn.between new turn.up.row turn.flag turn.packets turn.statements turn.up turn.makes
 

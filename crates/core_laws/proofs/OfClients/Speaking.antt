@@ -94,8 +94,8 @@ module _ (service : Service) (default : List ℕ) (g : Ground) (t now : Tabled) 
     unrouted = is.unrouted;
   }
 
-  pub chosen : PlanHas choices halt g.plan (counted heard).moment (name_of said (suc said.taken))
-  chosen = subst (λ (m : ℕ). PlanHas choices halt g.plan (suc m) (name_of said (suc said.taken))) (sym moment_is) is.chosen
+  pub chosen : PlanHas choices halt g.setup.keys g.plan (counted heard).moment (name_of said (suc said.taken))
+  chosen = subst (λ (m : ℕ). PlanHas choices halt g.setup.keys g.plan (suc m) (name_of said (suc said.taken))) (sym moment_is) is.chosen
 
   -- it is behind its turns
 

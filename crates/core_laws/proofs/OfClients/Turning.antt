@@ -10,14 +10,14 @@ use Rattle.private_model.specs.Story.{Left, is_client}
 use Rattle.private_model.specs.View.{Setup, present}
 use Rattle.log_story.specs.Clients.{taken_by, taken_up, waits_for_capture}
 use Rattle.log_story.specs.Owed.{messages, name_of}
-use Rattle.log_story.specs.Plan.{Route, word_at}
+use Rattle.log_story.specs.Plan.{Plan, Route, word_at}
 use Rattle.log_story.specs.Tale as tales
 use Rattle.log_story.specs.Tale.{Tale, tell, with_client}
 use Rattle.stmt_map.specs.declared.client.ClientStatements.{ClientStatements}
 use Rattle.client_desk.specs.Desks.{session_of}
 use Rattle.client_desk.specs.declared.work.Work.{Work}
 use Rattle.desk_laws.specs.Stands.{IsDesk, IsRequest, IsPlaced, held_of, message_at}
-use Rattle.client_seat.specs.Requests.{Says, text_in}
+use Rattle.client_seat.specs.Requests.{asked_in, request_of}
 use Rattle.client_seat.specs.Seats.{is_ended}
 use Rattle.client_seat.specs.Stands.{IsHeardIn}
 use Rattle.client_seat.specs.declared.next.Next.{Next}
@@ -36,13 +36,14 @@ use Rattle.core_tables.specs.Taking.{answers, begins_anew, goes, quits}
 use Rattle.core_tables.specs.declared.client.Client.{Client}
 use Rattle.core_stands.specs.Clients.{IsOwing}
 use Rattle.core_stands.specs.Grounds.{Ground, ending, looked_at, on, view_on}
-use Rattle.core_stands.specs.Stands.{Stands}
+use Rattle.core_stands.specs.Stands.{IsPrepared, Stands}
 use Rattle.core_laws.specs.parting.Partings.{HasLives, IsEnding, IsLeaving}
 use Rattle.core_laws.proofs.OfArrival.Changing.{changed-so}
 use Rattle.core_laws.proofs.OfArrival.Finding.{client-same, false-true}
 use Rattle.core_laws.proofs.OfArrival.Idling.{down-idles}
 use Rattle.core_laws.specs.arrival.Looks.{IsLook, Looks, LooksBy, CameUp, IsParting, Rested}
-use Rattle.core_laws.specs.taking.Takes.{IsSent, IsUpOf, is_reset, own_of, route_of, took}
+use Rattle.core_laws.specs.taking.Takes.{IsNumberedAs, IsSent, IsUpOf, is_reset, own_of, route_of, took}
+use Rattle.core_laws.proofs.OfTaking.Requested.{asked_so, bound_so}
 use Rattle.core_laws.proofs.OfTaking.Standing.{took_answered, took_reset, took_sent}
 use Rattle.core_laws.proofs.OfEntry.Looping.{taking_ends, taking_goes_on, taking_looks}
 use Rattle.core_laws.specs.entry.Loops.{IsTaking}
@@ -50,11 +51,12 @@ use Rattle.core_laws.proofs.OfClients.Facts.{few_so, has_lives, held_is, its_row
 use Rattle.core_laws.proofs.OfClients.Waiting.{looked_waiting}
 use Rattle.core_laws.specs.clients.Chosen.{IsChosen, IsGone, IsHaltIn, IsLookedFor, IsStanding, IsTurning, PlanHas, StandsBehind}
 use Rattle.core_laws.specs.clients.Found.{AreFoundAt, IsAmong, IsFound, IsFoundIn, IsLastAmong, desk_up, user_in}
-use Rattle.core_laws.specs.clients.Turns.{AnswersBy, Answers, Choice, ComesUp, EndsThere, Ends, Goes, GoesBy, Halt, HaltsSo, IsLookedAt, IsTurn, MakesAnswer, count_by, is_quitting}
+use Rattle.core_laws.specs.clients.Turns.{AnswersBy, Answers, Choice, ComesUp, EndsThere, Ends, Goes, GoesBy, Halt, HaltsSo, IsLookedAt, IsTurn, Keyed, MakesAnswer, asked_by, count_by, is_quitting}
 use Rattle.core_laws.specs.clients.Turns.{MayLeave, Quits, QuitsThere, Rests, RestsThere, Turns, Waits, WaitsThere}
-use Rattle.private_model.specs.View.{due_of, present}
+use Rattle.private_model.specs.View.{due_of}
 use Rattle.client_seat.specs.Numbers.{AreNoted}
-use Rattle.core_laws.proofs.OfTaking.Joining.{keyed_so, whole_so}
+use Rattle.session_state.specs.declared.place.Place.{Place}
+use Rattle.std.specs.Option.{option_map}
 
 -- The laws by which it goes.
 
@@ -86,7 +88,8 @@ pub record Laws : Type 0 where
       → Stands service (ending client.number (on g (tell (Left client.number) (took g client is.up.message)))) other
   pub dues : (service : Service) (g : Ground) (t other : Tabled) (client : tales.Client) (row : Client) → Stands service g t
       → (is : IsUpOf g t client row) (flag : ℕ) (route : Route) (command : Command) (work : Work) (statements : ClientStatements)
-      → IsSent g client is.up.message route command work → AreNoted false is.up.message.payload row.desk.seat.statements statements
+      → IsSent g client is.up.message route command work → IsNumberedAs route work row.desk.seat.statements
+      → AreNoted false is.up.message.payload row.desk.seat.statements statements
       → IsSame other (client_changed client.number (goes flag work statements) t)
       → Stands service (on g (took g client is.up.message)) other
   pub leaves : (service : Service) (g : Ground) (t : Tabled) (client : tales.Client) (row : Client) (by : Seat → Seat) → Stands service g t
@@ -262,12 +265,27 @@ module _ (laws : Laws) (service : Service) (default : List ℕ) (first client : 
     unfolding came is_up
     stood_held = held_is service seen between client there came.stands is.taking.seated is_up.there
 
-    up_found : IsFoundIn c (desk_up service default up.row) up.message (g.setup.accounts c).user (view_on g) (slice_get (messages g.plan client) client.taken)
+    -- what it has prepared by then
+    has_prepared : IsPrepared seen client there
+    unfolding came is_up
+    has_prepared = came.stands.prepared client is.taking.seated there is_up.there (ap is_ended came.up.serves)
+
+    answered_now : there.desk.seat.answered ≡ true
+    unfolding came is_up
+    answered_now = came.up.answered
+
+    abbrev taking : Taking
+    taking = record { client = client; message = came.up.message; tale = g.tale }
+
+    up_found : IsFoundIn c (desk_up service default up.row) up.message g.setup g.plan taking (slice_get (messages g.plan client) client.taken)
+    unfolding has_prepared
     up_found = record {
       message_is = came.up.next.next ∙ ap (λ (m : Framed). Some m) (sym is_found);
       login = ap user_in came.up.serves ∙ ap (λ (account : Account). account.user) (sym (is.let_in.account came.up.account came.up.served.known));
       place = subst (λ (at : Phase). IsPlaced at (view_on g) c (desk_up service default up.row).seat.place) came.up.serves stood.place;
       held = stood_held;
+      prepared = has_prepared.each;
+      unused = has_prepared.kept answered_now;
     }
 
     looking : IsTaking service first from seen between client
@@ -282,9 +300,6 @@ module _ (laws : Laws) (service : Service) (default : List ℕ) (first client : 
     taken_then = took seen client came.up.message
 
     -- that is its taking
-
-    abbrev taking : Taking
-    taking = record { client = client; message = came.up.message; tale = g.tale }
 
     takes : (most : ℕ) → takings_of (suc most) g.setup g.plan client g.tale ≡ taking ∷ takings_of most g.setup g.plan (next_of client) taken_then
     takes most = λ i.
@@ -331,12 +346,13 @@ module _ (laws : Laws) (service : Service) (default : List ℕ) (first client : 
         (ap (λ (x : Tale). x.moment) tale_is)
 
     goes_by : (route : Route) (command : Command) (flag : ℕ) (work : Work) (statements : ClientStatements) (now : Tabled)
-        → IsSent seen client came.up.message route command work → AreNoted false came.up.message.payload there.desk.seat.statements statements
+        → IsSent seen client came.up.message route command work → IsNumberedAs route work there.desk.seat.statements
+        → AreNoted false came.up.message.payload there.desk.seat.statements statements
         → IsSame now (client_changed c (goes flag work statements) between) → IsOn service default first from g client now taken_then
     unfolding came is_up
-    goes_by route command flag work statements now sends noted same =
+    goes_by route command flag work statements now sends numbered noted same =
         let tale_is = took_sent seen client came.up.message route command work sends in
-        turned_so now (laws.dues service seen between now client there came.stands is_up flag route command work statements sends noted same)
+        turned_so now (laws.dues service seen between now client there came.stands is_up flag route command work statements sends numbered noted same)
         (ap (λ (x : Tale). x.moment) tale_is)
 
     -- it quits
@@ -399,7 +415,7 @@ module _ (laws : Laws) (service : Service) (default : List ℕ) (first client : 
   -- Turns as the code makes them.
 
   answers_turn : (payloads : List (List ℕ)) (now : Tabled) → AnswersBy service default payloads c t now
-      → IsChosen (Answers payloads) g.plan g.tale.moment (name_of client (suc client.taken))
+      → IsChosen (Answers payloads) g.setup.keys g.plan g.tale.moment (name_of client (suc client.taken))
       → (tale : Tale) × IsOn service default first from g client now tale
   answers_turn payloads now turn chosen =
       let message : Framed = (came turn.between turn.up).up.message in (
@@ -412,55 +428,63 @@ module _ (laws : Laws) (service : Service) (default : List ℕ) (first client : 
             chosen.unrouted chosen.answered,
       )
 
-  goes_turn : (route : Route) (now : Tabled) → GoesBy service default route c t now
-      → IsChosen (Goes route) g.plan g.tale.moment (name_of client (suc client.taken))
+  goes_turn : (route : Route) (keyed : List Keyed) (now : Tabled) → GoesBy service default route keyed c t now
+      → IsChosen (Goes route keyed) g.setup.keys g.plan g.tale.moment (name_of client (suc client.taken))
       → (tale : Tale) × IsOn service default first from g client now tale
-  goes_turn route now turn chosen =
+  goes_turn route keyed now turn chosen =
       let message : Framed = (came turn.between turn.up).up.message in
+      let seat : Seat = (there turn.between turn.up).desk.seat in
+      let place : (view_on seen).places c ≡ seat.place = (up_found turn.between turn.up).place in
+      let asks : asked_by g.setup route seat message.payload ≡ Some (record { command = turn.command; key = turn.work.key }) =
+      subst (λ (m : Framed). asked_by g.setup route seat m.payload ≡ Some (record { command = turn.command; key = turn.work.key }))
+      (is_found turn.between turn.up) (turn.asked g.setup chosen.1) in
+      let request = turn.request g.setup.reads is.classes in
       let sends : IsSent seen client message route turn.command turn.work = record {
-        routed = chosen.routed;
-        unanswered = chosen.unanswered;
-        single = chosen.single;
-        asked = subst (λ (m : Framed). text_in m.payload route.text ≡ Some (Says turn.command)) (is_found turn.between turn.up) turn.asked;
-        request = subst (λ (ordinal : ℕ). IsRequest g.setup.reads ordinal route.key turn.command route.multiplex turn.work)
-            (came turn.between turn.up).up.counts (turn.request g.setup.reads is.classes);
-        kind = turn.kind;
+        routed = chosen.0.routed;
+        unanswered = chosen.0.unanswered;
+        single = chosen.0.single;
+        asked = asked_so seen client (there turn.between turn.up) (has_prepared turn.between turn.up) route message.payload
+            (record { command = turn.command; key = turn.work.key })
+            (subst (λ (at : Place). option_map (request_of g.setup at.schema route.key (λ (key : ℕ). key)) (asked_in seat.statements message.payload route.text)
+            ≡ Some (record { command = turn.command; key = turn.work.key })) (sym place) asks);
+        request = subst (λ (ordinal : ℕ). IsRequest g.setup.reads ordinal turn.work.key turn.command route.multiplex turn.work)
+            (came turn.between turn.up).up.counts request;
         hostgroup = turn.hostgroup;
-        keyed = keyed_so g.setup route
-            (due_of (view_on seen) (present (view_on seen) client.number turn.work.hostgroup) (suc client.taken) route.key turn.command route.multiplex)
-            turn.command ((turn.request g.setup.reads is.classes).kind ∙ turn.kind) turn.unnumbered;
-        whole = whole_so turn.command ((turn.request g.setup.reads is.classes).kind ∙ turn.kind);
+        keyed = turn.keyed_for g.setup chosen.1
+            (due_of (view_on seen) (present (view_on seen) client.number turn.work.hostgroup) (suc client.taken) turn.work.key turn.command route.multiplex)
+            refl place;
+        whole = turn.whole (bound_so seen client (there turn.between turn.up) (has_prepared turn.between turn.up));
       } in (
         taken_then turn.between turn.up,
-        goes_by turn.between turn.up route turn.command turn.flag turn.work turn.statements now sends
+        goes_by turn.between turn.up route turn.command turn.flag turn.work turn.statements now sends turn.numbered
             (subst (λ (m : Framed). AreNoted false m.payload (there turn.between turn.up).desk.seat.statements turn.statements)
             (is_found turn.between turn.up) turn.noted) turn.same,
       )
 
   pub one_turn : (choice : Choice) (now : Tabled) → IsTurn choice service default c t now
-      → IsChosen choice g.plan g.tale.moment (name_of client (suc client.taken))
+      → IsChosen choice g.setup.keys g.plan g.tale.moment (name_of client (suc client.taken))
       → (tale : Tale) × IsOn service default first from g client now tale
-  one_turn (Goes route) now turn chosen = goes_turn route now turn chosen
+  one_turn (Goes route keyed) now turn chosen = goes_turn route keyed now turn chosen
   one_turn (Answers payloads) now turn chosen = answers_turn payloads now turn chosen
 
   pub turn_found : (choice : Choice) (now : Tabled) → (turn : IsTurn choice service default c t now) → (most : ℕ)
-      → IsFound choice service default c t now turn g.setup (takings_of (suc most) g.setup g.plan client g.tale)
+      → IsFound choice service default c t now turn g.setup g.plan (takings_of (suc most) g.setup g.plan client g.tale)
       (slice_get (messages g.plan client) client.taken) client.taken
-  turn_found (Goes route) now turn most =
+  turn_found (Goes route keyed) now turn most =
       record { taking = taking turn.between turn.up; among = takes_first turn.between turn.up most; at = up_found turn.between turn.up }
   turn_found (Answers payloads) now turn most =
       record { taking = taking turn.between turn.up; among = takes_first turn.between turn.up most; at = up_found turn.between turn.up }
 
   pub turn_takes : (choice : Choice) (now : Tabled) → (turn : IsTurn choice service default c t now)
-      → (chosen : IsChosen choice g.plan g.tale.moment (name_of client (suc client.taken))) → (most : ℕ)
+      → (chosen : IsChosen choice g.setup.keys g.plan g.tale.moment (name_of client (suc client.taken))) → (most : ℕ)
       → (first_one : Taking) × (takings_of (suc most) g.setup g.plan client g.tale
       ≡ first_one ∷ takings_of most g.setup g.plan (next_of client) (one_turn choice now turn chosen).0)
   unfolding one_turn goes_turn answers_turn
-  turn_takes (Goes route) now turn chosen most = (taking turn.between turn.up, takes turn.between turn.up most)
+  turn_takes (Goes route keyed) now turn chosen most = (taking turn.between turn.up, takes turn.between turn.up most)
   turn_takes (Answers payloads) now turn chosen most = (taking turn.between turn.up, takes turn.between turn.up most)
 
   pub turn_none : {A : Type 0} (choice : Choice) (now : Tabled) → IsTurn choice service default c t now → length (messages g.plan client) ≤ client.taken → A
-  turn_none (Goes route) now turn past = takes_none turn.between turn.up past
+  turn_none (Goes route keyed) now turn past = takes_none turn.between turn.up past
   turn_none (Answers payloads) now turn past = takes_none turn.between turn.up past
 
   pub last_found : (halt : Halt) (now : Tabled) → HaltsSo halt service default c t now → (most : ℕ) → length (messages g.plan client) ≤ most + client.taken
@@ -529,7 +553,7 @@ module _ (laws : Laws) (service : Service) (default : List ℕ) (first client : 
 
 pub turns_so : (laws : Laws) (service : Service) (default : List ℕ) (first client : tales.Client) (from : Tale) (g : Ground) (t now : Tabled)
     (choices : List Choice) (halt : Halt) → IsTurning service default first from g t client
-    → PlanHas choices halt g.plan g.tale.moment (name_of client (suc client.taken))
+    → PlanHas choices halt g.setup.keys g.plan g.tale.moment (name_of client (suc client.taken))
     → Turns choices halt service default client.number t now
     → StandsBehind halt service first from (client.taken + count_by choices halt) g client.number now
 turns_so laws service default first client from g t now [] halt is has turns =
@@ -540,7 +564,7 @@ turns_so laws service default first client from g t now (choice ∷ others) halt
     (one_before client.taken (length others) (if is_quitting halt then 1 else 0))
     (still laws service default first client from g t is made.0 (suc client.taken + count_by others halt) now halt
     (turns_so laws service default first (next_of client) from (on (looked_at client.number g) made.0) turns.0 now others halt made.1.turning
-    (subst (λ (moment : ℕ). PlanHas others halt g.plan moment (name_of (next_of client) (suc (suc client.taken)))) (sym made.1.moment) has.1)
+    (subst (λ (moment : ℕ). PlanHas others halt g.setup.keys g.plan moment (name_of (next_of client) (suc (suc client.taken)))) (sym made.1.moment) has.1)
     turns.2))
 
 -- The messages that it took up are those that came up.
@@ -556,20 +580,20 @@ last_later Ends first takings name last = tt
 last_later Quits first takings name last = (last.0, among_later first takings name last.0 last.1)
 
 found_later : (one : Taking) (takings : List Taking) (choices : List Choice) (halt : Halt) (service : Service) (default : List ℕ) (c : ClientNo) (old new : Tabled)
-    (turns : Turns choices halt service default c old new) (setup : Setup) (messages : List Framed) (k : ℕ)
-    → AreFoundAt choices halt service default c old new turns setup takings messages k
-    → AreFoundAt choices halt service default c old new turns setup (one ∷ takings) messages k
-found_later one takings [] halt service default c old new turns setup messages k found = last_later halt one takings (message_at c (suc k)) found
-found_later one takings (choice ∷ others) halt service default c old new turns setup messages k found = (
+    (turns : Turns choices halt service default c old new) (setup : Setup) (plan : Plan) (sent : List Framed) (k : ℕ)
+    → AreFoundAt choices halt service default c old new turns setup plan takings sent k
+    → AreFoundAt choices halt service default c old new turns setup plan (one ∷ takings) sent k
+found_later one takings [] halt service default c old new turns setup plan sent k found = last_later halt one takings (message_at c (suc k)) found
+found_later one takings (choice ∷ others) halt service default c old new turns setup plan sent k found = (
   record { taking = found.0.taking; among = among_later one takings (message_at c (suc k)) found.0.taking found.0.among; at = found.0.at },
-  found_later one takings others halt service default c turns.0 new turns.2 setup messages (suc k) found.1,
+  found_later one takings others halt service default c turns.0 new turns.2 setup plan sent (suc k) found.1,
 )
 
 turns_found_in : (laws : Laws) (service : Service) (default : List ℕ) (first client : tales.Client) (from : Tale) (g : Ground) (t now : Tabled)
     (choices : List Choice) (halt : Halt) → IsTurning service default first from g t client
-    → PlanHas choices halt g.plan g.tale.moment (name_of client (suc client.taken))
+    → PlanHas choices halt g.setup.keys g.plan g.tale.moment (name_of client (suc client.taken))
     → (turns : Turns choices halt service default client.number t now) → (most : ℕ) → length (messages g.plan client) ≤ most + client.taken
-    → AreFoundAt choices halt service default client.number t now turns g.setup (takings_of most g.setup g.plan client g.tale) (messages g.plan client)
+    → AreFoundAt choices halt service default client.number t now turns g.setup g.plan (takings_of most g.setup g.plan client g.tale) (messages g.plan client)
     client.taken
 turns_found_in laws service default first client from g t now [] halt is has turns most enough =
     last_found laws service default first client from g t is halt now turns most enough
@@ -579,21 +603,21 @@ turns_found_in laws service default first client from g t now (choice ∷ others
     let made = one_turn laws service default first client from g t is choice turns.0 turns.1 has.0 in
     let takes = turn_takes laws service default first client from g t is choice turns.0 turns.1 has.0 most in (
       turn_found laws service default first client from g t is choice turns.0 turns.1 most,
-      subst (λ (takings : List Taking). AreFoundAt others halt service default client.number turns.0 now turns.2 g.setup takings (messages g.plan client) (suc client.taken))
+      subst (λ (takings : List Taking). AreFoundAt others halt service default client.number turns.0 now turns.2 g.setup g.plan takings (messages g.plan client) (suc client.taken))
           (sym takes.1)
           (found_later takes.0 (takings_of most g.setup g.plan (next_of client) made.0) others halt service default client.number turns.0 now turns.2 g.setup
-          (messages g.plan client) (suc client.taken)
+          g.plan (messages g.plan client) (suc client.taken)
           (turns_found_in laws service default first (next_of client) from (on (looked_at client.number g) made.0) turns.0 now others halt made.1.turning
-          (subst (λ (moment : ℕ). PlanHas others halt g.plan moment (name_of (next_of client) (suc (suc client.taken)))) (sym made.1.moment) has.1)
+          (subst (λ (moment : ℕ). PlanHas others halt g.setup.keys g.plan moment (name_of (next_of client) (suc (suc client.taken)))) (sym made.1.moment) has.1)
           turns.2 most (omega (arith, enough)))),
     )
 
 pub turns_found : (laws : Laws) (service : Service) (default : List ℕ) (first client : tales.Client) (from : Tale) (g : Ground) (t now : Tabled)
     (choices : List Choice) (halt : Halt) (c : ClientNo) → client.number ≡ c → IsTurning service default first from g t client
-    → PlanHas choices halt g.plan g.tale.moment (name_of client (suc client.taken)) → (turns : Turns choices halt service default c t now)
+    → PlanHas choices halt g.setup.keys g.plan g.tale.moment (name_of client (suc client.taken)) → (turns : Turns choices halt service default c t now)
     → (most : ℕ) → length (messages g.plan client) ≤ most + client.taken
-    → AreFoundAt choices halt service default c t now turns g.setup (takings_of most g.setup g.plan client g.tale) (messages g.plan client) client.taken
+    → AreFoundAt choices halt service default c t now turns g.setup g.plan (takings_of most g.setup g.plan client g.tale) (messages g.plan client) client.taken
 turns_found laws service default first client from g t now choices halt c same is has turns most enough =
     subst (λ (n : ClientNo). (by : Turns choices halt service default n t now)
-    → AreFoundAt choices halt service default n t now by g.setup (takings_of most g.setup g.plan client g.tale) (messages g.plan client) client.taken) same
+    → AreFoundAt choices halt service default n t now by g.setup g.plan (takings_of most g.setup g.plan client g.tale) (messages g.plan client) client.taken) same
     (λ by. turns_found_in laws service default first client from g t now choices halt is has by most enough) turns

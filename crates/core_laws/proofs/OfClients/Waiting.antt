@@ -53,7 +53,7 @@ module _ (service : Service) (g : Ground) (t : Tabled) (c : ClientNo) (row : Cli
         coming = is.coming;
         phase = subst (λ (at : Phase). IsPhase (is_ended at) after x row) (sym serves)
             (going-like g by x x (record { number = refl; taken = refl; own = λ ordinal below. refl }) row row.desk.seat going.going refl refl
-            (λ busy. refl) (λ busy message at. at) going.account going.collation going.unmoved going);
+            (λ busy. (refl, refl)) (λ busy message at. at) going.account going.collation going.unmoved going);
       }
 
   each : (x : tales.Client) → IsAt g t x → IsClientOr after x (t.clients x.number)

@@ -15,6 +15,8 @@ use Rattle.private_model.specs.View as view
 use Rattle.private_model.specs.View.{Held, View, held_by, held_heard, present, view_heard, view_step}
 use Rattle.log_story.specs.Clients.{is_answered}
 use Rattle.log_story.specs.Honest.{IsFront}
+use Rattle.log_story.specs.Owed.{kind_of as owed_kind}
+use Rattle.reply_track.specs.Grammar.{renamed}
 use Rattle.log_story.specs.Owed.{due_bytes, error_behind, messages, name_of, number_of, talk_of, with_word}
 use Rattle.log_story.specs.Plan.{LastWord, own_at, word_at}
 use Rattle.log_story.specs.Tale as tales
@@ -195,7 +197,7 @@ module _ (laws : DeskLaws) (g : Ground) (l : LinkId) (reply : Reply) (question :
       answered = is.answered ∙ answered_same client.taken;
       went = is.went;
       busy = is.busy;
-      working = working_on g after.tale client row (record row.desk { sessions = sessions }) row.desk.work refl refl settled.home (λ m. ap (λ (v : View). v.carriers m) heard_at) is.working;
+      working = working_on g after.tale client row (record row.desk { sessions = sessions }) row.desk.work refl refl refl settled.home (λ m. ap (λ (v : View). v.carriers m) heard_at) is.working;
       unmoved = λ entering. ap (λ (v : View). v.places client.number) heard_at ∙ aside_places question aside ∙ is.unmoved entering;
       account = is.account;
       collation = is.collation;
@@ -382,9 +384,9 @@ module _ (laws : DeskLaws) (g : Ground) (l : LinkId) (reply : Reply) (question :
 
   module _ (client : tales.Client) (row : Client) (is : IsClient g client row) (n : SessionName) (due : Due) (is_statement : question ≡ Statement n due)
       (asking : Asking) (asks : IsAsking g.setup.reads g.codes asking (Statement n due)) (kinds : reply.to_prepare ≡ is_prepare due.command)
-      (unprepared : reply.to_prepare ≡ false) (work : Work) (in_work : row.desk.work ≡ Some work) (ordinal_is : due.ordinal ≡ work.ordinal)
+      (work : Work) (in_work : row.desk.work ≡ Some work) (ordinal_is : due.ordinal ≡ work.ordinal)
       (name_so : n ≡ name_at_desk row.desk n.hostgroup) (has_row : HasRow row.desk.sessions n.hostgroup) (made : List ℕ)
-      (pieces : row.desk.seat.outbox.coming ++ made ≡ spellings row.desk.seat.first reply.payloads) where
+      (pieces : row.desk.seat.outbox.coming ++ made ≡ spellings row.desk.seat.first (renamed (owed_kind reply) (number_of g.plan (message_of n due)) reply.payloads)) where
     abbrev seat : Seat
     seat = row.desk.seat
 
@@ -488,13 +490,14 @@ module _ (laws : DeskLaws) (g : Ground) (l : LinkId) (reply : Reply) (question :
     last : IsLast g.plan client
     last = heard_now.1
 
-    bytes_are : spellings (next_id last.message.last) reply.payloads ≡ row.desk.seat.outbox.coming ++ made
+    bytes_are : spellings (next_id last.message.last) (renamed (owed_kind reply) (number_of g.plan (name_of client client.taken)) reply.payloads)
+        ≡ row.desk.seat.outbox.coming ++ made
     bytes_are =
-        ap (λ (id : ℕ). spellings id reply.payloads) (sym (working.first last.message last.at)) ∙ sym pieces
+        (λ i. spellings (sym (working.first last.message last.at) i) (renamed (owed_kind reply) (number_of g.plan (sym name_is i)) reply.payloads)) ∙ sym pieces
 
     due_grows : due_so_far (known_on after) client ≡ due_so_far (known_on g) client ++ (row.desk.seat.outbox.coming ++ made)
     due_grows =
-        replied_due g.plan g.tale.moment g.tale refl seen new client reply replies_now unprepared last law_unanswered going.earlier
+        replied_due g.plan g.tale.moment g.tale refl seen new client reply replies_now last law_unanswered going.earlier
         ∙ ap (λ (more : List ℕ). due_so_far (known_on g) client ++ more) bytes_are
 
     owed_by_phase : (at : Phase) (fresh : Bool) → is_ended at ≡ false → IsOwing at fresh g client seat → IsOwing at fresh after client seat_now

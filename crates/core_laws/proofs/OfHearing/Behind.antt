@@ -190,8 +190,8 @@ module _ (seen : View) where
 -- What stands next there stays so.
 module _ (g : Ground) (story : Story) (wires : LinkId → Wire) (t other : Tabled) (old new : Row) (link now : Link)
     (first : AreFirst t other) (dues : (n : SessionName) → (view_after g.setup story).dues n ≡ (view_on g).dues n)
-    (writing : new.link.writing ≡ old.link.writing) (from : new.link.first ≡ old.link.first) (multiplex : new.multiplex ≡ old.multiplex)
-    (cell : new.cell ≡ old.cell) (live : now.live ≡ link.live) (same_told : now.told ≡ link.told) where
+    (writing : new.link.writing ≡ old.link.writing) (from : new.link.first ≡ old.link.first) (as_number : new.link.number ≡ old.link.number)
+    (multiplex : new.multiplex ≡ old.multiplex) (cell : new.cell ≡ old.cell) (live : now.live ≡ link.live) (same_told : now.told ≡ link.told) where
   abbrev told : Ground
   told = on g (with_story story wires g.tale)
 
@@ -211,8 +211,8 @@ module _ (g : Ground) (story : Story) (wires : LinkId → Wire) (t other : Table
   for_on asking (purposes.Statement n ordinal key) is = record {
     said = λ due there at. readied asking (Statement n due) (is.said due (sym (dues n) ∙ there) at);
     first = subst (λ (id : ℕ). IsFirst other n ordinal id) (sym from) (first n ordinal old.link.first is.first);
-    text = λ due there at. is.text due (sym (dues n) ∙ there) at;
-    plain = is.plain;
+    asked = λ due there at. is.asked due (sym (dues n) ∙ there) at;
+    number = as_number ∙ is.number;
     taken_up = taken_on is.taken_up;
   }
   for_on asking (purposes.Prep n ordinal key) is = record {

@@ -1,6 +1,6 @@
 -- A client stands as an answer to what was asked for it is read, or a piece of one.
-use Rattle.std.specs.Prelude.{◌≡◌, ℕ, zero, suc, Bool, true, false, List, Option, Some, None}
-use Rattle.std.proofs.Common.{refl, sym, ap, ◌∙◌}
+use Rattle.std.specs.Prelude.{◌≡◌, ◌<◌, ◌+◌, ℕ, zero, suc, Bool, true, false, List, Option, Some, None}
+use Rattle.std.proofs.Common.{refl, sym, ap, ◌∙◌, subst}
 use Rattle.std.proofs.lemmas.Bool.{true≢false}
 use Rattle.mx_base.specs.declared.names.Hostgroup.{Hostgroup}
 use Rattle.session_state.specs.declared.place.Place.{Place}
@@ -23,6 +23,7 @@ use Rattle.client_desk.specs.declared.desk.Desk.{Desk}
 use Rattle.client_desk.specs.declared.session.Session.{Session}
 use Rattle.client_desk.specs.declared.work.Work.{Work}
 use Rattle.core_tables.specs.Hearing.{at_desk, grown_by}
+use Rattle.stmt_map.specs.declared.client.ClientStatements.{ClientStatements}
 use Rattle.core_tables.specs.declared.client.Client.{Client}
 use Rattle.core_stands.specs.Clients.{IsClient, IsClientOr, IsOwing, IsPhase, IsWorkingOr}
 use Rattle.core_stands.specs.Grounds.{Ground, on, view_on}
@@ -56,14 +57,19 @@ pub record IsSettled (lefts : ℕ) (old new : List Session) : Type 0 where
 
 -- where only bytes are told of a link, clients stand
 pub working_on : (g : Ground) (tale : Tale) (client : tales.Client) (row : Client) (desk : Desk) (work : Option Work) → desk.seat.outbox.coming ≡ row.desk.seat.outbox.coming
-    → desk.seat.first ≡ row.desk.seat.first → ((h : Hostgroup) → (session_of desk h).home ≡ (session_of row.desk h).home)
+    → desk.seat.first ≡ row.desk.seat.first → desk.seat.statements ≡ row.desk.seat.statements → ((h : Hostgroup) → (session_of desk h).home ≡ (session_of row.desk h).home)
     → ((m : MessageName) → (view_of g.setup tale).carriers m ≡ (view_on g).carriers m)
     → IsWorkingOr g client row work → IsWorkingOr (on g tale) client (record row { desk = desk }) work
-working_on g tale client row desk None coming first homes carriers is = coming ∙ is
-working_on g tale client row desk (Some work) coming first homes carriers is = record {
+working_on g tale client row desk None coming first statements homes carriers is = coming ∙ is
+working_on g tale client row desk (Some work) coming first statements homes carriers is = record {
   last = is.last;
   went = is.went;
-  command = is.command;
+  number = λ prepares.
+      let next = is.number prepares in
+      let last : desk.seat.statements.last ≡ row.desk.seat.statements.last = ap (λ (s : ClientStatements). s.last) statements in
+      (next.0 ∙ ap (λ (n : ℕ). n + 1) (sym last), subst (λ (n : ℕ). n < 4294967295) (sym last) next.1);
+  only = is.only;
+  prepares = is.prepares;
   first = λ message there. first ∙ is.first message there;
   unsent = λ unsent. coming ∙ is.unsent unsent;
   there = λ sent. homes work.hostgroup ∙ is.there sent ∙ sym (carriers (name_of client work.ordinal));
@@ -90,7 +96,7 @@ module _ (g : Ground) (wires : LinkId → Wire) (client : tales.Client) where
     answered = is.answered ∙ wired_answered client.taken;
     went = is.went;
     busy = is.busy;
-    working = working_on g wired.tale client row row.desk row.desk.work refl refl (λ h. refl) (λ m. refl) is.working;
+    working = working_on g wired.tale client row row.desk row.desk.work refl refl refl (λ h. refl) (λ m. refl) is.working;
     unmoved = is.unmoved;
     account = is.account;
     collation = is.collation;
@@ -147,7 +153,9 @@ module _ (g : Ground) (client : tales.Client) (row : Client) (is : IsClient g cl
       record {
         last = is.last;
         went = is.went;
-        command = is.command;
+        number = is.number;
+        only = is.only;
+        prepares = is.prepares;
         first = is.first;
         unsent = λ unsent. absurd (true≢false (sym is_sent ∙ unsent));
         there = is.there;

@@ -22,7 +22,10 @@ use Rattle.private_model.specs.Story as story
 use Rattle.private_model.specs.Story.{Due, Heard, Question, command_of, message_of}
 use Rattle.private_model.specs.View as view
 use Rattle.private_model.specs.View.{Held, Link, View, ran_by, view_after, view_heard}
+use Rattle.log_story.specs.Owed.{number_of}
+use Rattle.log_story.specs.Owed.{kind_of as owed_kind}
 use Rattle.log_story.specs.Servers.{read_as, reply_id, reply_in, runs_first, with_run}
+use Rattle.reply_track.specs.Grammar.{renamed}
 use Rattle.log_story.specs.Tale as tales
 use Rattle.log_story.specs.Tale.{Tale, Wire, is_to_server, tell, view_of, with_wire}
 use Rattle.log_story.specs.Telling.{wire_with}
@@ -67,7 +70,7 @@ use Rattle.core_tables.specs.declared.client.Client.{Client}
 use Rattle.core_tables.specs.declared.server.Server.{Server}
 use Rattle.core_stands.specs.Clients.{IsClient}
 use Rattle.core_stands.specs.Grounds.{Ground, on, view_on}
-use Rattle.core_stands.specs.Servers.{IsNextOf, IsPartedFor, IsReplying, IsServer, IsStanding, IsStandingAt, is_stating}
+use Rattle.core_stands.specs.Servers.{IsNextOf, IsPartedFor, IsReplying, IsServer, IsStanding, IsStandingAt, is_stating, own_number}
 use Rattle.core_stands.specs.Stands.{AreClients, IsAt, Stands}
 use Rattle.core_laws.proofs.OfParting.Same.{each_of, row_of}
 use Rattle.core_laws.proofs.OfParting.Reading.{holder_of}
@@ -88,7 +91,7 @@ use Rattle.core_laws.proofs.OfHearing.Seated.{at_changed, at_nobody, at_same}
 use Rattle.core_laws.proofs.OfHearing.Spelled.{NumbersAreRead, pieces_are}
 use Rattle.core_laws.proofs.OfHearing.Standing.{StandsBut, clients_read, near, replying_so, server_is, shown_alone, standing_so, tale_form, told_so, untold_so}
 use Rattle.core_laws.proofs.OfHearing.Telling as told
-use Rattle.core_laws.proofs.OfHearing.Whole.{IsStatementOf, aside_same, is_stated, names_same, plain_command, plain_payloads, statement_same, told_numbered}
+use Rattle.core_laws.proofs.OfHearing.Whole.{IsStatementOf, aside_same, is_stated, names_same, renamed_same, statement_same, told_numbered}
 
 module _ (laws : DeskLaws) (stay : OthersStay) (carried_law : CarriedLaw) (homed_law : HomedLaw) (numbers : NumbersAreRead)
     (service : Service) (g : Ground) (t : Tabled) (stands : Stands service g t) (l : LinkId) (server : Server) (there : t.links l ≡ Some server)
@@ -187,7 +190,7 @@ module _ (laws : DeskLaws) (stay : OthersStay) (carried_law : CarriedLaw) (homed
     all_bytes : AreBytes fed.unread
     all_bytes = AreBytes-append wire.unread bytes answer_read.are are_bytes
 
-    end_is : code_end end ≡ end_of reply
+    pub end_is : code_end end ≡ end_of reply
     end_is =
         end_told (command_of question) (reply_id wire) fed.unread rest end (omega arith) all_bytes
         (ap (λ (k : ReplyKind). read_as k fed) (was.is_kind ∙ sym was.form_kind) ∙ law_ended)
@@ -463,9 +466,6 @@ module _ (laws : DeskLaws) (stay : OthersStay) (carried_law : CarriedLaw) (homed
             subst (λ (q : Question). OfStatement q (λ m due. server.row.multiplex ≡ due.multiplex)) statement.is
             (subst (λ (stage : view.Stage). rows.IsShared stage server.row.multiplex) was.there dues.shared)
 
-        unprepared : is_prepare (command_of question) ≡ false
-        unprepared = plain_command g.setup.reads asking.form (command_of question) was.asks.form own.plain
-
         replied_same : (desk : Desk) → replied_by answer n.hostgroup last desk ≡ replied_by (law_answer statement.due.multiplex) n.hostgroup last desk
         replied_same desk =
             ap (λ (m : Option Bool). replied_by (record { asking = asking; multiplex = m; end = code_end end; number = number }) n.hostgroup last desk) multiplex_is
@@ -475,7 +475,11 @@ module _ (laws : DeskLaws) (stay : OthersStay) (carried_law : CarriedLaw) (homed
         abbrev kind : ReplyKind
         kind = kind_of asking.form
 
-        pieces : own.client.desk.seat.outbox.coming ++ last ≡ spellings own.client.desk.seat.first reply.payloads
+        number_is : due.number ≡ number_of g.plan (message_of n statement.due)
+        number_is = (expected row.link).number ∙ own.number ∙ ap (own_number g n) (sym statement.ordinal_is)
+
+        pieces : own.client.desk.seat.outbox.coming ++ last
+            ≡ spellings own.client.desk.seat.first (renamed (owed_kind reply) (number_of g.plan (message_of n statement.due)) reply.payloads)
         pieces =
             ap (λ (came : List ℕ). came ++ last) (own.coming
             ∙ (λ i. renumbered (started (sought kind (reply_id wire) ((sym (expected row.link).first) i) ((sym (expected row.link).number) i))) wire.unread))
@@ -483,8 +487,8 @@ module _ (laws : DeskLaws) (stay : OthersStay) (carried_law : CarriedLaw) (homed
             (subst (λ (k : ReplyKind). IsRead (sought k (reply_id wire) due.first due.number) wire.unread r)
             (sym (read.kind_is laws stay carried_law homed_law service g t stands l server there to_server kept fine bytes are_bytes now entered r under_way asking was.stage))
             answer_read.read) (omega arith) all_bytes end rest ended
-            ∙ ap (spellings due.first) (plain_payloads asking.form due.number reply.payloads own.plain)
-            ∙ ap (λ (id : ℕ). spellings id reply.payloads) ((expected row.link).first ∙ sym own.first)
+            ∙ ap (spellings due.first) (renamed_same g.setup.reads asking.form (command_of question) was.asks.form due.number reply.payloads)
+            ∙ (λ i. spellings (((expected row.link).first ∙ sym own.first) i) (renamed (owed_kind reply) (number_is i) reply.payloads))
 
         client_replied : (client : tales.Client) (row : Client) → client.number ≡ n.client → t.clients client.number ≡ Some row → IsClient read_on client row
             → IsClient after client (replied_row row)
@@ -494,9 +498,10 @@ module _ (laws : DeskLaws) (stay : OthersStay) (carried_law : CarriedLaw) (homed
             subst (λ (desk : Desk). IsClient after client (record row { desk = desk })) (sym (replied_same row.desk))
             (replied_so laws read_on l reply question stage_now client row is n statement.due statement.is asking
             (subst (λ (q : Question). IsAsking g.setup.reads g.codes asking q) statement.is was.asks)
-            (ap (λ (q : Question). is_prepare (command_of q)) statement.is) unprepared own.work
+            (ap (λ (q : Question). is_prepare (command_of q)) statement.is) own.work
             (ap (λ (r : Client). r.desk.work) (sym row_is) ∙ own.in_work) (statement.ordinal_is ∙ sym own.last) here.name here.rows last
-            (subst (λ (r : Client). r.desk.seat.outbox.coming ++ last ≡ spellings r.desk.seat.first reply.payloads) row_is pieces))
+            (subst (λ (r : Client). r.desk.seat.outbox.coming ++ last
+            ≡ spellings r.desk.seat.first (renamed (owed_kind reply) (number_of g.plan (message_of n statement.due)) reply.payloads)) row_is pieces))
 
         desk_replied : (client : tales.Client) (row : Client) → client.number ≡ n.client → t.clients client.number ≡ Some row → IsClient read_on client row
             → IsSettled row.desk.lefts row.desk.sessions (told_of (law_answer statement.due.multiplex) n.hostgroup row.desk).sessions

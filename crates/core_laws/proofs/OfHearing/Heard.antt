@@ -197,7 +197,7 @@ module _ (laws : DeskLaws) (stay : OthersStay) (carried_law : CarriedLaw) (homed
             (next_on g ran_tale.story (put_wire fed) t (link_changed l (with_row (record row { link = record due { spoilt = true } })) t) server.row
             (record row { link = record due { spoilt = true } }) (seen.links l) ((view_on (read_on fed)).links l) (λ n ordinal from is. is)
             (near laws stay carried_law homed_law service g t stands l server there to_server kept fine fed).dues
-            (expected row.link).writing (expected row.link).first refl refl (ap (λ (k : Link). k.live) ran_is ∙ live_same)
+            (expected row.link).writing (expected row.link).first (expected row.link).number refl refl (ap (λ (k : Link). k.live) ran_is ∙ live_same)
             (ap (λ (k : Link). k.told) ran_is ∙ told_same) server.row.link.next is_server.next);
         lent = lent_now fed;
         parted = λ whole. absurd (true≢false whole);
@@ -299,7 +299,7 @@ module _ (laws : DeskLaws) (stay : OthersStay) (carried_law : CarriedLaw) (homed
           last = own.last;
           sent = own.sent;
           hostgroup = own.hostgroup;
-          plain = own.plain;
+          number = (expected row.link).number ∙ own.number;
           first = own.first ∙ sym (expected row.link).first;
           coming = coming_so
               ∙ sym (ap (λ (w : Wire). renumbered (started (sought (kind_of asking.form) (reply_id w) due.first due.number)) w.unread) (put_there g.tale.wires l fed));

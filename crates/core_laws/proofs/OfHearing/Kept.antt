@@ -66,8 +66,8 @@ module _ (g : Ground) (story : Story) (wires : LinkId → Wire) (t other : Table
   for_kept link asking (purposes.Statement n ordinal key) is = record {
     said = λ due there at. is.said due (sym (spared.dues n) ∙ there) at;
     first = first n ordinal row.link.first is.first;
-    text = λ due there at. is.text due (sym (spared.dues n) ∙ there) at;
-    plain = is.plain;
+    asked = λ due there at. is.asked due (sym (spared.dues n) ∙ there) at;
+    number = is.number;
     taken_up = taken_kept is.taken_up;
   }
   for_kept link asking (purposes.Prep n ordinal key) is = record {
@@ -100,7 +100,7 @@ module _ (g : Ground) (story : Story) (wires : LinkId → Wire) (t other : Table
         last = is.last;
         sent = is.sent;
         hostgroup = is.hostgroup;
-        plain = is.plain;
+        number = is.number;
         first = same.first ∙ is.first;
         coming = same.coming ∙ is.coming ∙ sym (ap (λ (w : Wire). renumbered (started (sought (kind_of asking.form) (reply_id w) row.link.first row.link.number)) w.unread) spared.wire);
       }

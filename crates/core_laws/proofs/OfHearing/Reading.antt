@@ -24,12 +24,14 @@ use Rattle.row_laws.specs.Reads.{IsNumbered}
 use Rattle.row_laws.specs.Rows.{Enters, IsRowIn, Serves}
 use Rattle.row_laws.proofs.Opening.{enters_in, serves_in}
 use Rattle.core_tables.specs.Hearing.{IsHeardOn, IsReading, heard_on, told_to, with_row}
-use Rattle.core_tables.specs.Tables.{IsSame, Tabled, link_changed}
+use Rattle.core_tables.specs.Preparing.{IsKeptFor}
+use Rattle.core_tables.specs.Tables.{Tabled, link_changed}
 use Rattle.core_tables.specs.declared.said.Said.{Said}
 use Rattle.core_tables.specs.declared.server.Server.{Server}
-use Rattle.core_stands.specs.Grounds.{Ground, on, view_on}
+use Rattle.core_stands.specs.Grounds.{AreNamed, Ground, on, view_on}
 use Rattle.core_stands.specs.Servers.{IsServer}
 use Rattle.core_stands.specs.Stands.{Stands}
+use Rattle.core_laws.proofs.OfArrival.Changing.{InWork, RowsStay}
 use Rattle.core_laws.proofs.OfHearing.Elsewhere.{CarriedLaw, HomedLaw}
 use Rattle.core_laws.proofs.OfHearing.Ended.{ended_so}
 use Rattle.core_laws.proofs.OfHearing.Entering.{login_so}
@@ -37,7 +39,7 @@ use Rattle.core_laws.proofs.OfHearing.Heard.{goes_so, reset_so, spoilt_so}
 use Rattle.core_laws.proofs.OfHearing.Laws.{DeskLaws, OthersStay}
 use Rattle.core_laws.proofs.OfHearing.Numbered.{numbered_so}
 use Rattle.core_laws.proofs.OfHearing.Spelled.{NumbersAreRead}
-use Rattle.core_laws.proofs.OfHearing.Preparing.{heard_told, says_duly, says_prepared}
+use Rattle.core_laws.proofs.OfHearing.Made.{SameLaw, keeping_stands}
 use Rattle.core_laws.proofs.OfHearing.Standing.{StandsBut, server_is}
 use Rattle.core_laws.proofs.OfHearing.Telling as told
 
@@ -52,7 +54,7 @@ pub record RowLaws : Type 0 where
       → IsNumbered bytes row (wire_with tale l bytes) → IsRowIn setup codes plan (server_says setup plan l bytes tale) l (heard bytes row)
 
 module _ (laws : DeskLaws) (rows : RowLaws) (stay : OthersStay) (carried_law : CarriedLaw) (homed_law : HomedLaw) (numbers : NumbersAreRead)
-    (service : Service) (g : Ground) (t : Tabled) (stands : Stands service g t) (l : LinkId) (server : Server) (there : t.links l ≡ Some server)
+    (in_work : InWork) (rows_stay : RowsStay) (same_law : SameLaw) (service : Service) (g : Ground) (t : Tabled) (stands : Stands service g t) (l : LinkId) (server : Server) (there : t.links l ≡ Some server)
     (to_server : is_to_server g.tale l ≡ true) (kept : server.row.lost ≡ false) (fine : server.row.link.spoilt ≡ false)
     (apart : AreApart g.codes) (bytes : List ℕ) (are_bytes : AreBytes bytes) (some : 0 < length bytes) (now : ℕ) where
   abbrev row : Row
@@ -113,20 +115,10 @@ module _ (laws : DeskLaws) (rows : RowLaws) (stay : OthersStay) (carried_law : C
   says : told_in g.setup g.plan g.tale (Got l bytes) ≡ after
   says = ap (λ (b : Bool). if b then server_says g.setup g.plan l bytes g.tale else record g.tale { clients = map (client_hears l bytes) g.tale.clients }) to_server
 
-  pub read_stands : (new : Tabled) (result : Said) → IsHeardOn server l bytes now result new t
-      → ((g : Ground) (t other : Tabled) → Stands service g t → IsSame other t → Stands service g other)
+  pub read_stands : (mid new : Tabled) (result : Said) → AreNamed g.codes → IsHeardOn server l bytes now result mid t → IsKeptFor result l mid new
       → IsLawful g.setup (told_in g.setup g.plan g.tale (Got l bytes)).story → Stands service (on g (told_in g.setup g.plan g.tale (Got l bytes))) new
-  read_stands new result is same =
-      subst (λ (T : Tale). IsLawful g.setup T.story → Stands service (on g T) new) (sym says) (λ lawful.
-      let but : StandsBut (on g after) (heard_on l is.reading t) = stands_but is.reading lawful in
-      same (on g after) (heard_on l is.reading t) new (record {
-        service_is = stands.service_is;
-        room_is = stands.room_is;
-        clients = but.clients;
-        servers = but.servers;
-        homes = but.homes;
-        lawful = lawful;
-        prepared = says_prepared laws stay carried_law homed_law service g t stands l server there to_server kept fine bytes (heard_on l is.reading t)
-            (λ c found at. heard_told (link_changed l (with_row is.reading.row) t) c found is.reading.row is.reading.news is.reading.made at);
-        duly = says_duly g l bytes stands.duly;
-      }) is.tables)
+  read_stands mid new result named is keeps =
+      subst (λ (T : Tale). IsLawful g.setup T.story → Stands service (on g T) new) (sym says)
+      (λ lawful.
+      keeping_stands laws stay carried_law homed_law numbers in_work rows_stay same_law service g named t stands l server there to_server kept fine bytes are_bytes
+      now is.reading lawful (stands_but is.reading lawful) mid new is.tables result is.tells keeps)

@@ -3,13 +3,14 @@ use Rattle.std.specs.Prelude.{◌≡◌, ◌≤◌, ◌<◌, ℕ, zero, suc, ◌
 use Rattle.std.proofs.Common.{refl, sym, ap, ◌∙◌, arith, length-append}
 use Rattle.std.proofs.lemmas.Bool.{false≢true, true≢false}
 use Rattle.packet_frame.specs.Packets.{Framed, Split, next_id, spellings, split}
+use Rattle.reply_track.specs.Grammar.{renamed}
 use Rattle.server_side.specs.Account.{Account}
 use Rattle.private_model.specs.Commands.{Reply}
 use Rattle.private_model.specs.Names.{MessageName}
 use Rattle.private_model.specs.Story.{is_message, put}
 use Rattle.private_model.specs.View.{View}
 use Rattle.log_story.specs.Clients.{is_answered}
-use Rattle.log_story.specs.Owed.{messages, name_of, number_of}
+use Rattle.log_story.specs.Owed.{kind_of, messages, name_of, number_of}
 use Rattle.log_story.specs.Plan.{Plan, own_at}
 use Rattle.log_story.specs.Tale.{Client, Tale}
 use Rattle.client_seat.proofs.Answering.{answers-due}
@@ -89,7 +90,7 @@ are_told x client i (message ∷ others) each = (
 
 module _ (plan : Plan) (moment : ℕ) (tale : Tale) (at_moment : tale.moment ≡ moment) (old new : View) (client : Client) (reply : Reply)
     (heard : (m : MessageName) → new.replies m ≡ put is_message old.replies (name_of client client.taken) (Some reply) m)
-    (unprepared : reply.to_prepare ≡ false) (last : IsLast plan client)
+    (last : IsLast plan client)
     (unanswered : is_answered plan tale old client client.taken ≡ false)
     (earlier : (ordinal : ℕ) → ordinal < client.taken → is_answered plan tale old client ordinal ≡ true) where
   abbrev x : Known
@@ -99,7 +100,7 @@ module _ (plan : Plan) (moment : ℕ) (tale : Tale) (at_moment : tale.moment ≡
   y = record { plan = plan; view = new; moment = moment }
 
   abbrev bytes : List ℕ
-  bytes = spellings (next_id last.message.last) reply.payloads
+  bytes = spellings (next_id last.message.last) (renamed (kind_of reply) (number_of plan (name_of client client.taken)) reply.payloads)
 
   place : 1 + length last.before ≡ client.taken
   place = omega (arith, last.count)
@@ -130,10 +131,6 @@ module _ (plan : Plan) (moment : ℕ) (tale : Tale) (at_moment : tale.moment ≡
       ∙ ap (λ (r : Option Reply). answer_by None r (number_of plan (name_of client client.taken)) (next_id last.message.last))
       (heard (name_of client client.taken) ∙ put_here is_message old.replies (name_of client client.taken) (Some reply) (name_of client client.taken)
       (same_message (name_of client client.taken)))
-      ∙ plain reply unprepared where
-        plain : (r : Reply) → r.to_prepare ≡ false
-            → answer_by None (Some r) (number_of plan (name_of client client.taken)) (next_id last.message.last) ≡ Some (spellings (next_id last.message.last) r.payloads)
-        plain r is = rw is refl
 
   other_message : (ordinal : ℕ) → ordinal < client.taken → is_message (name_of client ordinal) (name_of client client.taken) ≡ false
   other_message ordinal below =

@@ -186,10 +186,10 @@ module _ (setup : Setup) (codes : Codes) (plan : Plan) (tale : Tale) (l : LinkId
       pub stage_now : ((view_of setup ran_tale).links l).stage ≡ view.Answered question
       stage_now = ap (λ (k : Link). k.stage) ran_is ∙ is.there
 
-      abbrev reply_with : List ℕ → Reply
+      abbrev pub reply_with : List ℕ → Reply
       reply_with rest = reply_in fed question (take (length fed.unread - length rest) fed.unread)
 
-      abbrev heard_tale : List ℕ → Tale
+      abbrev pub heard_tale : List ℕ → Tale
       heard_tale rest = tell (Heard l (reply_with rest)) (with_wire l (record fed { unread = rest; written = [] }) ran_tale)
 
   -- Whatever is to be shown of them.

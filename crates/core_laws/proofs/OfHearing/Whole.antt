@@ -1,9 +1,10 @@
 -- An answer is read whole: the tables stand, by what was asked.
-use Rattle.std.specs.Prelude.{◌≡◌, ℕ, Bool, true, false, List, Option, Some}
+use Rattle.std.specs.Prelude.{◌≡◌, ℕ, Bool, true, false, if◌then◌else◌, List, Option, Some}
 use Rattle.std.proofs.Common.{refl, sym, ap, ◌∙◌}
 use Rattle.std.proofs.lemmas.Bool.{true≢false}
 use Rattle.mx_base.specs.declared.names.Hostgroup.{Hostgroup}
 use Rattle.reply_track.specs.Grammar.{renamed}
+use Rattle.reply_track.specs.declared.reply.ReplyKind.TheVariants as kinds
 use Rattle.session_state.specs.declared.reply_end.ReplyEnd.{ReplyEnd}
 use Rattle.server_rule.specs.Replies.{one_number}
 use Rattle.private_model.specs.Commands as commands
@@ -28,7 +29,6 @@ use Rattle.desk_laws.specs.Spares.{IsAside, asked_for}
 use Rattle.row_laws.specs.Unread.{IsNumberFor}
 use Rattle.row_laws.specs.Whose.{name_for}
 use Rattle.core_tables.specs.Hearing.{told_of}
-use Rattle.core_stands.specs.Servers.{is_preparing}
 
 -- What is kept of a question names the session that the law's does.
 
@@ -66,26 +66,19 @@ statement_same codes n ordinal key (story.Statement m due) is =
     record { due = due; is = ap (λ (k : SessionName). story.Statement k due) (sym is.name); ordinal_is = sym is.ordinal }
 statement_same codes n ordinal key _ is = absurd is
 
--- Of a statement that is no preparation the client gets the payloads as they are.
+-- The client gets the payloads by its own number of what it prepared, as the law does.
 
-pub plain_payloads : (form : Form) (number : ℕ) (payloads : List (List ℕ)) → is_preparing form ≡ false → renamed (kind_of form) number payloads ≡ payloads
-plain_payloads (forms.Text class) number payloads plain = refl
-plain_payloads forms.Fields number payloads plain = refl
-plain_payloads (forms.Prepare class) number payloads plain = absurd (true≢false plain)
-plain_payloads (forms.SetId id) number payloads plain = refl
-plain_payloads forms.ReadId number payloads plain = refl
-plain_payloads forms.Reset number payloads plain = refl
-
-pub plain_command : (reads : Reads) (form : Form) (command : Command) → IsForm reads form command → is_preparing form ≡ false → is_prepare command ≡ false
-plain_command reads (forms.Prepare class) command is plain = absurd (true≢false plain)
-plain_command reads (forms.Text class) (commands.Query text) is plain = refl
-plain_command reads (forms.Text class) (commands.Run text schema settings args) is plain = refl
-plain_command reads (forms.Text class) (commands.InitDb schema) is plain = refl
-plain_command reads forms.Fields (commands.FieldList rest) is plain = refl
-plain_command reads (forms.SetId id) (commands.SetId n) is plain = refl
-plain_command reads forms.ReadId commands.ReadId is plain = refl
-plain_command reads forms.Reset commands.Reset is plain = refl
-plain_command reads _ _ is plain = absurd is
+pub renamed_same : (reads : Reads) (form : Form) (command : Command) → IsForm reads form command → (number : ℕ) (payloads : List (List ℕ))
+    → renamed (kind_of form) number payloads ≡ renamed (if is_prepare command then kinds.Prepare else kinds.Command) number payloads
+renamed_same reads (forms.Prepare class) (commands.Prepare text) is number payloads = refl
+renamed_same reads (forms.Text class) (commands.Query text) is number payloads = refl
+renamed_same reads (forms.Text class) (commands.Run text schema settings args) is number payloads = refl
+renamed_same reads (forms.Text class) (commands.InitDb schema) is number payloads = refl
+renamed_same reads forms.Fields (commands.FieldList rest) is number payloads = refl
+renamed_same reads (forms.SetId id) (commands.SetId n) is number payloads = refl
+renamed_same reads forms.ReadId commands.ReadId is number payloads = refl
+renamed_same reads forms.Reset commands.Reset is number payloads = refl
+renamed_same reads _ _ is number payloads = absurd is
 
 -- A desk hears the same by the number that was read as by the answer's one number.
 

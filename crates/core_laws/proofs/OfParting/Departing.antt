@@ -324,8 +324,8 @@ module _ (links_stay : LinksStay) (untouched : SessionsStay) (others_stay : Othe
     next_for server kept link asking (purposes.Statement n ordinal key) at = record {
       said = at.said;
       first = at.first;
-      text = at.text;
-      plain = at.plain;
+      asked = at.asked;
+      number = at.number;
       taken_up = taken_after g (Left c ∷ g.tale.story) g.tale.moment over n ordinal at.taken_up;
     }
     next_for server kept link asking (purposes.Prep n ordinal key) at = record {

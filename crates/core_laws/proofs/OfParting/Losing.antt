@@ -390,8 +390,8 @@ module _ (links_stay : LinksStay) (untouched : SessionsStay) (others_stay : Othe
   next_for row asking (purposes.Statement m ordinal key) at = record {
     said = λ due there same. readied_then row asking (story.Statement m due) (at.said due there same);
     first = at.first;
-    text = at.text;
-    plain = at.plain;
+    asked = at.asked;
+    number = at.number;
     taken_up = taken_after g (Gone l ∷ g.tale.story) (suc g.tale.moment) g.over m ordinal at.taken_up;
   }
   next_for row asking (purposes.Prep m ordinal key) at = record {

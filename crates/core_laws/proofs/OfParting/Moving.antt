@@ -116,8 +116,8 @@ module _ (g : Ground) (lawful : IsLawful g.setup g.tale.story) (moment : ℕ) (o
     next_for asking (purposes.Statement n ordinal key) is = record {
       said = is.said;
       first = is.first;
-      text = is.text;
-      plain = is.plain;
+      asked = is.asked;
+      number = is.number;
       taken_up = taken_after g g.tale.story moment over n ordinal is.taken_up;
     }
     next_for asking (purposes.Prep n ordinal key) is = record {
@@ -146,7 +146,7 @@ module _ (g : Ground) (lawful : IsLawful g.setup g.tale.story) (moment : ℕ) (o
       last = is.last;
       sent = is.sent;
       hostgroup = is.hostgroup;
-      plain = is.plain;
+      number = is.number;
       first = is.first;
       coming = is.coming;
     }

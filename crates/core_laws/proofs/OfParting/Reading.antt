@@ -162,8 +162,8 @@ module _ (link_stays : LinksStay) (untouched : SessionsStay) (g : Ground) (t : T
     next_for link asking (purposes.Statement n ordinal key) spares is = record {
       said = λ due there same. is.said due (due_before g.setup (view_on g) n ordinal due e spares same there) same;
       first = is.first;
-      text = λ due there same. is.text due (due_before g.setup (view_on g) n ordinal due e spares same there) same;
-      plain = is.plain;
+      asked = λ due there same. is.asked due (due_before g.setup (view_on g) n ordinal due e spares same there) same;
+      number = is.number;
       taken_up = taken_after g (e ∷ g.tale.story) g.tale.moment g.over n ordinal is.taken_up;
     }
     next_for link asking (purposes.Prep n ordinal key) spares is = record {
@@ -192,7 +192,7 @@ module _ (link_stays : LinksStay) (untouched : SessionsStay) (g : Ground) (t : T
       last = is.last;
       sent = is.sent;
       hostgroup = is.hostgroup;
-      plain = is.plain;
+      number = is.number;
       first = is.first;
       coming = is.coming;
     }
@@ -280,7 +280,7 @@ module _ (g : Ground) (t other : Tabled) (l : LinkId) (row : Row) where
 
   for_kept : (link : Link) (asking : Asking) (purpose : Purpose) → KeepsNextFor t other purpose → IsNextFor purpose g t row link asking
       → IsNextFor purpose g other row link asking
-  for_kept link asking (purposes.Statement n ordinal key) keeps is = record { said = is.said; first = first_kept n ordinal keeps is.first; text = is.text; plain = is.plain; taken_up = is.taken_up }
+  for_kept link asking (purposes.Statement n ordinal key) keeps is = record { said = is.said; first = first_kept n ordinal keeps is.first; asked = is.asked; number = is.number; taken_up = is.taken_up }
   for_kept link asking (purposes.Prep n ordinal key) keeps is = record { said = is.said; told = is.told; taken_up = is.taken_up }
   for_kept link asking (purposes.Sync n) keeps is = is
   for_kept link asking purposes.Own keeps is = is
@@ -307,7 +307,7 @@ module _ (g : Ground) (t other : Tabled) (l : LinkId) (row : Row) where
         last = ap (λ (x : Stated). x.ordinal) at.same ∙ is.last;
         sent = ap (λ (x : Stated). x.sent) at.same ∙ is.sent;
         hostgroup = ap (λ (x : Stated). x.hostgroup) at.same ∙ is.hostgroup;
-        plain = is.plain;
+        number = is.number;
         first = ap (λ (x : Glance). x.first) now.same ∙ is.first;
         coming = ap (λ (x : Glance). x.coming) now.same ∙ is.coming;
       }

@@ -76,7 +76,9 @@ module _ (g : Ground) (client : tales.Client) (e : Happening)
     working_now (Some work) homes is = record {
       last = is.last;
       went = is.went;
-      command = is.command;
+      number = is.number;
+      only = is.only;
+      prepares = is.prepares;
       first = is.first;
       unsent = is.unsent;
       there = λ sent. homes work refl sent ∙ is.there sent ∙ sym (carriers work.ordinal);

@@ -1,11 +1,11 @@
 -- What happens to others leaves a client as it stands.
-use Rattle.std.specs.Prelude.{◌≡◌, ◌≤◌, ◌-◌, ℕ, suc, Bool, true, false, slice_get, Option, Some, None}
-use Rattle.std.proofs.Common.{refl, sym, ap, ◌∙◌, arith, inl}
+use Rattle.std.specs.Prelude.{◌≡◌, ◌<◌, ◌≤◌, ◌-◌, ℕ, suc, Bool, true, false, slice_get, Option, Some, None}
+use Rattle.std.proofs.Common.{refl, sym, ap, ◌∙◌, subst, arith, inl}
 use Rattle.private_model.specs.Names.{ClientNo, Hostgroup}
 use Rattle.private_model.specs.Story.{BecameDue, Broke, Capture, Dropped, End, Freed, Gone, Happening, Heard, Left, LoggedIn, Mirrored, Own, Prep, Question, Ran, Sent, Statement, Sync, Unprepared}
 use Rattle.private_model.specs.View.{Answered, Asked, Held, Quiet, Setup, Stage, View, present, view_step}
 use Rattle.log_story.specs.Clients.{is_answered}
-use Rattle.log_story.specs.Owed.{messages, name_of}
+use Rattle.log_story.specs.Owed.{messages, name_of, number_of}
 use Rattle.log_story.specs.Plan.{Plan}
 use Rattle.log_story.specs.Tale.{tell}
 use Rattle.log_story.specs.Tale as tales
@@ -73,7 +73,10 @@ working_so g after client row None plan carriers is = is
 working_so g after client row (Some work) plan carriers is = record {
   last = is.last;
   went = is.went;
-  command = is.command;
+  number = λ prepares. (ap (λ (p : Plan). number_of p (name_of client work.ordinal)) plan ∙ (is.number prepares).0, (is.number prepares).1);
+  only = λ some. is.only (subst (λ (p : Plan). 0 < number_of p (name_of client work.ordinal)) plan some);
+  prepares = λ prepares message found.
+      is.prepares prepares message (ap (λ (p : Plan). slice_get (messages p client) (client.taken - 1)) (sym plan) ∙ found);
   unsent = is.unsent;
   there = λ sent. is.there sent
       ∙ ap (λ (ordinal : ℕ). (view_on g).carriers (name_of client ordinal)) is.last ∙ sym carriers

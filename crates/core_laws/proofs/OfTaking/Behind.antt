@@ -1,5 +1,5 @@
 -- A client stands once its next message was taken up.
-use Rattle.std.specs.Prelude.{◌≡◌, ◌<◌, ◌≤◌, ℕ, zero, suc, ◌+◌, ◌-◌, Bool, true, false, not, ◌||◌, is_some, if◌then◌else◌, List, [], ◌++◌, slice_get, Option, Some, None}
+use Rattle.std.specs.Prelude.{◌≡◌, ◌<◌, ◌≤◌, ℕ, zero, suc, ◌+◌, ◌-◌, nat_eq, slice_index_or, Bool, true, false, not, ◌||◌, is_some, if◌then◌else◌, List, [], ◌++◌, slice_get, Option, Some, None}
 use Rattle.std.specs.Option.{option_map}
 use Rattle.std.proofs.Common.{refl, sym, ap, ◌∙◌, subst, arith}
 use Rattle.packet_frame.specs.Packets.{Framed, first_message, next_id, spellings, split, with_front}
@@ -11,8 +11,10 @@ use Rattle.private_model.specs.Story.{BecameDue}
 use Rattle.private_model.specs.View.{Held, Setup, View, due_of, present, view_step}
 use Rattle.server_rule.specs.Classes.{Reads}
 use Rattle.log_story.specs.Clients.{is_answered}
-use Rattle.log_story.specs.Owed.{messages, name_of}
-use Rattle.log_story.specs.Plan.{Plan, Route, own_at}
+use Rattle.log_story.specs.Owed.{messages, name_of, number_of}
+use Rattle.log_story.specs.Plan.{Plan, Route, com_prepare, own_at}
+use Rattle.link_state.specs.declared.wish.Command as links
+use Rattle.link_state.specs.declared.wish.Command.TheVariants.{Plain, Prepare, Execute}
 use Rattle.log_story.specs.Tale as tales
 use Rattle.log_story.specs.Tale.{Tale, tell, with_client}
 use Rattle.step_laws.specs.Taken.{next_of}
@@ -32,14 +34,16 @@ use Rattle.client_desk.specs.Desks.{session_of, taken_on}
 use Rattle.client_desk.specs.declared.desk.Desk.{Desk}
 use Rattle.client_desk.specs.declared.work.Work.{Work}
 use Rattle.desk_laws.proofs.Dues.{due_before, due_next}
-use Rattle.desk_laws.specs.Stands.{AreDueEarlier, AreToCome, IsDesk, IsPlaced, IsRequest, IsSession, message_at, name_at}
+use Rattle.desk_laws.specs.Stands.{AreDueEarlier, AreToCome, IsDesk, IsPlaced, IsRequest, IsSession, kind_of, message_at, name_at}
 use Rattle.core_tables.specs.Arrivals.{seated}
 use Rattle.core_tables.specs.Taking.{answers, goes, goes_found, passes_found}
 use Rattle.core_tables.specs.declared.client.Client.{Client}
-use Rattle.core_stands.specs.Clients.{IsClient, IsGoing, IsOwing, IsPhase, IsWorkingOr}
+use Rattle.core_stands.specs.Clients.{IsNumberedNext, IsClient, IsGoing, IsOwing, IsPhase, IsWorkingOr}
 use Rattle.core_stands.specs.Grounds.{Ground, known_on, on, view_on}
 use Rattle.core_laws.specs.arrival.Ups.{IsUpNext}
-use Rattle.core_laws.specs.taking.Takes.{IsSent, is_reset, own_of, route_of}
+use Rattle.core_laws.proofs.OfTaking.Standing.{prepare_byte}
+use Rattle.core_laws.proofs.OfWriting.Numbering.{number_routed, unnumbered}
+use Rattle.core_laws.specs.taking.Takes.{IsNumberedAs, IsSent, is_reset, own_of, route_of}
 use Rattle.core_laws.proofs.OfTaking.Owing.{all_answered, are_answered, due_size, due_with, due_without}
 
 some_is : {A : Type 0} (a b : A) → Some a ≡ Some b → a ≡ b
@@ -228,7 +232,7 @@ module _ (g : Ground) (client : tales.Client) (row : Client) (is : IsClient g cl
     module _ (route : Route) (command : Command) (work : Work) (sends : IsSent g client up.message route command work) where
       abbrev after : Ground
       after = on g (with_client (next_of client)
-          (tell (BecameDue client.number work.hostgroup (suc client.taken) route.key command route.multiplex) g.tale))
+          (tell (BecameDue client.number work.hostgroup (suc client.taken) work.key command route.multiplex) g.tale))
 
       abbrev due_name : SessionName
       due_name = present (view_on g) client.number work.hostgroup
@@ -238,14 +242,14 @@ module _ (g : Ground) (client : tales.Client) (row : Client) (is : IsClient g cl
           let some : 0 < suc client.taken = omega arith in
           let next : suc client.taken ≤ suc client.taken = omega arith in
           due_next (view_on g).dues (view_on g).carriers client.number (suc client.taken) is.coming.due due_name
-          (due_of (view_on g) due_name (suc client.taken) route.key command route.multiplex) some next
+          (due_of (view_on g) due_name (suc client.taken) work.key command route.multiplex) some next
           (is.coming.unsent (suc client.taken) (omega arith))
 
       sent_desk : Seats → Dues → IsDesk g.setup.reads (view_on after) client.number (sent_row work).desk
       sent_desk seats dues =
           dues g.setup (view_on g) client.number (record row.desk { seat = sent_seat work })
           (seats g.setup.reads (view_on g) client.number row.desk is.desk (sent_seat work) refl refl is.desk.place)
-          work (suc client.taken) route.key command route.multiplex sends.request placed
+          work (suc client.taken) work.key command route.multiplex sends.request placed
           (is.coming.unsent (suc client.taken) (omega arith)) (is.coming.unanswered (suc client.taken) (omega arith))
 
       first_of : (message : Framed) → slice_get (messages g.plan client) (suc client.taken - 1) ≡ Some message → seat.first ≡ next_id message.last
@@ -254,8 +258,45 @@ module _ (g : Ground) (client : tales.Client) (row : Client) (is : IsClient g cl
           let one : Some message ≡ Some up.message = sym there ∙ ap (slice_get (messages g.plan client)) at ∙ up.next.next in
           up.first ∙ ap (λ (m : Framed). next_id m.last) (sym (some_is message up.message one))
 
-      pub sent_stands : Seats → Dues → IsClient after (next_of client) (sent_row work)
-      sent_stands seats dues = record {
+      -- what it prepares
+      prepares_of : kind_of command ≡ Prepare → (message : Framed) → slice_get (messages g.plan client) (suc client.taken - 1) ≡ Some message
+          → nat_eq (slice_index_or message.payload 0 0) com_prepare ≡ true
+      prepares_of kind message there =
+          let at : suc client.taken - 1 ≡ client.taken = omega arith in
+          let one : Some message ≡ Some up.message = sym there ∙ ap (slice_get (messages g.plan client)) at ∙ up.next.next in
+          ap (λ (m : Framed). nat_eq (slice_index_or m.payload 0 0) com_prepare) (some_is message up.message one)
+          ∙ prepare_byte g.setup (view_on g) g.plan client (suc client.taken) route up.message.payload command work.key kind sends.asked
+
+      numbered_next : IsNumberedAs route work seat.statements → statements.last ≡ seat.statements.last → work.command ≡ Prepare
+          → IsNumberedNext after (next_of client) (sent_row work) work
+      numbered_next numbered last prepares =
+          let next = numbered prepares in (
+            ap (λ (k : ℕ). number_of g.plan (name_of client k)) (sym sends.request.ordinal_is)
+                ∙ number_routed g.plan (name_of client (suc client.taken)) route sends.routed ∙ next.0 ∙ ap (λ (n : ℕ). n + 1) (sym last),
+            subst (λ (n : ℕ). n < 4294967295) (sym last) next.1,
+          )
+
+      prepares_only : 0 < number_of g.plan (name_of client work.ordinal) → kind_of command ≡ Prepare
+      prepares_only some = by (kind_of command) refl where
+        routed_so : number_of g.plan (name_of client work.ordinal) ≡ route.number
+        routed_so =
+            ap (λ (k : ℕ). number_of g.plan (name_of client k)) (sym sends.request.ordinal_is)
+            ∙ number_routed g.plan (name_of client (suc client.taken)) route sends.routed
+
+        none : (kind_of command ≡ Prepare → ⊥) → ⊥
+        none other =
+            let zero_so : route.number ≡ 0 = unnumbered g.setup route (due_of (view_on g) due_name (suc client.taken) work.key command route.multiplex) command sends.keyed other in
+            let same : number_of g.plan (name_of client work.ordinal) ≡ 0 = routed_so ∙ zero_so in
+            omega (arith, same, some)
+
+        by : (kind : links.Command) → kind_of command ≡ kind → kind_of command ≡ Prepare
+        by Prepare is = is
+        by Plain is = absurd (none (λ same. let no : Plain ≡ Prepare = sym is ∙ same in cc))
+        by Execute is = absurd (none (λ same. let no : Execute ≡ Prepare = sym is ∙ same in cc))
+
+      pub sent_stands : Seats → Dues → IsNumberedAs route work seat.statements → statements.last ≡ seat.statements.last
+          → IsClient after (next_of client) (sent_row work)
+      sent_stands seats dues numbered last = record {
         who = record { link = is.who.link; number = is.who.number; salt = is.who.salt; drained = is.who.drained };
         heard = heard_by (sent_seat work) refl;
         owed = subst (λ (at : Phase). IsOwing at (g.fresh client.number) after (next_of client) (sent_seat work)) (sym up.serves)
@@ -271,7 +312,9 @@ module _ (g : Ground) (client : tales.Client) (row : Client) (is : IsClient g cl
           working = record {
             last = sym sends.request.ordinal_is;
             went = refl;
-            command = sends.kind;
+            number = numbered_next numbered last;
+            only = λ numbered_so. sym sends.request.kind ∙ prepares_only numbered_so;
+            prepares = λ prepares. prepares_of (sends.request.kind ∙ prepares);
             first = first_of;
             unsent = λ is_unsent. nothing_coming;
             there = λ is_sent. absurd (cc);

@@ -60,7 +60,7 @@ module _ (g : Ground) (cs : List tales.Client) where
     working_so : (work : Option Work) → IsWorkingOr g x row work → IsWorkingOr with_clients x row work
     working_so None is = is
     working_so (Some work) is =
-        record { last = is.last; went = is.went; command = is.command; first = is.first; unsent = is.unsent; there = is.there }
+        record { last = is.last; went = is.went; number = is.number; only = is.only; prepares = is.prepares; first = is.first; unsent = is.unsent; there = is.there }
 
     phase_so : (ended : Bool) → IsPhase ended g x row → IsPhase ended with_clients x row
     phase_so true is = record {
@@ -169,8 +169,8 @@ module _ (g : Ground) (past : Story) (t : Tabled) (client : tales.Client) (row n
     next_for_so link asking (purposes.Statement n ordinal key) is = record {
       said = is.said;
       first = first_so n ordinal server.link.first is.taken_up is.first;
-      text = is.text;
-      plain = is.plain;
+      asked = is.asked;
+      number = is.number;
       taken_up = taken_so n ordinal is.taken_up;
     }
     next_for_so link asking (purposes.Prep n ordinal key) is = record { said = is.said; told = is.told; taken_up = taken_so n ordinal is.taken_up }
@@ -196,7 +196,7 @@ module _ (g : Ground) (past : Story) (t : Tabled) (client : tales.Client) (row n
       last = is.last;
       sent = is.sent;
       hostgroup = is.hostgroup;
-      plain = is.plain;
+      number = is.number;
       first = is.first;
       coming = is.coming;
     } where

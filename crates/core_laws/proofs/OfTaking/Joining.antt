@@ -34,6 +34,7 @@ use Rattle.core_stands.specs.Grounds.{Ground, view_on}
 use Rattle.core_stands.specs.Stands.{IsKeyedFor}
 use Rattle.core_laws.specs.taking.Joins.{IsDecided, IsUnprepared, is_field_list, is_init_db, is_query, text_of, text_route}
 use Rattle.core_laws.specs.taking.Takes.{IsSent, IsUpOf}
+use Rattle.core_laws.proofs.OfTaking.Standing.{requested_is}
 
 -- a text that is no STMT_PREPARE
 abbrev pub IsSaid : Command → Type 0
@@ -145,10 +146,9 @@ module _ (g : Ground) (t other : Tabled) (client : tales.Client) (row : Client) 
     routed = decided.routed;
     unanswered = decided.unanswered;
     single = refl;
-    asked = asks;
+    asked = requested_is g.setup (view_on g) g.plan client (suc client.taken) (text_route hostgroup text multiplex) is.up.message.payload due.command asks;
     request = as_request g.setup.reads form due.command (suc client.taken) since_ms hostgroup multiplex (spelling 0 (text_payload due.command))
         (decided.formed due.command asks) (is_said is.up.message text due.command decided.unprepared asks) refl;
-    kind = refl;
     hostgroup = refl;
     keyed = keyed_so g.setup (text_route hostgroup text multiplex)
         (due_of (view_on g) (present (view_on g) client.number hostgroup) (suc client.taken) 0 due.command multiplex)

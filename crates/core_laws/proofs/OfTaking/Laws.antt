@@ -37,7 +37,7 @@ use Rattle.core_stands.specs.Servers.{IsServerOr}
 use Rattle.core_stands.specs.Stands.{IsAt, Stands}
 use Rattle.core_laws.specs.parting.Frames.{SparesRowOr}
 use Rattle.core_laws.specs.parting.Partings.{HasLives, IsAnew, IsEnding, IsLeaving}
-use Rattle.core_laws.specs.taking.Takes.{IsSent, IsUpOf, is_reset, own_of, route_of, took}
+use Rattle.core_laws.specs.taking.Takes.{IsNumberedAs, IsSent, IsUpOf, is_reset, own_of, route_of, took}
 use Rattle.core_laws.proofs.OfPrepared.Taking.{prepared_then, prepared_unrouted, refuses_unrouted}
 use Rattle.core_laws.proofs.OfTaking.Behind.{Dues, IsFound, Seats, answered_row, answered_stands, answers_is, found_up, goes_is, home_is, idle, life_is, placed, settings_are}
 use Rattle.core_laws.proofs.OfTaking.Behind.{sent_row, sent_stands, works}
@@ -97,10 +97,11 @@ module _ (same_law : SameStands) (seats : Seats) (service : Service) (g : Ground
       → ((g : Ground) (t : Tabled) (l : LinkId) (row : Option Server) (e : Happening) → IsServerOr g t l row → IsElsewhere l e
       → SparesRowOr (view_on g) e row → IsLawful g.setup (e ∷ g.tale.story) → IsServerOr (on g (tell e g.tale)) t l row)
       → (flag : ℕ) (route : Route) (command : Command) (work : Work) (statements : ClientStatements)
-      → IsSent g client is.up.message route command work → AreNoted false is.up.message.payload row.desk.seat.statements statements
+      → IsSent g client is.up.message route command work → IsNumberedAs route work row.desk.seat.statements
+      → AreNoted false is.up.message.payload row.desk.seat.statements statements
       → IsSame other (client_changed client.number (goes flag work statements) t)
       → Stands service (on g (took g client is.up.message)) other
-  dues due_law clients_law servers_law flag route command work statements sends noted same =
+  dues due_law clients_law servers_law flag route command work statements sends numbered noted same =
       let new : Client = sent_row g client row at up is.few flag statements work in
       let e : Happening = due_now g client is.up.message route command work sends in
       let after : Ground = on g (with_client (next_of client) (tell e g.tale)) in
@@ -114,8 +115,8 @@ module _ (same_law : SameStands) (seats : Seats) (service : Service) (g : Ground
       (λ l. servers_law g t l (t.links l) e (stands.servers l) (λ elsewhere no. absurd (none-some elsewhere no))
       (spares_row g client is.up.message route command work sends t is.seated l (stands.servers l)) (stands.lawful, tt))
       (stands.lawful, tt)
-      (sent_stands g client row at up is.few flag statements route command work sends seats due_law) (λ m. refl)
-      (record { route = route; routed = sends.routed; keyed = sends.keyed; whole = sends.whole }, stands.duly)
+      (sent_stands g client row at up is.few flag statements route command work sends seats due_law numbered noted.last) (λ m. refl)
+      (record { route = route; routed = sends.routed; hostgroup = sym sends.hostgroup; multiplex = refl; keyed = sends.keyed; whole = sends.whole }, stands.duly)
       (λ going. prepared_then g (e ∷ g.tale.story) client row new is.up.message false
       (stands.prepared client is.seated row is.there (serving row.desk.seat up.account up.serves)) up.answered up.next
       (ap (λ (r : Option Route). not (is_some r)) sends.routed) noted (λ m. refl) (λ back. absurd (true≢false (sym back)))) in

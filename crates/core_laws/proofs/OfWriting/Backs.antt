@@ -34,18 +34,21 @@ use Rattle.served_link.specs.declared.row.Row.{Row}
 use Rattle.client_desk.specs.Works.{body_back, given_back}
 use Rattle.client_desk.specs.declared.desk.Desk.{Desk}
 use Rattle.client_desk.specs.declared.work.Work.{Work}
-use Rattle.desk_laws.specs.Stands.{IsBody, IsDesk, is_text}
+use Rattle.link_state.specs.declared.wish.Command as links
+use Rattle.link_state.specs.declared.wish.Command.TheVariants as kinds
+use Rattle.client_desk.specs.declared.work.Body.{Body}
+use Rattle.desk_laws.specs.Stands.{IsBody, IsDesk, is_text, kind_of}
 use Rattle.row_laws.specs.Begins.{IsNext}
 use Rattle.row_laws.specs.Rows.{IsRowIn}
 use Rattle.row_laws.specs.Whose.{name_in}
 use Rattle.row_laws.specs.Written.{spelt_as}
-use Rattle.core_tables.specs.Beginning.{back_by, client_given, given, given_for, given_to, next_back, with_row, with_work}
+use Rattle.core_tables.specs.Beginning.{back_by, client_given, given, given_for, given_to, next_back, packets_back, with_row, with_work}
 use Rattle.core_tables.specs.Passing.{is_of}
 use Rattle.core_tables.specs.Tables.{IsSame, Tabled, client_changed, link_changed}
 use Rattle.core_tables.specs.declared.client.Client.{Client}
 use Rattle.core_tables.specs.declared.server.Server.{Server}
 use Rattle.core_stands.specs.Grounds.{Ground, view_on}
-use Rattle.core_stands.specs.Servers.{IsNextFor, IsNextOf, IsNextStatement, IsPartedAt, IsReplyingAt, IsServer, IsServerBy, IsServerOr, IsAhead, OfLent, is_stating}
+use Rattle.core_stands.specs.Servers.{IsAskedFor, IsNextFor, IsNextOf, IsNextStatement, IsPartedAt, IsReplyingAt, IsServer, IsServerBy, IsServerOr, IsAhead, OfLent, is_stating}
 use Rattle.core_stands.specs.Stands.{AreClients, IsAt, Stands}
 use Rattle.core_laws.proofs.OfWriting.Begun.{IsDueThere}
 use Rattle.core_laws.proofs.OfWriting.Framing.{Reads, client_apart, client_here, flipped, homes_on, link_apart, link_here, same_reads, server_on}
@@ -54,7 +57,7 @@ use Rattle.core_laws.proofs.OfWriting.Knowing.{is_servers, present_name, quiet, 
 use Rattle.core_laws.proofs.OfWriting.Nexts.{onward_none}
 use Rattle.core_laws.proofs.OfWriting.Sending.{by_to_server, same_but, servers_made}
 use Rattle.core_laws.proofs.OfWriting.Stating.{due_at, due_is, due_ordinal}
-use Rattle.core_laws.proofs.OfWriting.Texts.{beside, is_beside, server_as}
+use Rattle.core_laws.proofs.OfWriting.Asked.{beside, is_beside, server_as}
 
 -- row_laws' rows_take_back, desk_laws' taken_stands and parting_laws' same_stands
 
@@ -82,6 +85,29 @@ text_spelt commands.ReadId number said is same = absurd (false≢true is)
 text_spelt (commands.Run text schema settings args) number said is same = absurd (false≢true is)
 text_spelt commands.Reset number said is same = absurd (false≢true is)
 text_spelt commands.Quit number said is same = absurd (false≢true is)
+
+-- What is taken back of a text are its packets; the arguments of an execute stayed at the desk.
+
+texted : (command : Command) → IsAskedFor command → (kind_of command ≡ kinds.Execute → ⊥) → is_text command ≡ true
+texted (commands.Run text schema settings args) asked other = absurd (other refl)
+texted (commands.Query text) asked other = asked
+texted (commands.InitDb schema) asked other = asked
+texted (commands.FieldList rest) asked other = asked
+texted (commands.Prepare text) asked other = asked
+texted (commands.SetId n) asked other = asked
+texted commands.ReadId asked other = asked
+texted commands.Reset asked other = asked
+texted commands.Quit asked other = asked
+
+body_given : (kind : links.Command) (body : Body) (command : Command) (bytes : List ℕ) (number : Option ℕ) → kind_of command ≡ kind → IsAskedFor command
+    → IsBody body command → bytes ≡ spelt_as command number → IsBody (body_back (packets_back kind bytes) body) command
+body_given kinds.Execute body command bytes number kind asked is said = is
+body_given kinds.Plain body command bytes number kind asked is said =
+    let text = texted command asked (λ executes. absurd (let no : kinds.Execute ≡ kinds.Plain = sym executes ∙ kind in cc)) in
+    (text, text_spelt command number bytes text said)
+body_given kinds.Prepare body command bytes number kind asked is said =
+    let text = texted command asked (λ executes. absurd (let no : kinds.Execute ≡ kinds.Prepare = sym executes ∙ kind in cc)) in
+    (text, text_spelt command number bytes text said)
 
 next_bytes : (writing : Option Writing) (w : Writing) (said : List ℕ) → writing ≡ Some w → IsNext writing said → w.bytes ≡ said
 next_bytes None w said same is = absurd is
@@ -202,7 +228,7 @@ module _ (takes : TakesBack) (back : ComesBack) (alike : SameStands) (service : 
     module _ (client : Client) (work : Work) (at : t.clients name.client ≡ Some client) (in_work : client.desk.work ≡ Some work)
         (unsent : work.sent ≡ false) (of : is_of name ordinal client.desk work ≡ true) where
       abbrev other : Work
-      other = given_back asking.form (Some w.bytes) work
+      other = given_back asking.form (packets_back work.command w.bytes) work
 
       due_there : IsDueThere g client name ordinal work
       due_there = due_at service g t client name ordinal work stands at in_work unsent of
@@ -229,12 +255,13 @@ module _ (takes : TakesBack) (back : ComesBack) (alike : SameStands) (service : 
           let dues_here : (view_on g).dues name ≡ Some due_there.unsent.due = due_is g client name ordinal work due_there in
           let ordinal_is = due_ordinal g client name ordinal work due_there in
           let said = next_statement.said due_there.unsent.due dues_here ordinal_is in
-          let text = next_statement.text due_there.unsent.due dues_here ordinal_is in
+          let asked = next_statement.asked due_there.unsent.due dues_here ordinal_is in
+          let request = due_there.unsent.as_due.request in
           let spelt_so = next_bytes row.link.writing w _ writing said.spelt_so in
-          back g.setup.reads (view_on g) c.number client.desk is_desk work asking.form (Some w.bytes) in_work
+          back g.setup.reads (view_on g) c.number client.desk is_desk work asking.form (packets_back work.command w.bytes) in_work
           (λ due dues. subst (λ (d : Due). IsForm g.setup.reads asking.form d.command) (dues_named c is_desk due dues) said.asks.form)
-          (λ due dues. subst (λ (d : Due). IsBody (body_back (Some w.bytes) work.body) d.command) (dues_named c is_desk due dues)
-          (text, text_spelt due_there.unsent.due.command _ w.bytes text spelt_so))
+          (λ due dues. subst (λ (d : Due). IsBody (body_back (packets_back work.command w.bytes) work.body) d.command) (dues_named c is_desk due dues)
+          (body_given work.command work.body due_there.unsent.due.command w.bytes _ request.kind asked request.body spelt_so))
 
       goes_back : Stands service g (made base)
       goes_back =
@@ -256,7 +283,7 @@ module _ (takes : TakesBack) (back : ComesBack) (alike : SameStands) (service : 
         let same : client ≡ other = same_Some client other (sym at ∙ at_other) in
         subst (λ (x : Client). gives x ≡ x) same
         (ap (λ (x : Option Work). with_work (option_map (given_to name ordinal asking.form w.bytes client.desk) x) client) in_work
-        ∙ ap (λ (b : Bool). with_work (Some (if b then given_back asking.form (Some w.bytes) work else work)) client) stays
+        ∙ ap (λ (b : Bool). with_work (Some (if b then given_back asking.form (packets_back work.command w.bytes) work else work)) client) stays
         ∙ ap (λ (x : Option Work). with_work x client) (sym in_work)))
 
     work_by : (client : Client) → t.clients name.client ≡ Some client → (found : Option Work) → client.desk.work ≡ found → Stands service g (made base)

@@ -2,7 +2,7 @@
 use Rattle.std.specs.Prelude.{◌≡◌, ◌⊎◌, ◌<◌, ℕ, Bool, true, false, not, ◌&&◌, ◌||◌, is_some, nat_eq, nat_lt, length, drop, if◌then◌else◌, List, [], ◌∷◌, ◌++◌, Option, Some, None}
 use Rattle.std.specs.Option.{option_map_or}
 use Rattle.std.proofs.Common.{refl, sym, ap, ◌∙◌, subst, arith}
-use Rattle.std.proofs.lemmas.Bool.{and_parts, and_from, false≢true, true≢false, not-true}
+use Rattle.std.proofs.lemmas.Bool.{and_parts, and_from, false≢true, true≢false, not-true, ltb-true}
 use Rattle.std.proofs.lemmas.Option.{none-some, same_Some}
 use Rattle.mx_base.specs.Sent.{Sent as Offer}
 use Rattle.mx_base.specs.declared.names.ClientNo.{ClientNo}
@@ -12,6 +12,8 @@ use Rattle.mx_base.specs.declared.tag.Tag.TheVariants as tags
 use Rattle.server_rule.specs.Classes.{Reads}
 use Rattle.server_rule.specs.Servers.{is_some_of}
 use Rattle.private_model.proofs.Maps.{name_of, number_of, same_number}
+use Rattle.private_model.specs.Commands as commands
+use Rattle.private_model.specs.Commands.{Command}
 use Rattle.private_model.specs.Names.{LinkId, MessageName, SessionName}
 use Rattle.private_model.specs.Story.{Broke, Capture, Due, End, Happening, Own, Prep, Question, Sent, Statement, Sync, message_of}
 use Rattle.private_model.specs.View.{Link, Setup, View}
@@ -25,7 +27,7 @@ use Rattle.link_state.specs.Writes as writes
 use Rattle.link_state.specs.declared.asking.Asking.{Asking}
 use Rattle.link_state.specs.declared.asking.Purpose.{Purpose}
 use Rattle.link_state.specs.declared.asking.Purpose.TheVariants as purposes
-use Rattle.link_state.specs.declared.wish.Command.TheVariants.{Plain}
+use Rattle.link_state.specs.declared.wish.Command.TheVariants.{Prepare}
 use Rattle.server_side.specs.Account.{Account as Login}
 use Rattle.log_story.specs.Owed.{name_of as message_named}
 use Rattle.log_story.specs.Servers.{logged_in_as}
@@ -46,12 +48,15 @@ use Rattle.link_state.specs.Asks.{lends_by}
 use Rattle.lent_link.specs.Links.{left_at, left_of}
 use Rattle.served_link.specs.declared.row.LeftSession.{LeftSession}
 use Rattle.served_link.specs.declared.row.Row.{Row}
-use Rattle.row_laws.specs.Begins.{IsAsked, IsLender}
+use Rattle.row_laws.specs.Begins.{IsAsked, IsLender, IsNext}
+use Rattle.row_laws.specs.Written.{spelt_as}
 use Rattle.row_laws.specs.Whose.{IsHolder, IsLeft, IsWhose, name_in}
 use Rattle.core_tables.specs.Passing.{is_joined, is_lent_to, is_nobody}
+use Rattle.core_stands.specs.Clients.{IsNumberedNext}
 use Rattle.core_stands.specs.Grounds.{Ground, view_on}
-use Rattle.core_stands.specs.Servers.{IsTagged}
+use Rattle.core_stands.specs.Servers.{IsTagged, keyed_text}
 use Rattle.core_laws.specs.writing.Planned.{planned_on}
+use Rattle.core_laws.proofs.OfWriting.Tests.{IsLiveFor}
 
 abbrev pub told_for : Ground → LinkId → Tag → List Happening
 told_for g l tag = begun_on g.setup g.plan g.tale.moment (view_on g) l (g.tale.wires l) tag
@@ -66,7 +71,7 @@ pub record IsDueThere (g : Ground) (row : Client) (name : SessionName) (ordinal 
   pub desk : IsDesk g.setup.reads (view_on g) client.number row.desk
   pub names : name ≡ desks.name_of row.desk work.hostgroup
   pub unsent : IsUnsent g.setup.reads (view_on g) client.number row.desk.seat.place work
-  pub plain : work.command ≡ Plain
+  pub number_next : work.command ≡ Prepare → IsNumberedNext g client row work
   pub unanswered : (view_on g).replies (message_at client.number work.ordinal) ≡ None
   pub dry : row.desk.seat.outbox.coming ≡ []
   pub route : Route
@@ -87,6 +92,19 @@ pub record IsStated (g : Ground) (t : Tabled) (row : Row) (name : SessionName) (
   pub home : ((session_of client.desk work.hostgroup).home ≡ None) ⊎ (name_in row.link.state.carries ≡ Some name)
   pub carries : name_in (lends_by name row.link.state.carries) ≡ Some name
 
+-- so is one whose text is prepared first
+pub record IsPrepDue (g : Ground) (t : Tabled) (row : Row) (name : SessionName) (ordinal : ℕ) (question : Question) : Type 0 where
+  pub client : Client
+  pub there : t.clients name.client ≡ Some client
+  pub work : Work
+  pub in_work : client.desk.work ≡ Some work
+  pub unsent : work.sent ≡ false
+  pub at : IsDueThere g client name ordinal work
+  pub is : question ≡ Prep name at.unsent.due.key (keyed_text g at.unsent.due)
+  pub home : ((session_of client.desk work.hostgroup).home ≡ None) ⊎ (name_in row.link.state.carries ≡ Some name)
+  pub carries : name_in (lends_by name row.link.state.carries) ≡ Some name
+  pub present : row.left ≡ None
+
 -- a question that is no statement and prepares none
 abbrev pub IsStep : Question → Type 0
 IsStep (Statement n due) = ⊥
@@ -95,6 +113,7 @@ IsStep _ = Unit {0}
 
 abbrev pub OfPurpose : Purpose → Ground → Tabled → Row → Question → Type 0
 OfPurpose (purposes.Statement name ordinal key) g t row question = IsStated g t row name ordinal question
+OfPurpose (purposes.Prep name ordinal key) g t row question = IsPrepDue g t row name ordinal question
 OfPurpose _ g t row question = IsStep question
 
 -- A question begins, and may be sent.
@@ -124,6 +143,39 @@ offered_tag (Asked asking) None offer tag same tagged = absurd tagged
 offered_tag Quiet (Some w) offer tag same tagged = tag_left w offer tag same tagged
 offered_tag (Asked asking) (Some w) offer tag same tagged = tag_left w offer tag same tagged
 
+-- What is lent has bytes: so an execute that is spelt there has its number.
+
+pub record HasBytes (writing : Option Writing) : Type 0 where
+  pub w : Writing
+  pub there : writing ≡ Some w
+  pub more : w.sent < length w.bytes
+
+bytes_left : (w : Writing) (offer : Offer) (part : Bool) → nat_lt w.sent (length w.bytes) ≡ part
+    → (if part then Some (record { tag = w.tag; bytes = drop w.sent w.bytes }) else None) ≡ Some offer → HasBytes (Some w)
+bytes_left w offer true some same = record { w = w; there = refl; more = ltb-true w.sent (length w.bytes) some }
+bytes_left w offer false none same = absurd (none-some offer same)
+
+pub bytes_lent : (stage : Stage) (writing : Option Writing) (offer : Offer) → left_at stage writing ≡ Some offer → HasBytes writing
+bytes_lent (Answered asking) writing offer same = absurd (none-some offer same)
+bytes_lent Quiet None offer same = absurd (none-some offer same)
+bytes_lent (Asked asking) None offer same = absurd (none-some offer same)
+bytes_lent Quiet (Some w) offer same = bytes_left w offer (nat_lt w.sent (length w.bytes)) refl same
+bytes_lent (Asked asking) (Some w) offer same = bytes_left w offer (nat_lt w.sent (length w.bytes)) refl same
+
+pub lives_so : (command : Command) (number : Option ℕ) (writing : Option Writing) → HasBytes writing → IsNext writing (spelt_as command number) → IsLiveFor command number
+lives_so (commands.Run text schema settings args) (Some number) writing has next = refl
+lives_so (commands.Run text schema settings args) None writing has next =
+    let none : has.w.bytes ≡ [] = subst (λ (o : Option Writing). IsNext o []) has.there next in
+    absurd (let size : length has.w.bytes ≡ 0 = ap length none in let more : has.w.sent < length has.w.bytes = has.more in omega (arith, size, more))
+lives_so (commands.Query text) number writing has next = tt
+lives_so (commands.InitDb schema) number writing has next = tt
+lives_so (commands.FieldList rest) number writing has next = tt
+lives_so (commands.SetId n) number writing has next = tt
+lives_so (commands.Prepare text) number writing has next = tt
+lives_so commands.ReadId number writing has next = tt
+lives_so commands.Reset number writing has next = tt
+lives_so commands.Quit number writing has next = tt
+
 -- Nothing is unread there, or a QUIT begins.
 
 pub no_bytes : (g : Ground) (l : LinkId) (tag : Tag) → (g.tale.wires l).unread ≡ []
@@ -141,10 +193,10 @@ due_there plan moment ordinal n due same none =
     (and_from (nat_eq due.ordinal ordinal) (not (is_some (own_at plan moment (message_of n due))))
     (ap (λ (k : ℕ). nat_eq k ordinal) same ∙ same_number ordinal) (ap (λ (own : Option (List (List ℕ))). not (is_some own)) none))
 
-pub due_sent : (plan : Plan) (moment : ℕ) (seen : View) (l : LinkId) (ordinal : ℕ) (n : SessionName) (due : Due) → seen.dues n ≡ Some due
-    → due.ordinal ≡ ordinal → own_at plan moment (message_of n due) ≡ None → of_due plan moment seen l ordinal n (Statement n) ≡ Sent l (Statement n due) ∷ []
-due_sent plan moment seen l ordinal n due there same none =
-    let says = λ (d : Due). Sent l (Statement n d) ∷ [] in
+pub due_sent : (plan : Plan) (moment : ℕ) (seen : View) (l : LinkId) (ordinal : ℕ) (n : SessionName) (due : Due) (question : Due → Question) → seen.dues n ≡ Some due
+    → due.ordinal ≡ ordinal → own_at plan moment (message_of n due) ≡ None → of_due plan moment seen l ordinal n question ≡ Sent l (question due) ∷ []
+due_sent plan moment seen l ordinal n due question there same none =
+    let says = λ (d : Due). Sent l (question d) ∷ [] in
     ap (λ (d : Option Due). or_broke says (due_in plan moment ordinal n d)) there
     ∙ ap (λ (d : Option Due). or_broke says d) (due_there plan moment ordinal n due same none)
 

@@ -234,8 +234,8 @@ module _ (g : Ground) (t now : Tabled) (l : LinkId) (tale : Tale) (onward : Onwa
     next_for (purposes.Statement n ordinal key) row asking is = record {
       said = λ due there same. readied_on row asking (story.Statement n due) (is.said due (onward.dues n due there) same);
       first = firsts n ordinal row.link.first is.first;
-      text = λ due there same. is.text due (onward.dues n due there) same;
-      plain = is.plain;
+      asked = λ due there same. is.asked due (onward.dues n due there) same;
+      number = is.number;
       taken_up = taken_on n ordinal is.taken_up;
     }
     next_for (purposes.Prep n ordinal key) row asking is = record {
@@ -271,7 +271,7 @@ module _ (g : Ground) (t now : Tabled) (l : LinkId) (tale : Tale) (onward : Onwa
           last = kept.ordinal ∙ is.last;
           sent = kept.sent ∙ is.sent;
           hostgroup = kept.hostgroup ∙ is.hostgroup;
-          plain = is.plain;
+          number = is.number;
           first = kept.first ∙ is.first;
           coming = kept.coming ∙ is.coming
               ∙ ap (λ (wire : Wire). renumbered (started (sought (kind_of asking.form) (reply_id wire) row.link.first row.link.number)) wire.unread)

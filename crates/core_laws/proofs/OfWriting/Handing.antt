@@ -1,5 +1,5 @@
 -- A client's work hands its form and its packets to a link, or has them back.
-use Rattle.std.specs.Prelude.{◌≡◌, ℕ, suc, Bool, true, false, is_some, nat_eq, if◌then◌else◌, All, List, Option, Some, None}
+use Rattle.std.specs.Prelude.{◌≡◌, ◌<◌, ℕ, suc, Bool, true, false, is_some, nat_eq, if◌then◌else◌, All, List, Option, Some, None}
 use Rattle.std.specs.Option.{option_map}
 use Rattle.std.proofs.Common.{refl, sym, ap, ◌∙◌, subst, arith}
 use Rattle.std.proofs.lemmas.Bool.{false≢true, true≢false}
@@ -9,7 +9,7 @@ use Rattle.client_session.specs.Setups.{Setup as Service}
 use Rattle.private_model.proofs.Maps.{client_of, link_of}
 use Rattle.private_model.specs.Names.{ClientNo, Hostgroup, LinkId}
 use Rattle.private_model.specs.Story.{is_client, is_link_id}
-use Rattle.log_story.specs.Owed.{name_of as message_named}
+use Rattle.log_story.specs.Owed.{name_of as message_named, number_of}
 use Rattle.log_story.specs.Tale as tales
 use Rattle.log_story.specs.Tale.{is_to_server}
 use Rattle.link_state.specs.declared.wish.Command.{Command as Kind}
@@ -116,7 +116,13 @@ module _ (service : Service) (g : Ground) (t now : Tabled) (l : LinkId) (server 
           working = record {
             last = same.ordinal ∙ works.last;
             went = works.went ∙ ap (λ (h : Hostgroup). Some h) (sym same.hostgroup);
-            command = same.command ∙ works.command;
+            number = λ prepares.
+                let next = works.number (sym same.command ∙ prepares) in
+                (ap (λ (k : ℕ). number_of g.plan (message_named client k)) same.ordinal ∙ next.0, next.1);
+            only = λ some.
+                same.command
+                ∙ works.only (subst (λ (k : ℕ). 0 < number_of g.plan (message_named client k)) same.ordinal some);
+            prepares = λ prepares. works.prepares (sym same.command ∙ prepares);
             first = works.first;
             unsent = λ waits. works.unsent (sym same.sent ∙ waits);
             there = λ out.

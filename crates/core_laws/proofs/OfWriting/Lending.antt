@@ -46,8 +46,9 @@ use Rattle.core_stands.specs.Grounds.{Ground, view_on}
 use Rattle.core_stands.specs.Servers.{IsNextFor, IsNextOf, IsServer, IsTagged, tag_for}
 use Rattle.core_stands.specs.Stands.{Stands}
 use Rattle.core_laws.specs.writing.Planned.{IsPlanned, IsPlannedFor, planned_on}
-use Rattle.core_laws.proofs.OfWriting.Begun.{Begun, no_bytes, offered_tag, told_for}
+use Rattle.core_laws.proofs.OfWriting.Begun.{Begun, HasBytes, bytes_lent, no_bytes, offered_tag, told_for}
 use Rattle.core_laws.proofs.OfWriting.Knowing.{entered, law_quiet, serves, serving, unread}
+use Rattle.core_laws.proofs.OfWriting.Prepping.{preps}
 use Rattle.core_laws.proofs.OfWriting.Stating.{states}
 use Rattle.core_laws.proofs.OfWriting.Stepping.{captures, ends, owns, syncs}
 
@@ -121,12 +122,14 @@ module _ (law : MayBegin) (service : Service) (g : Ground) (t : Tabled) (l : Lin
 
   -- A question begins.
 
-  module _ (asking : Asking) (same_next : server.link.next ≡ Some (begins.Asks asking)) (lost : server.lost ≡ false) (fine : server.link.spoilt ≡ false) where
+  module _ (asking : Asking) (same_next : server.link.next ≡ Some (begins.Asks asking)) (lost : server.lost ≡ false) (fine : server.link.spoilt ≡ false)
+      (has_bytes : HasBytes server.link.writing) where
     begun_by : (p : Purpose) → asking.purpose ≡ p → passes_for p server asking.form t ≡ true
         → IsNextFor p g t server (link_in g.setup g.tale l) asking → IsPlannedFor p g l server asking → Begun g t l server asking (tag_for p)
     begun_by (purposes.Statement name ordinal key) same passes next planned =
-        states service g t l server stands is asking same_next lost fine name ordinal key same passes next
-    begun_by (purposes.Prep name ordinal key) same passes next planned = absurd (false≢true passes)
+        states service g t l server stands is asking same_next lost fine name ordinal key same passes next has_bytes
+    begun_by (purposes.Prep name ordinal key) same passes next planned =
+        preps service g t l server stands is asking same_next lost fine name ordinal key same passes next
     begun_by (purposes.Sync name) same passes next planned = syncs service g t l server stands is asking same_next lost fine name same passes planned
     begun_by purposes.Own same passes next planned = owns service g t l server stands is asking same_next lost fine same passes planned
     begun_by (purposes.End name) same passes next planned = ends service g t l server stands is asking same_next lost fine name same passes next
@@ -149,9 +152,11 @@ module _ (law : MayBegin) (service : Service) (g : Ground) (t : Tabled) (l : Lin
       let next : IsNextOf (Some (begins.Asks asking)) g t server (link_in g.setup g.tale l) =
       subst (λ (x : Option Begins). IsNextOf x g t server (link_in g.setup g.tale l)) same_next is.next in
       let inside = ap is_in (serving g t l server is (begins.Asks asking) same_next).inside in
-      let tag = offered_tag server.link.state.stage server.link.writing offer (tag_for asking.purpose) (left_inside server offer inside left) next.0 in
+      let left_there = left_inside server offer inside left in
+      let tag = offered_tag server.link.state.stage server.link.writing offer (tag_for asking.purpose) left_there next.0 in
+      let has_bytes = bytes_lent server.link.state.stage server.link.writing offer left_there in
       record {
-        begun = subst (λ (x : Tag). Begun g t l server asking x) (sym tag) (begun_by asking same_next lost fine asking.purpose refl a.1 next.1 planned);
+        begun = subst (λ (x : Tag). Begun g t l server asking x) (sym tag) (begun_by asking same_next lost fine has_bytes asking.purpose refl a.1 next.1 planned);
         lost = lost;
         fine = fine;
       }

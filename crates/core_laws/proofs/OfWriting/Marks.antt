@@ -41,7 +41,7 @@ use Rattle.core_stands.specs.Servers.{IsNextFor, IsNextOf, IsReplyingAt, IsReply
 use Rattle.core_stands.specs.Stands.{AreClients, AreHomes, IsAt, Stands}
 use Rattle.core_laws.proofs.OfWriting.Framing.{Onward, SameHomes, homes_on, parted_on, same_reads, server_on, standing_on}
 use Rattle.core_laws.proofs.OfWriting.Moving.{ClientsAtStay, clients_made}
-use Rattle.core_laws.proofs.OfWriting.Texts.{beside, is_beside}
+use Rattle.core_laws.proofs.OfWriting.Asked.{beside, is_beside}
 use Rattle.core_laws.proofs.OfPrepared.Rows.{are_prepared, rows_same}
 
 put_there : {A : Type 0} (f : LinkId → A) (l : LinkId) (x : A) → put is_link_id f l x l ≡ x
@@ -164,8 +164,8 @@ module _ (at_stay : ClientsAtStay) (runs : RunsUnseen) (service : Service) (g : 
     next_for (purposes.Statement n ordinal key) asking next = record {
       said = λ due there same. readied_ran asking (story.Statement n due) (next.said due there same);
       first = next.first;
-      text = next.text;
-      plain = next.plain;
+      asked = next.asked;
+      number = next.number;
       taken_up = record { client = next.taken_up.client; seated = next.taken_up.seated; number = next.taken_up.number; by_now = next.taken_up.by_now };
     }
     next_for (purposes.Prep n ordinal key) asking next = record {
@@ -196,7 +196,7 @@ module _ (at_stay : ClientsAtStay) (runs : RunsUnseen) (service : Service) (g : 
       last = at.last;
       sent = at.sent;
       hostgroup = at.hostgroup;
-      plain = at.plain;
+      number = at.number;
       first = at.first;
       coming = at.coming;
     }

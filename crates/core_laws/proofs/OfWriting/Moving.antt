@@ -172,7 +172,7 @@ module _ (g : Ground) (l : LinkId) (wire : Wire) where
   working_still : (client : tales.Client) (row : Client) (work : Option Work) → IsWorkingOr g client row work → IsWorkingOr (on g still) client row work
   working_still client row None is = is
   working_still client row (Some work) is =
-      record { last = is.last; went = is.went; command = is.command; first = is.first; unsent = is.unsent; there = is.there }
+      record { last = is.last; went = is.went; number = is.number; only = is.only; prepares = is.prepares; first = is.first; unsent = is.unsent; there = is.there }
 
   owing_still : (client : tales.Client) (seat : Seat) (at : Phase) (fresh : Bool) → IsOwing at fresh g client seat → IsOwing at fresh (on g still) client seat
   owing_still client seat phase.LoggingIn true is = tt
@@ -239,7 +239,9 @@ module _ (g : Ground) (l : LinkId) (wire : Wire) where
       working_sent row (Some work) is = record {
         last = is.last;
         went = is.went;
-        command = is.command;
+        number = is.number;
+        only = is.only;
+        prepares = is.prepares;
         first = is.first;
         unsent = is.unsent;
         there = λ out. is.there out ∙ sym (carriers work.ordinal);
@@ -342,7 +344,9 @@ module _ (g : Ground) (l : LinkId) (wire : Wire) where
             (record {
               last = works.last;
               went = works.went;
-              command = works.command;
+              number = works.number;
+              only = works.only;
+              prepares = works.prepares;
               first = works.first;
               unsent = λ waits. absurd (true≢false waits);
               there = λ out. home;

@@ -60,20 +60,23 @@ module _ (g : Ground) (l : LinkId) (wire : Wire) where
         ahead = λ other n apart carries ahead. ap (λ (f : SessionName → Option Due). is_some (f n)) alike.dues ∙ ahead;
       }
 
-  -- a statement goes out, which is due in a present session, and wasn't sent
+  -- a session gets the link as its home
 
-  module _ (n : SessionName) (due : Due) (present : n.life ≡ (view_on g).lives n.client n.hostgroup) (unsent : (view_on g).carriers (message_of n due) ≡ None)
-      (apart : (other : LinkId) (m : SessionName) → is_link_id other l ≡ false → session_in ((view_on g).links other).carries ≡ Some m → is_name m n ≡ false) where
-    home_pin : (m : SessionName) (same : Bool) → is_name m n ≡ same
+  module _ (n : SessionName) where
+    pub home_pin : (m : SessionName) (same : Bool) → is_name m n ≡ same
         → (if same then record ((view_on g).held n) { home = Some l } else (view_on g).held m).pin ≡ ((view_on g).held m).pin
     home_pin m true is = ap (λ (k : SessionName). ((view_on g).held k).pin) (sym (name_is m n is))
     home_pin m false is = refl
 
-    home_id : (m : SessionName) (same : Bool) → is_name m n ≡ same
+    pub home_id : (m : SessionName) (same : Bool) → is_name m n ≡ same
         → (if same then record ((view_on g).held n) { home = Some l } else (view_on g).held m).id ≡ ((view_on g).held m).id
     home_id m true is = ap (λ (k : SessionName). ((view_on g).held k).id) (sym (name_is m n is))
     home_id m false is = refl
 
+  -- a statement goes out, which is due in a present session, and wasn't sent
+
+  module _ (n : SessionName) (due : Due) (present : n.life ≡ (view_on g).lives n.client n.hostgroup) (unsent : (view_on g).carriers (message_of n due) ≡ None)
+      (apart : (other : LinkId) (m : SessionName) → is_link_id other l ≡ false → session_in ((view_on g).links other).carries ≡ Some m → is_name m n ≡ false) where
     past_other : (m : SessionName) → m.life < (view_on g).lives m.client m.hostgroup → (same : Bool) → is_name m n ≡ same → same ≡ false
     past_other m earlier false is = refl
     past_other m earlier true is =
@@ -102,8 +105,8 @@ module _ (g : Ground) (l : LinkId) (wire : Wire) where
       wires = λ other apart. put_apart is_link_id g.tale.wires l wire other apart;
       links = λ other apart. put_apart is_link_id (view_on g).links l _ other apart;
       lives = refl;
-      pin = λ m. home_pin m (is_name m n) refl;
-      id = λ m. home_id m (is_name m n) refl;
+      pin = λ m. home_pin n m (is_name m n) refl;
+      id = λ m. home_id n m (is_name m n) refl;
       lasting = λ m earlier. put_apart is_name (view_on g).lasting n _ m (past_other m earlier (is_name m n) refl);
       dues = λ m other there. due_by m other (is_name m n) there;
       carriers = λ m other there. carrier_by m other (is_message m (message_of n due)) refl there;

@@ -114,7 +114,7 @@ module _ (rows : RowsOpen) (service : Service) (g : Ground) (t : Tabled) (server
   working_on : (client : tales.Client) (r : Client) (work : Option Work) → IsWorkingOr g client r work → IsWorkingOr after client r work
   working_on client r None is = is
   working_on client r (Some work) is =
-      record { last = is.last; went = is.went; command = is.command; first = is.first; unsent = is.unsent; there = is.there }
+      record { last = is.last; went = is.went; number = is.number; only = is.only; prepares = is.prepares; first = is.first; unsent = is.unsent; there = is.there }
 
   owing_on : (client : tales.Client) (seat : Seat) (at : Phase) (fresh : Bool) → IsOwing at fresh g client seat → IsOwing at fresh after client seat
   owing_on client seat phase.LoggingIn true is = tt

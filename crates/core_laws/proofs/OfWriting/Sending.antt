@@ -35,16 +35,19 @@ use Rattle.tale_world.proofs.Testing.{tells_so}
 use Rattle.link_state.specs.Asks.{kind_of, lends_by, lent_for}
 use Rattle.link_state.specs.Spells.{spelt}
 use Rattle.link_state.specs.declared.asking.Form.{Form}
-use Rattle.link_laws.specs.Stands.{IsForm, IsPurpose}
+use Rattle.link_laws.specs.Stands.{IsForm}
 use Rattle.server_rule.specs.Classes.{Reads as Classes}
 use Rattle.client_desk.specs.Desks as desks
 use Rattle.client_desk.specs.Desks.{session_of}
 use Rattle.client_desk.specs.Works.{gone_out, outlasts}
+use Rattle.client_desk.specs.declared.work.Work.{Work}
+use Rattle.desk_laws.specs.Stands.{HasRow, HasRowFor}
 use Rattle.link_state.specs.Dones.{is_quiet}
 use Rattle.link_state.specs.declared.asking.Asking.{Asking}
 use Rattle.link_state.specs.declared.asking.Purpose.{Purpose}
 use Rattle.link_state.specs.declared.asking.Purpose.TheVariants as purposes
 use Rattle.link_state.specs.declared.state.Carried.{Carried}
+use Rattle.link_state.specs.declared.state.Carried.TheVariants.{Nobody, Lent, Joined}
 use Rattle.link_state.specs.declared.state.LinkState.{LinkState}
 use Rattle.link_state.specs.declared.state.Stage.{Stage}
 use Rattle.link_state.specs.declared.state.Stage.TheVariants.{Quiet, Asked, Answered}
@@ -70,23 +73,26 @@ use Rattle.row_laws.specs.Whose.{OfStatement, name_in}
 use Rattle.row_laws.specs.Written.{is_other}
 use Rattle.core_tables.specs.Passing.{passes_next, sends}
 use Rattle.core_tables.specs.Tables.{Tabled, client_changed, link_changed}
-use Rattle.core_tables.specs.Writing.{begun_for, client_sent, lasts, purpose_next, server_wrote, wrote_by}
+use Rattle.core_tables.specs.Writing.{begun_for, client_lent, client_sent, lasts, purpose_next, server_wrote, wrote_by}
 use Rattle.core_tables.specs.Writing.{wrote_on as wrote_on_tables}
 use Rattle.core_tables.specs.declared.client.Client.{Client}
 use Rattle.core_tables.specs.declared.server.Server.{Server}
 use Rattle.core_stands.specs.Grounds.{Ground, on, view_on}
-use Rattle.core_stands.specs.Servers.{IsPartedAt, IsPartedFor, IsAhead, OfLent, is_stating, IsNextFor, IsNextOf, IsNextStatement, IsReplying, IsReplyingAt, IsReplyingFor, IsServer, IsServerBy, IsServerOr, IsStanding, IsStandingAt}
+use Rattle.core_stands.specs.Servers.{keyed_text, IsPartedAt, IsPartedFor, IsAhead, OfLent, is_stating, IsNextFor, IsNextOf, IsNextStatement, IsReplying, IsReplyingAt, IsReplyingFor, IsServer, IsServerBy, IsServerOr, IsStanding, IsStandingAt}
 use Rattle.core_stands.specs.Stands.{AreClients, AreDuly, AreHomes, ArePrepared, IsAt, Stands}
 use Rattle.core_laws.specs.writing.Planned.{IsPlanned, planned_on}
 use Rattle.core_laws.proofs.OfParting.Ahead.{ahead_same, sent_apart}
 use Rattle.core_laws.proofs.OfParting.Homes.{homes_so}
-use Rattle.core_laws.proofs.OfWriting.Begun.{Begun, IsDueThere, IsStated, IsStep, OfPurpose, told_for}
-use Rattle.core_laws.proofs.OfWriting.Framing.{CarriedOf, HomeOf, Onward, Reads, SameHomes, flipped, homes_on, link_apart, link_here, parted_on, same_reads, server_on, standing_on}
+use Rattle.core_laws.proofs.OfWriting.Begun.{Begun, IsDueThere, IsPrepDue, IsStated, IsStep, OfPurpose, told_for}
+use Rattle.core_laws.proofs.OfWriting.Framing.{CarriedOf, HomeOf, Onward, Reads, SameHomes, client_apart, flipped, homes_on, link_apart, link_here, parted_on, same_reads, server_on, standing_on}
 use Rattle.core_laws.proofs.OfWriting.Knowing.{dry_by, enters_in, entered, is_servers, law_quiet, over, quiet, serves, serving, unread}
 use Rattle.core_laws.proofs.OfWriting.Lending.{BegunFor, IsLent, MayBegin, begun_so, closes_told, fine_so, goes_on, left_inside, may_send, own_tag, quit_tag, quits_told, resets_told}
 use Rattle.core_laws.proofs.OfWriting.Moving.{Alike, ClientsAtStay, ComingStays, OthersStay, clients_made, clients_still, clients_step, sent, step_alike, still}
 use Rattle.core_laws.proofs.OfWriting.Onwards.{onward_statement, onward_step, onward_still, reads_sent}
-use Rattle.core_laws.proofs.OfWriting.Stated.{SentDesk, SentStands, clients_sent, homes_sent, now_there, sent_desk}
+use Rattle.core_laws.proofs.OfWriting.Homing.{SentDesk, homes_moved, sent_desk}
+use Rattle.core_laws.proofs.OfWriting.Lent.{LentStands, clients_lent, onward_prep, reads_lent}
+use Rattle.core_laws.proofs.OfWriting.Lent.{now_there as lent_there}
+use Rattle.core_laws.proofs.OfWriting.Stated.{SentStands, clients_sent, now_apart, now_there}
 use Rattle.core_laws.proofs.OfWriting.Stating.{due_is, life_is, unanswered_there, unsent_there}
 use Rattle.core_laws.proofs.OfWriting.Rows.{Wrote, kind_next, kind_none, row_spoilt, wrote_next, wrote_outside, wrote_so}
 use Rattle.core_laws.proofs.OfPrepared.Rows.{are_prepared, rows_changed, rows_same}
@@ -116,16 +122,6 @@ BeginsThere = (setup : Setup) (codes : Codes) (plan : Plan) (tale : Tale) (l : L
     (begun_on setup plan tale.moment (view_of setup tale) l (tale.wires l) tag) (step_for tag (plan.steps l (tale.wires l).begun))
     (quits_for tag (plan.steps l (tale.wires l).begun))
     → IsRowIn setup codes plan (writes setup plan l tag (take count offer.bytes) (tale.wires l) tale) l (wrote count now row)
-
--- a step prepares nothing
-no_prep : (codes : Codes) (name : SessionName) (ordinal key : ℕ) (question : Question) → IsPurpose codes (purposes.Prep name ordinal key) question → IsStep question
-    → ⊥
-no_prep codes name ordinal key (story.Statement n due) purpose step = step
-no_prep codes name ordinal key (story.Prep n k text) purpose step = step
-no_prep codes name ordinal key (story.Sync n command) purpose step = purpose
-no_prep codes name ordinal key (story.Own command) purpose step = purpose
-no_prep codes name ordinal key (story.End n) purpose step = purpose
-no_prep codes name ordinal key (story.Capture n) purpose step = purpose
 
 -- desk_laws' outlasts_as_said
 abbrev pub OutlastsAsSaid : Type 0
@@ -318,7 +314,7 @@ module _ (may : MayBegin) (says : Says) (writes_on : WritesOn) (begins_there : B
       last = was.last;
       sent = was.sent;
       hostgroup = was.hostgroup;
-      plain = was.plain;
+      number = going.number ∙ was.number;
       first = was.first ∙ sym going.first;
       coming = was.coming
           ∙ ap (λ (unread : List ℕ). renumbered (started (sought (kind_of asking.form) (reply_id wire) row.link.first row.link.number)) unread) dry
@@ -787,6 +783,11 @@ module _ (may : MayBegin) (says : Says) (writes_on : WritesOn) (begins_there : B
           now_there g t tables l wire_asked name due client so.work lasting others coming sends_so so.there so.in_work so.unsent names of_group due_here
           due_ordinal_is lasts_so made (λ k. refl)
 
+      apart_here : (c : ClientNo) → nat_eq name.client.0 c.0 ≡ false → tables.clients c ≡ t.clients c
+      apart_here =
+          now_apart g t tables l wire_asked name due client so.work lasting others coming sends_so so.there so.in_work so.unsent names of_group due_here
+          due_ordinal_is lasts_so made (λ k. refl)
+
       standing_now : IsStanding (on g tale_sent) l name due
       standing_now = record {
         carrier = ap (λ (b : Bool). if b then Some l else (view_on g).carriers (message_of name due)) (same_message (message_of name due));
@@ -802,7 +803,7 @@ module _ (may : MayBegin) (says : Says) (writes_on : WritesOn) (begins_there : B
         last = so.at.ordinal_is;
         sent = refl;
         hostgroup = of_group;
-        plain = next_statement.plain;
+        number = ap (λ (k : LentLink). k.number) link_asked ∙ next_statement.number;
         first = next_statement.first client so.work so.there so.in_work so.at.ordinal_is ∙ sym (ap (λ (k : LentLink). k.first) link_asked);
         coming = so.at.dry
             ∙ ap (λ (unread : List ℕ). renumbered (started (sought (kind_of asking.form) (reply_id (tale_sent.wires l)) row_now.link.first row_now.link.number)) unread)
@@ -825,15 +826,14 @@ module _ (may : MayBegin) (says : Says) (writes_on : WritesOn) (begins_there : B
 
       homes_desk : SentDesk client.desk (goes_out client).desk name.hostgroup l
       homes_desk =
-          sent_desk g.setup (view_on g) so.at.client.number client.desk (goes_out client).desk l name due so.at.desk
+          sent_desk g.setup (view_on g) so.at.client.number client.desk (goes_out client).desk l name statement refl so.at.desk
           (sends_so g.setup (view_on g) so.at.client.number client.desk so.at.desk l name.hostgroup name due lasting so.work names lasts_so so.in_work of_group so.unsent due_here)
           names
 
       homes_now : AreHomes (on g tale_sent) tables
       homes_now =
-          homes_sent g t tables l wire_asked name due client so.work lasting others coming sends_so so.there so.in_work so.unsent names of_group due_here
-          due_ordinal_is lasts_so made (λ k. refl) (on g tale_sent) server server_now homes_desk there there_now others_now carries_now so.carries
-          wrote_row.left wrote_row.lost left_none for.lost at_home stands.homes
+          homes_moved t tables l name client (goes_out client) so.there now_here apart_here names g (on g tale_sent) server server_now homes_desk
+          there there_now others_now carries_now so.carries wrote_row.left wrote_row.lost left_none for.lost at_home stands.homes
 
       statement_stands : Stands service (on g tale_now) tables
       statement_stands =
@@ -853,13 +853,118 @@ module _ (may : MayBegin) (says : Says) (writes_on : WritesOn) (begins_there : B
             duly = stands.duly;
           })
 
-    module _ (others : OthersStay) (coming : ComingStays) (sends_so : SentStands) (outlasts_so : OutlastsAsSaid) where
+    -- the preparation of its text
+
+    module _ (at_stay : ClientsAtStay) (coming : ComingStays) (lends_so : LentStands) (name : SessionName) (ordinal key : ℕ)
+        (purpose : asking.purpose ≡ purposes.Prep name ordinal key) (so : IsPrepDue g t row name ordinal begun.question) where
+      abbrev prep_due : Due
+      prep_due = so.at.unsent.due
+
+      abbrev prep_row : Client
+      prep_row = so.client
+
+      abbrev prep : Question
+      prep = story.Prep name prep_due.key (keyed_text g prep_due)
+
+      abbrev tale_lent : Tale
+      tale_lent = sent g l wire_asked prep
+
+      abbrev lends : Client → Client
+      lends = client_lent name.hostgroup l
+
+      abbrev lent_tables : Tabled
+      lent_tables = client_changed name.client lends written
+
+      group_is : so.work.hostgroup ≡ name.hostgroup
+      group_is = ap (λ (m : SessionName). m.hostgroup) (sym so.at.names)
+
+      named_so : name ≡ desks.name_of prep_row.desk name.hostgroup
+      named_so = so.at.names ∙ ap (desks.name_of prep_row.desk) group_is
+
+      row_so : HasRow prep_row.desk.sessions name.hostgroup
+      row_so =
+          subst (λ (h : Hostgroup). HasRow prep_row.desk.sessions h) group_is
+          (subst (λ (w : Option Work). HasRowFor prep_row.desk.sessions w) so.in_work so.at.desk.row)
+
+      prep_is_due : (view_on g).dues name ≡ Some prep_due
+      prep_is_due = due_is g prep_row name ordinal so.work so.at
+
+      ahead_so : (c : Carried) → name_in (lends_by name c) ≡ Some name → OfLent (lends_by name c) (IsAhead (view_on g))
+      ahead_so Nobody same = ap (λ (d : Option Due). is_some d) prep_is_due
+      ahead_so (Lent m) same = ap (λ (k : SessionName). is_some ((view_on g).dues k)) (same_Some m name same) ∙ ap (λ (d : Option Due). is_some d) prep_is_due
+      ahead_so (Joined m) same = tt
+
+      lent_row_now : IsServer (on g tale_lent) lent_tables l row_now
+      lent_row_now =
+          server_asked prep so.is lent_tables tt
+          (λ here mine unstated.
+          subst (λ (p : Purpose). OfLent (lent_for p row.link.state.carries) (IsAhead (view_of g.setup tale_lent))) (sym purpose)
+          (ahead_so row.link.state.carries so.carries))
+          (λ left_some. subst (λ (p : Purpose). IsPartedFor p (on g tale_lent)) (sym purpose) tt)
+          (subst (λ (p : Purpose). IsReplyingFor p (on g tale_lent) lent_tables l row_now asking) (sym purpose) tt)
+
+      still_clients : AreClients (on g (still g l wire_asked)) t
+      still_clients = clients_still g l wire_asked t t (λ c. refl) (λ k. refl) stands.clients
+
+      lent_clients : AreClients (on g tale_lent) lent_tables
+      lent_clients =
+          clients_lent (on g (still g l wire_asked)) t lent_tables l name prep_due.key (keyed_text g prep_due) prep_row so.work at_stay coming lends_so so.there
+          so.in_work so.unsent named_so row_so (λ c. refl) (λ k. refl) still_clients
+
+      lent_here : lent_tables.clients name.client ≡ Some (lends prep_row)
+      lent_here =
+          lent_there (on g (still g l wire_asked)) t lent_tables l name prep_due.key (keyed_text g prep_due) prep_row so.work at_stay coming lends_so so.there
+          so.in_work so.unsent named_so row_so (λ c. refl) (λ k. refl)
+
+      lent_desk : SentDesk prep_row.desk (lends prep_row).desk name.hostgroup l
+      lent_desk =
+          sent_desk g.setup (view_on g) so.at.client.number prep_row.desk (lends prep_row).desk l name prep refl so.at.desk
+          (lends_so g.setup (view_on g) so.at.client.number prep_row.desk so.at.desk l name.hostgroup name prep_due.key (keyed_text g prep_due) named_so row_so)
+          named_so
+
+      carries_lent : name_in row_now.link.state.carries ≡ name_in (lends_by name row.link.state.carries)
+      carries_lent =
+          ap (λ (k : LentLink). name_in k.state.carries) link_asked ∙ ap (λ (p : Purpose). name_in (lent_for p row.link.state.carries)) purpose
+
+      home_so : ((session_of prep_row.desk name.hostgroup).home ≡ None) ⊎ (name_in row.link.state.carries ≡ Some name)
+      home_so = subst (λ (h : Hostgroup). ((session_of prep_row.desk h).home ≡ None) ⊎ (name_in row.link.state.carries ≡ Some name)) group_is so.home
+
+      lent_homes : AreHomes (on g tale_lent) lent_tables
+      lent_homes =
+          homes_moved t lent_tables l name prep_row (lends prep_row) so.there lent_here (λ c apart. client_apart name.client c lends t apart) named_so
+          g (on g tale_lent) server server_now lent_desk there there_now others_now carries_lent so.carries wrote_row.left wrote_row.lost so.present for.lost home_so
+          stands.homes
+
+      prep_stands : Stands service (on g tale_now) lent_tables
+      prep_stands =
+          subst (λ (x : Tale). Stands service (on g x) lent_tables) (sym (tale_asked ∙ ap (sent g l wire_asked) so.is)) (record {
+            service_is = stands.service_is;
+            room_is = stands.room_is;
+            clients = lent_clients;
+            servers = servers_made g (on g tale_lent) t lent_tables l server_now there_now
+                (by_to_server (is_to_server tale_lent l) (on g tale_lent) lent_tables l server_now to_server lent_row_now)
+                (λ other apart.
+                subst (λ (x : Option Server). IsServerOr (on g tale_lent) lent_tables other x) (sym (others_now other apart))
+                (server_on g t lent_tables l tale_lent (onward_prep g l wire_asked name prep_due.key (keyed_text g prep_due))
+                (record {
+                  firsts = λ c r w at in_now.
+                      let older = (reads_lent written name.client name.hostgroup l).firsts c r w at in_now in
+                      record { row_was = older.row_was; there = older.there; work_was = older.work_was; in_work = older.in_work; ordinal = older.ordinal; first = older.first };
+                  kept = λ c r w was in_was sent_was. (reads_lent written name.client name.hostgroup l).kept c r w was in_was sent_was;
+                }) other apart (t.links other) (stands.servers other)));
+            homes = lent_homes;
+            lawful = lawful_as prep so.is;
+            prepared = are_prepared g tale_lent g.over g.fresh t lent_tables stands.clients (λ m. refl) stands.prepared (λ client seated. seated)
+                (rows_changed t lent_tables name.client lends (λ r. refl) (λ c. refl));
+            duly = stands.duly;
+          })
+
+    module _ (others : OthersStay) (coming : ComingStays) (at_stay : ClientsAtStay) (sends_so : SentStands) (lends_so : LentStands)
+        (outlasts_so : OutlastsAsSaid) where
       asked_by : (p : Purpose) → asking.purpose ≡ p → OfPurpose p g t row begun.question
           → Stands service (on g tale_now) (begun_for (Some p) l (lasts (Some (begins.Asks asking))) written)
       asked_by (purposes.Statement name ordinal key) same so = statement_stands others coming sends_so outlasts_so name ordinal key same so
-      asked_by (purposes.Prep name ordinal key) same step =
-          absurd (no_prep g.codes name ordinal key begun.question
-          (subst (λ (p : Purpose). IsPurpose g.codes p begun.question) same begun.asked.said.asks.purpose) step)
+      asked_by (purposes.Prep name ordinal key) same so = prep_stands at_stay coming lends_so name ordinal key same so
       asked_by (purposes.Sync name) same step =
           steps step (ap (λ (p : Purpose). lent_for p row.link.state.carries) same)
           (subst (λ (p : Purpose). IsPartedFor p (on g (sent g l wire_asked begun.question))) (sym same) tt)
@@ -885,7 +990,7 @@ module _ (may : MayBegin) (says : Says) (writes_on : WritesOn) (begins_there : B
 -- By what stands next.
 
 module _ (may : MayBegin) (says : Says) (writes_on : WritesOn) (begins_there : BeginsThere) (others : OthersStay) (coming : ComingStays) (at_stay : ClientsAtStay)
-    (sends_so : SentStands) (outlasts_so : OutlastsAsSaid) (service : Service) (g : Ground) (t : Tabled) (l : LinkId) (server : Server)
+    (sends_so : SentStands) (lends_so : LentStands) (outlasts_so : OutlastsAsSaid) (service : Service) (g : Ground) (t : Tabled) (l : LinkId) (server : Server)
     (offer : Offer) (count now : ℕ) (stands : Stands service g t) (there : t.links l ≡ Some server) (is : IsServer g t l server.row)
     (some : 0 < count) (within : count ≤ length offer.bytes) where
   written_by : (next : Option Begins) → server.row.link.next ≡ next → passes_next next server.row t ≡ true → left_in server.row.link ≡ Some offer
@@ -895,7 +1000,7 @@ module _ (may : MayBegin) (says : Says) (writes_on : WritesOn) (begins_there : B
       goes may says writes_on begins_there service g t l server offer count now stands there is left some within same
   written_by (Some (begins.Asks asking)) same passes left planned =
       asks may says writes_on begins_there service g t l server offer count now stands there is left some within asking same
-      (begun_so may service g t l server.row stands is asking offer same passes left planned) others coming sends_so outlasts_so
+      (begun_so may service g t l server.row stands is asking offer same passes left planned) others coming at_stay sends_so lends_so outlasts_so
   written_by (Some (begins.Closes number)) same passes left planned =
       closes may says writes_on begins_there service g t l server offer count now stands there is left some within number
       (fine_so may service g t l server.row stands is passes) at_stay same planned

@@ -14,12 +14,13 @@ use Rattle.private_model.proofs.Maps.{name_of as name_is, number_of, same_name, 
 use Rattle.private_model.specs.Commands.{Account, class_of, is_marked}
 use Rattle.private_model.specs.Lawful.{is_statement}
 use Rattle.private_model.specs.Names.{Hostgroup, LinkId, MessageName, SessionName}
-use Rattle.private_model.specs.Story.{Due, Happening, Sent, Statement, is_name, message_of}
+use Rattle.private_model.specs.Story.{Due, Happening, Prep, Question, Sent, Statement, is_name, message_of}
 use Rattle.private_model.specs.View.{Held, Link, View, present}
 use Rattle.private_model.specs.View as view
-use Rattle.log_story.specs.Owed.{name_of as message_named}
+use Rattle.log_story.specs.Owed.{name_of as message_named, number_of as own_of}
 use Rattle.log_story.specs.Plan.{Route, own_at}
 use Rattle.log_story.specs.Servers.{begun_by, logged_in_as, of_due}
+use Rattle.log_story.specs.Servers.{routed as routed_to}
 use Rattle.log_story.specs.Tale as tales
 use Rattle.log_story.specs.Tale.{Wire, link_in}
 use Rattle.tale_world.specs.Tests as tests
@@ -29,12 +30,12 @@ use Rattle.link_state.specs.declared.asking.Asking.{Asking}
 use Rattle.link_state.specs.declared.asking.Form.{Form}
 use Rattle.link_state.specs.declared.asking.Purpose.{Purpose}
 use Rattle.link_state.specs.declared.asking.Purpose.TheVariants as purposes
+use Rattle.link_state.specs.declared.state.Carried.{Carried}
 use Rattle.link_state.specs.declared.state.LinkState.{LinkState}
 use Rattle.link_laws.specs.Stands.{IsForm, IsLink, carried_of}
 use Rattle.lent_link.specs.declared.link.Begins.TheVariants as begins
 use Rattle.served_link.specs.declared.row.Identity.{Identity}
 use Rattle.served_link.specs.declared.row.Row.{Row}
-use Rattle.link_state.specs.declared.wish.Command.TheVariants.{Plain}
 use Rattle.client_seat.specs.Seats.{account_in}
 use Rattle.client_desk.specs.Desks.{name_of, session_of}
 use Rattle.client_desk.specs.declared.desk.Desk.{Desk}
@@ -43,16 +44,18 @@ use Rattle.client_desk.specs.declared.work.Work.{Work}
 use Rattle.desk_laws.specs.Stands.{IsDesk, IsSentOrNot, IsUnsent, IsWork, IsWorkOr, held_of, message_at}
 use Rattle.row_laws.specs.Begins.{IsLender, IsReadied}
 use Rattle.row_laws.specs.Whose.{IsFor, name_in}
+use Rattle.core_tables.specs.Beginning.{first_number}
 use Rattle.core_tables.specs.Passing.{begins_there, goes_on_there, is_account, is_blind, is_joined, is_lent_to, is_nobody, is_of, is_placed, may_state, passes_for, reads_its_own, with_work}
 use Rattle.core_tables.specs.Tables.{Tabled}
 use Rattle.core_tables.specs.declared.client.Client.{Client}
 use Rattle.core_tables.specs.declared.server.Server.{Server}
 use Rattle.core_stands.specs.Grounds.{Ground, view_on}
-use Rattle.core_stands.specs.Servers.{IsNextStatement, IsServer}
-use Rattle.core_stands.specs.Stands.{Stands}
-use Rattle.core_laws.proofs.OfWriting.Begun.{Begun, IsDueThere, IsStated, OfPurpose, due_sent, joined_lends, joined_name, lender_so, lent_name, lent_to_name, no_bytes, present_stays, routed_so}
+use Rattle.core_stands.specs.Servers.{IsNextStatement, IsServer, keyed_text, own_number}
+use Rattle.core_stands.specs.Stands.{IsDuly, Stands}
+use Rattle.core_laws.proofs.OfWriting.Numbering.{duly_at, first_is, own_unnumbered}
+use Rattle.core_laws.proofs.OfWriting.Begun.{Begun, HasBytes, IsDueThere, IsStated, OfPurpose, due_sent, joined_lends, joined_name, lender_so, lent_name, lent_to_name, lives_so, no_bytes, present_stays, routed_so}
 use Rattle.core_laws.proofs.OfWriting.Knowing.{Knows, going, knows, own_none, present_held, present_name, routed, same_link, serving, unread, working}
-use Rattle.core_laws.proofs.OfWriting.Tests.{account_is, blind_is, blind_states, id_is, joined_is, lent_to_is, marks_is, nobody_is, own_is, own_states, placed_is, plain_keyed}
+use Rattle.core_laws.proofs.OfWriting.Tests.{IsLiveFor, account_is, blind_is, blind_states, id_is, joined_is, keyed_is, lent_to_is, marks_is, nobody_is, own_is, own_states, placed_is}
 
 or_left : (a b : Bool) → a ≡ true → (a || b) ≡ true
 or_left a b is = ap (λ (x : Bool). x || b) is
@@ -109,7 +112,7 @@ due_at service g t row name ordinal work stands there in_work unsent of =
       desk = k.is.desk;
       names = name_is name (name_of row.desk work.hostgroup) parts.1;
       unsent = subst (λ (sent : Bool). IsSentOrNot sent g.setup.reads (view_on g) k.client.number row.desk.seat.place work) unsent is_work.sent_or_not;
-      plain = works.command;
+      number_next = works.number;
       unanswered = is_work.unanswered;
       dry = works.unsent unsent;
       route = route.route;
@@ -150,13 +153,23 @@ module _ (g : Ground) (row : Client) (name : SessionName) (ordinal : ℕ) (work 
   message_due : message_named at.client at.client.taken ≡ message_of name due
   message_due = message_same ∙ (λ i. record { client = name.client; ordinal = sym due_ordinal i })
 
-  pub statement_told : (l : LinkId) (begun : ℕ) → begun_by g.setup g.plan g.tale.moment seen l begun (tags.For name.client ordinal) ≡ Sent l (Statement name due) ∷ []
-  statement_told l begun =
-      let says = λ (route : Route). of_due g.plan g.tale.moment seen l ordinal (present seen name.client route.hostgroup) (Statement (present seen name.client route.hostgroup)) in
+  -- a question about it is told, as its message is routed
+  asked_told : (question : SessionName → Due → Question) (l : LinkId)
+      → routed_to g.plan name.client ordinal (λ (route : Route). of_due g.plan g.tale.moment seen l ordinal (present seen name.client route.hostgroup)
+      (question (present seen name.client route.hostgroup))) ≡ Sent l (question name due) ∷ []
+  asked_told question l =
+      let says = λ (route : Route). of_due g.plan g.tale.moment seen l ordinal (present seen name.client route.hostgroup) (question (present seen name.client route.hostgroup)) in
       let there : present seen name.client at.route.hostgroup ≡ name = (λ i. present seen (sym at.number i) (at.hostgroup i)) ∙ present_desk in
       routed_so g.plan name.client ordinal says at.route (ap g.plan.routes (sym message_same) ∙ at.routed_there)
-      ∙ ap (λ (n : SessionName). of_due g.plan g.tale.moment seen l ordinal n (Statement n)) there
-      ∙ due_sent g.plan g.tale.moment seen l ordinal name due due_is due_ordinal (ap (own_at g.plan g.tale.moment) (sym message_due) ∙ at.not_own)
+      ∙ ap (λ (n : SessionName). of_due g.plan g.tale.moment seen l ordinal n (question n)) there
+      ∙ due_sent g.plan g.tale.moment seen l ordinal name due (question name) due_is due_ordinal (ap (own_at g.plan g.tale.moment) (sym message_due) ∙ at.not_own)
+
+  pub statement_told : (l : LinkId) (begun : ℕ) → begun_by g.setup g.plan g.tale.moment seen l begun (tags.For name.client ordinal) ≡ Sent l (Statement name due) ∷ []
+  statement_told l begun = asked_told (λ (n : SessionName) (d : Due). Statement n d) l
+
+  pub prep_told : (l : LinkId) (begun : ℕ) → begun_by g.setup g.plan g.tale.moment seen l begun (tags.Prep name.client ordinal)
+      ≡ Sent l (Prep name due.key (keyed_text g due)) ∷ []
+  prep_told l begun = asked_told (λ (n : SessionName) (d : Due). Prep n d.key (keyed_text g d)) l
 
   message_at_due : message_of name due ≡ message_at at.client.number work.ordinal
   message_at_due = λ i. record { client = sym at.number i; ordinal = at.unsent.as_due.request.ordinal_is i }
@@ -170,6 +183,29 @@ module _ (g : Ground) (row : Client) (name : SessionName) (ordinal : ℕ) (work 
       λ i. record { client = sym at.number i; ordinal = at.unsent.as_due.request.ordinal_is i } in
       ap seen.carriers message ∙ at.unsent.unsent
 
+  -- whom the link carries
+
+  module _ (link : Link) (server : Row) (same : IsLink g.setup.reads g.codes server.link.state link) where
+    pub lends_same : tests.may_lend name link (seen.held name)
+        ≡ ((is_nobody server.link.state.carries && not (is_some (session_of row.desk work.hostgroup).home)) || is_lent_to name server.link.state.carries)
+    lends_same = λ i.
+        ((ap tests.is_nobody same.carries ∙ nobody_is server.link.state.carries) i && not (is_some (held_is i).home))
+        || (ap (tests.is_lent_to name) same.carries ∙ lent_to_is name server.link.state.carries) i
+
+    pub joined_same : tests.is_joined name link.carries ≡ is_joined name server.link.state.carries
+    joined_same = ap (tests.is_joined name) same.carries ∙ joined_is name server.link.state.carries
+
+  homeless_so : (home : Option LinkId) → not (is_some home) ≡ true → home ≡ None
+  homeless_so None is = refl
+  homeless_so (Some at_link) is = absurd (false≢true is)
+
+  pub home_by : (carries : Carried)
+      → ((is_nobody carries && not (is_some (session_of row.desk work.hostgroup).home)) ≡ true) ⊎ (is_lent_to name carries ≡ true)
+      → ((session_of row.desk work.hostgroup).home ≡ None) ⊎ (name_in carries ≡ Some name)
+  home_by carries (inl vacant) =
+      inl (homeless_so (session_of row.desk work.hostgroup).home (and_parts (is_nobody carries) (not (is_some (session_of row.desk work.hostgroup).home)) vacant).1)
+  home_by carries (inr lent) = inr (lent_to_name name carries lent)
+
   -- by the link's row
   module _ (link : Link) (server : Row) (login : Login) (form : Form) (same : IsLink g.setup.reads g.codes server.link.state link)
       (account : link.account ≡ logged_in_as login) (user : server.identity.user ≡ login.user) (found : server.identity.found_rows ≡ login.found_rows)
@@ -182,14 +218,6 @@ module _ (g : Ground) (row : Client) (name : SessionName) (ordinal : ℕ) (work 
 
     abbrev state : LinkState
     state = server.link.state
-
-    lends_same : tests.may_lend name link held ≡ ((is_nobody state.carries && not (is_some s.home)) || is_lent_to name state.carries)
-    lends_same = λ i.
-        ((ap tests.is_nobody same.carries ∙ nobody_is state.carries) i && not (is_some (held_is i).home))
-        || (ap (tests.is_lent_to name) same.carries ∙ lent_to_is name state.carries) i
-
-    joined_same : tests.is_joined name link.carries ≡ is_joined name state.carries
-    joined_same = ap (tests.is_joined name) same.carries ∙ joined_is name state.carries
 
     placed_same : tests.is_placed link.told due.place ≡ is_placed state.told row.desk.seat.place
     placed_same = (λ i. tests.is_placed (same.told i) (at.unsent.as_due.place_is i)) ∙ sym (placed_is state.told row.desk.seat.place)
@@ -216,7 +244,7 @@ module _ (g : Ground) (row : Client) (name : SessionName) (ordinal : ℕ) (work 
         let e = and_parts (option_map_or (is_account server.identity) (account_in row.desk.seat.phase) false) _ d.1 in
         let f = and_parts (is_blind form) _ e.1 in
         let k = and_parts (is_some s.id) (not (marks form) || is_id state.id s.id) f.1 in
-        and_from (tests.may_lend name link held) _ (lends_same ∙ a.0)
+        and_from (tests.may_lend name link held) _ (lends_same link server same ∙ a.0)
         (and_from (not (is_pinned held.pin)) _ (ap (λ (h : Held). not (is_pinned h.pin)) held_is ∙ b.0)
         (and_from due.anew _ (at.unsent.as_due.anew_is ∙ c.0)
         (and_from (tests.is_placed link.told due.place) _ (placed_same ∙ d.0)
@@ -232,7 +260,7 @@ module _ (g : Ground) (row : Client) (name : SessionName) (ordinal : ℕ) (work 
         let c = and_parts (not work.anew) _ b.1 in
         let d = and_parts (is_placed state.told row.desk.seat.place) _ c.1 in
         let e = and_parts (reads_its_own form s.pin) (not (marks form) || (state.marked || is_id state.id s.id)) d.1 in
-        and_from (tests.is_joined name link.carries) _ (joined_same ∙ a.0)
+        and_from (tests.is_joined name link.carries) _ (joined_same link server same ∙ a.0)
         (and_from (is_pinned held.pin) _ (ap (λ (h : Held). is_pinned h.pin) held_is ∙ b.0)
         (and_from (not due.anew) _ (ap not at.unsent.as_due.anew_is ∙ c.0)
         (and_from (tests.is_placed link.told due.place) _ (placed_same ∙ d.0)
@@ -244,17 +272,9 @@ module _ (g : Ground) (row : Client) (name : SessionName) (ordinal : ℕ) (work 
     pub record MayState : Type 0 where
       pub statement : is_statement due.command ≡ true
       pub there : (tests.begins_there g.setup name due link held || tests.goes_on_there g.setup name due link held) ≡ true
+      pub placed : tests.is_placed link.told due.place ≡ true
       pub carries : name_in (lends_by name state.carries) ≡ Some name
       pub home : (s.home ≡ None) ⊎ (name_in state.carries ≡ Some name)
-
-    homeless_so : (home : Option LinkId) → not (is_some home) ≡ true → home ≡ None
-    homeless_so None is = refl
-    homeless_so (Some at_link) is = absurd (false≢true is)
-
-    home_by : ((is_nobody state.carries && not (is_some s.home)) ≡ true) ⊎ (is_lent_to name state.carries ≡ true)
-        → (s.home ≡ None) ⊎ (name_in state.carries ≡ Some name)
-    home_by (inl vacant) = inl (homeless_so s.home (and_parts (is_nobody state.carries) (not (is_some s.home)) vacant).1)
-    home_by (inr lent) = inr (lent_to_name name state.carries lent)
 
     may_by : (begins_there server form name row.desk work s ≡ true) ⊎ (goes_on_there server form name row.desk work s ≡ true) → MayState
     may_by (inl begins) =
@@ -267,8 +287,9 @@ module _ (g : Ground) (row : Client) (name : SessionName) (ordinal : ℕ) (work 
         record {
           statement = blind_states g.setup.reads form due.command is_form f.0;
           there = or_left _ (tests.goes_on_there g.setup name due link held) (begins_so begins);
+          placed = placed_same ∙ d.0;
           carries = lent_name name state.carries (not (is_some s.home)) a.0;
-          home = home_by (or_cases (is_nobody state.carries && not (is_some s.home)) (is_lent_to name state.carries) a.0);
+          home = home_by state.carries (or_cases (is_nobody state.carries && not (is_some s.home)) (is_lent_to name state.carries) a.0);
         }
     may_by (inr goes) =
         let a = and_parts (is_joined name state.carries) _ goes in
@@ -279,6 +300,7 @@ module _ (g : Ground) (row : Client) (name : SessionName) (ordinal : ℕ) (work 
         record {
           statement = own_states g.setup.reads form due.command s.pin is_form e.0;
           there = or_right (tests.begins_there g.setup name due link held) _ (goes_so goes);
+          placed = placed_same ∙ d.0;
           carries = joined_lends name state.carries a.0;
           home = inr (joined_name name state.carries a.0);
         }
@@ -286,15 +308,30 @@ module _ (g : Ground) (row : Client) (name : SessionName) (ordinal : ℕ) (work 
     pub may_so : (begins_there server form name row.desk work s || goes_on_there server form name row.desk work s) ≡ true → MayState
     may_so is = may_by (or_cases (begins_there server form name row.desk work s) (goes_on_there server form name row.desk work s) is)
 
-    pub fits_so : MayState → tests.fits g.setup seen link (Statement name due) ≡ true
-    fits_so may =
+    pub fits_so : IsDuly g.setup g.plan name due → IsLiveFor due.command (link.live due.key) → MayState
+        → tests.fits g.setup seen link (Statement name due) ≡ true
+    fits_so duly lives may =
         and_from (tests.has_due seen name due) _
         (ap (λ (d : Option Due). option_map_or (λ (other : Due). nat_eq other.ordinal due.ordinal) d false) due_is ∙ same_number due.ordinal)
         (and_from (not (is_some (seen.carriers (message_of name due)))) _ (ap (λ (c : Option LinkId). not (is_some c)) unsent_there)
         (and_from (is_name name (present seen name.client name.hostgroup)) _ (ap (is_name name) present_here ∙ same_name name)
         (and_from (is_statement due.command) _ may.statement
         (and_from (tests.is_keyed g.setup due.command due.key link.told link.live) _
-        (plain_keyed g.setup due.command due.key link.told link.live (at.unsent.as_due.request.kind ∙ at.plain)) may.there))))
+        (keyed_is g.setup duly.route due due.command link.told link.live duly.keyed may.placed lives) may.there))))
+
+-- As it stands next on a link it has its client's own number of what it prepares.
+
+pub number_next : (service : Service) (g : Ground) (t : Tabled) (row : Client) (name : SessionName) (ordinal : ℕ) (work : Work) → Stands service g t
+    → IsDueThere g row name ordinal work → first_number work.command row.desk.seat.statements ≡ own_number g name ordinal
+number_next service g t row name ordinal work stands at =
+    let due : Due = at.unsent.due in
+    let duly = duly_at service g t stands name due (due_is g row name ordinal work at) in
+    let message : message_named at.client work.ordinal ≡ message_at name.client ordinal = λ i. record { client = at.number i; ordinal = at.ordinal_is i } in
+    first_is work.command row.desk.seat.statements (own_number g name ordinal)
+    (λ prepares. (sym (ap (own_of g.plan) message) ∙ (at.number_next prepares).0, (at.number_next prepares).1))
+    (λ other.
+    ap (own_number g name) (sym (due_ordinal g row name ordinal work at))
+    ∙ own_unnumbered g name due duly (λ prepares. other (sym at.unsent.as_due.request.kind ∙ prepares)))
 
 -- A statement that passes begins.
 
@@ -302,8 +339,9 @@ module _ (service : Service) (g : Ground) (t : Tabled) (l : LinkId) (server : Ro
     (asking : Asking) (same_next : server.link.next ≡ Some (begins.Asks asking)) (lost : server.lost ≡ false) (fine : server.link.spoilt ≡ false) where
   pub states : (name : SessionName) (ordinal key : ℕ) → asking.purpose ≡ purposes.Statement name ordinal key
       → with_work name t (may_state server asking.form name ordinal) ≡ true
-      → IsNextStatement g t server (link_in g.setup g.tale l) asking name ordinal → Begun g t l server asking (tags.For name.client ordinal)
-  states name ordinal key purpose passes next =
+      → IsNextStatement g t server (link_in g.setup g.tale l) asking name ordinal → HasBytes server.link.writing
+      → Begun g t l server asking (tags.For name.client ordinal)
+  states name ordinal key purpose passes next has_bytes =
       let has = has_work name t (may_state server asking.form name ordinal) passes in
       let row = has.client in
       let work = has.work in
@@ -334,7 +372,9 @@ module _ (service : Service) (g : Ground) (t : Tabled) (l : LinkId) (server : Ro
           present = present_stays (view_on g) name server.link.state.carries server.left may.carries life (serves.whose lost);
         };
         stays = refl;
-        fits = fits_so g row name ordinal work at link server login asking.form same serves.account is.user is.found_rows said.asks.form may;
+        fits = fits_so g row name ordinal work at link server login asking.form same serves.account is.user is.found_rows said.asks.form
+            (duly_at service g t stands name (due g row name ordinal work at) there)
+            (lives_so (due g row name ordinal work at).command (link.live (due g row name ordinal work at).key) server.link.writing has_bytes said.spelt_so) may;
         of_view = there;
         for = subst (λ (p : Purpose). OfPurpose p g t server (Statement name (due g row name ordinal work at))) (sym purpose) (record {
           client = row;

@@ -2,6 +2,7 @@
 use Rattle.std.specs.Prelude.{◌≡◌, ℕ, Bool, true, false, not, ◌&&◌, ◌||◌, is_some, nat_eq, bytes_eq, slice_index_or, List, [], ◌∷◌, ◌++◌, Option, Some, None}
 use Rattle.std.proofs.Common.{refl, sym, ap, ◌∙◌, subst}
 use Rattle.std.proofs.lemmas.Bool.{and_parts, and_from, false≢true, true≢false, not-true}
+use Rattle.std.proofs.lemmas.Slice.Eq.{bytes_eq-Decides}
 use Rattle.pin_classifier.specs.declared.class.Class.{Class}
 use Rattle.session_vars.specs.Settings.{same_value}
 use Rattle.session_vars.specs.declared.change.SlotValue.{SlotValue}
@@ -11,15 +12,18 @@ use Rattle.session_state.specs.Pins.{is_pinned, reads_own}
 use Rattle.session_state.specs.declared.pin.Pin.{Pin}
 use Rattle.session_state.specs.declared.place.Place.{Place}
 use Rattle.session_state.specs.declared.place.Told.{Told}
-use Rattle.server_rule.specs.Classes.{Reads}
+use Rattle.server_rule.specs.Classes.{Reads, core}
 use Rattle.server_side.specs.Account.{Account as Login}
 use Rattle.private_model.specs.Commands as commands
 use Rattle.private_model.specs.Commands.{Command, class_of, is_marked}
 use Rattle.private_model.specs.Lawful.{is_statement}
 use Rattle.private_model.specs.Names.{SessionName}
+use Rattle.private_model.specs.Story.{Due, Key}
 use Rattle.private_model.specs.View as view
 use Rattle.private_model.specs.View.{Setup}
+use Rattle.log_story.specs.Plan.{Route}
 use Rattle.log_story.specs.Servers.{logged_in_as}
+use Rattle.tale_world.proofs.Testing.{same_settings}
 use Rattle.tale_world.specs.Tests as tests
 use Rattle.link_state.specs.Asks.{marks}
 use Rattle.link_state.specs.Places.{is_schema}
@@ -28,11 +32,9 @@ use Rattle.link_state.specs.declared.asking.Form.{Form}
 use Rattle.link_state.specs.declared.asking.Form.TheVariants.{Text, Fields, Prepare, SetId, ReadId, Reset}
 use Rattle.link_state.specs.declared.state.Carried.{Carried}
 use Rattle.link_state.specs.declared.state.Carried.TheVariants.{Nobody, Lent, Joined}
-use Rattle.link_state.specs.declared.wish.Command as kinds_of
-use Rattle.link_state.specs.declared.wish.Command.TheVariants as kinds
 use Rattle.link_laws.specs.Stands.{IsForm, carried_of}
-use Rattle.desk_laws.specs.Stands.{kind_of}
 use Rattle.served_link.specs.declared.row.Identity.{Identity}
+use Rattle.core_stands.specs.Stands.{IsKeyedFor}
 use Rattle.core_tables.specs.Passing.{are_settings, is_account, is_blind, is_flag, is_joined, is_lent, is_lent_to, is_nobody, is_placed, is_set_by, reads_its_own}
 
 -- Values.
@@ -117,7 +119,8 @@ pub blind_is : (reads : Reads) (form : Form) (command : Command) → IsForm read
 blind_is reads (Text class) command form is = subst (λ (c : Class). tests.is_blind c ≡ true) (class_is reads class command form) is
 blind_is reads Fields (commands.FieldList rest) form is = refl
 blind_is reads Fields _ form is = absurd form
-blind_is reads (Prepare class) command form is = absurd (false≢true is)
+blind_is reads (Prepare class) (commands.Prepare text) form is = refl
+blind_is reads (Prepare class) _ form is = absurd form
 blind_is reads (SetId id) command form is = absurd (false≢true is)
 blind_is reads ReadId command form is = absurd (false≢true is)
 blind_is reads Reset command form is = absurd (false≢true is)
@@ -126,7 +129,8 @@ pub blind_states : (reads : Reads) (form : Form) (command : Command) → IsForm 
 blind_states reads (Text class) command form is = text_states reads class command form
 blind_states reads Fields (commands.FieldList rest) form is = refl
 blind_states reads Fields _ form is = absurd form
-blind_states reads (Prepare class) command form is = absurd (false≢true is)
+blind_states reads (Prepare class) (commands.Prepare text) form is = refl
+blind_states reads (Prepare class) _ form is = absurd form
 blind_states reads (SetId id) command form is = absurd (false≢true is)
 blind_states reads ReadId command form is = absurd (false≢true is)
 blind_states reads Reset command form is = absurd (false≢true is)
@@ -136,7 +140,8 @@ pub own_is : (reads : Reads) (form : Form) (command : Command) (pin : Pin) → I
 own_is reads (Text class) command pin form is = subst (λ (c : Class). reads_own c pin ≡ true) (class_is reads class command form) is
 own_is reads Fields (commands.FieldList rest) pin form is = refl
 own_is reads Fields _ pin form is = absurd form
-own_is reads (Prepare class) command pin form is = absurd (false≢true is)
+own_is reads (Prepare class) (commands.Prepare text) pin form is = refl
+own_is reads (Prepare class) _ pin form is = absurd form
 own_is reads (SetId id) command pin form is = absurd (false≢true is)
 own_is reads ReadId command pin form is = absurd (false≢true is)
 own_is reads Reset command pin form is = absurd (false≢true is)
@@ -146,7 +151,8 @@ pub own_states : (reads : Reads) (form : Form) (command : Command) (pin : Pin) �
 own_states reads (Text class) command pin form is = text_states reads class command form
 own_states reads Fields (commands.FieldList rest) pin form is = refl
 own_states reads Fields _ pin form is = absurd form
-own_states reads (Prepare class) command pin form is = absurd (false≢true is)
+own_states reads (Prepare class) (commands.Prepare text) pin form is = refl
+own_states reads (Prepare class) _ pin form is = absurd form
 own_states reads (SetId id) command pin form is = absurd (false≢true is)
 own_states reads ReadId command pin form is = absurd (false≢true is)
 own_states reads Reset command pin form is = absurd (false≢true is)
@@ -162,18 +168,54 @@ marks_is reads ReadId commands.ReadId is = refl
 marks_is reads Reset commands.Reset is = refl
 marks_is reads _ _ is = absurd is
 
--- a text that names nothing prepared needs no key
-pub plain_keyed : (setup : Setup) (command : Command) (key : ℕ) (told : Told) (live : ℕ → Option ℕ) → kind_of command ≡ kinds.Plain
-    → tests.is_keyed setup command key told live ≡ true
-plain_keyed setup (commands.Query text) key told live plain = refl
-plain_keyed setup (commands.InitDb schema) key told live plain = refl
-plain_keyed setup (commands.FieldList rest) key told live plain = refl
-plain_keyed setup (commands.SetId n) key told live plain = refl
-plain_keyed setup commands.ReadId key told live plain = refl
-plain_keyed setup (commands.Prepare text) key told live plain = absurd (cc)
-plain_keyed setup (commands.Run text schema settings args) key told live plain = absurd (cc)
-plain_keyed setup commands.Reset key told live plain = refl
-plain_keyed setup commands.Quit key told live plain = refl
+-- What became due duly is keyed, where the link was told its place: a text by its own key, and an execute where its text is prepared there.
+
+same_bytes : (xs : List ℕ) → bytes_eq xs xs ≡ true
+same_bytes xs = (bytes_eq-Decides xs xs).1 refl
+
+equal_bytes : (xs ys : List ℕ) → xs ≡ ys → bytes_eq xs ys ≡ true
+equal_bytes xs ys same = ap (bytes_eq xs) (sym same) ∙ same_bytes xs
+
+value_itself : (v : SlotValue) → tests.is_value v v ≡ true
+value_itself Default = refl
+value_itself (Value text) = same_bytes text
+
+settings_themselves : (xs : List SlotValue) → tests.are_settings xs xs ≡ true
+settings_themselves [] = refl
+settings_themselves (x ∷ xs) = and_from (tests.is_value x x) (tests.are_settings xs xs) (value_itself x) (settings_themselves xs)
+
+equal_settings : (xs ys : List SlotValue) → xs ≡ ys → tests.are_settings xs ys ≡ true
+equal_settings xs ys same = ap (tests.are_settings xs) (sym same) ∙ settings_themselves xs
+
+abbrev pub IsLiveFor : Command → (number : Option ℕ) → Type 0
+IsLiveFor (commands.Run text schema settings args) number = is_some number ≡ true
+IsLiveFor _ number = Unit {0}
+
+is_told : (text : List ℕ) (told : Told) (place : Place) → tests.is_placed told place ≡ true
+    → (bytes_eq text text && (tests.is_schema told.schema place.schema && tests.are_settings (core told.settings) (core place.settings))) ≡ true
+is_told text told place placed =
+    let parts = and_parts (tests.is_schema told.schema place.schema) (tests.are_settings told.settings place.settings) placed in
+    and_from (bytes_eq text text) _ (same_bytes text)
+    (and_from (tests.is_schema told.schema place.schema) _ parts.0
+    (equal_settings (core told.settings) (core place.settings) (ap core (same_settings told.settings place.settings parts.1))))
+
+pub keyed_is : (setup : Setup) (route : Route) (due : Due) (command : Command) (told : Told) (live : ℕ → Option ℕ) → IsKeyedFor setup route due command
+    → tests.is_placed told due.place ≡ true → IsLiveFor command (live due.key) → tests.is_keyed setup command due.key told live ≡ true
+keyed_is setup route due (commands.Prepare text) told live keyed placed lives =
+    subst (λ (key : Key). (bytes_eq text key.text && (tests.is_schema told.schema key.place.schema
+    && tests.are_settings (core told.settings) (core key.place.settings))) ≡ true) (sym keyed.1.0) (is_told text told due.place placed)
+keyed_is setup route due (commands.Run text schema settings args) told live keyed placed lives =
+    and_from (is_some (live due.key)) _ lives
+    (and_from (bytes_eq text (setup.keys due.key).text) _ (equal_bytes text (setup.keys due.key).text keyed.1.0)
+    (and_from (bytes_eq schema (setup.keys due.key).place.schema) _ (equal_bytes schema (setup.keys due.key).place.schema keyed.1.1.0)
+    (equal_settings (core settings) (core (setup.keys due.key).place.settings) keyed.1.1.1)))
+keyed_is setup route due (commands.Query text) told live keyed placed lives = refl
+keyed_is setup route due (commands.InitDb schema) told live keyed placed lives = refl
+keyed_is setup route due (commands.FieldList rest) told live keyed placed lives = refl
+keyed_is setup route due (commands.SetId n) told live keyed placed lives = refl
+keyed_is setup route due commands.ReadId told live keyed placed lives = refl
+keyed_is setup route due commands.Reset told live keyed placed lives = refl
+keyed_is setup route due commands.Quit told live keyed placed lives = refl
 
 -- Steps.
 

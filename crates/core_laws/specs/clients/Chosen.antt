@@ -2,7 +2,7 @@
 use Rattle.std.specs.Prelude.{◌≡◌, ℕ, suc, Bool, false, List, [], ◌∷◌, Some, None}
 use Rattle.client_session.specs.Setups.{Setup as Service}
 use Rattle.private_model.specs.Names.{ClientNo, MessageName}
-use Rattle.private_model.specs.Story.{Left}
+use Rattle.private_model.specs.Story.{Key, Left}
 use Rattle.log_story.specs.Owed.{name_of}
 use Rattle.log_story.specs.Plan.{Plan, Route, own_at, word_at}
 use Rattle.log_story.specs.Tale as tales
@@ -15,7 +15,7 @@ use Rattle.core_stands.specs.Grounds.{Ground, ending}
 use Rattle.core_stands.specs.Stands.{Stands}
 use Rattle.core_laws.specs.arrival.Looks.{IsLetIn}
 use Rattle.core_laws.specs.entry.Loops.{IsTaking}
-use Rattle.core_laws.specs.clients.Turns.{Choice, Answers, Goes, Halt, Ends, Quits, Rests, Waits}
+use Rattle.core_laws.specs.clients.Turns.{AreKeyed, Choice, Answers, Goes, Halt, Ends, Quits, Rests, Waits}
 
 -- The plan.
 
@@ -28,9 +28,9 @@ pub record IsOwn (plan : Plan) (moment : ℕ) (name : MessageName) (payloads : L
   pub unrouted : plan.routes name ≡ None
   pub answered : own_at plan moment name ≡ Some payloads
 
-abbrev pub IsChosen : Choice → Plan → (moment : ℕ) → MessageName → Type 0
-IsChosen (Goes route) plan moment name = IsRouted plan moment name route
-IsChosen (Answers payloads) plan moment name = IsOwn plan moment name payloads
+abbrev pub IsChosen : Choice → (keys : (number : ℕ) → Key) → Plan → (moment : ℕ) → MessageName → Type 0
+IsChosen (Goes route keyed) keys plan moment name = IsRouted plan moment name route × AreKeyed keyed keys
+IsChosen (Answers payloads) keys plan moment name = IsOwn plan moment name payloads
 
 -- a COM_QUIT, which goes nowhere, and isn't answered; and who ends is told no last word
 pub record IsLast (plan : Plan) (moment : ℕ) (name : MessageName) : Type 0 where
@@ -45,10 +45,10 @@ IsHaltIn Quits plan moment name = IsLast plan moment name
 IsHaltIn Ends plan moment name = word_at plan moment name.client ≡ None
 
 -- of the messages from this one on
-abbrev pub PlanHas : List Choice → Halt → Plan → (moment : ℕ) → MessageName → Type 0
-PlanHas [] halt plan moment name = IsHaltIn halt plan moment name
-PlanHas (choice ∷ others) halt plan moment name =
-    IsChosen choice plan moment name × PlanHas others halt plan moment (record name { ordinal = suc name.ordinal })
+abbrev pub PlanHas : List Choice → Halt → (keys : (number : ℕ) → Key) → Plan → (moment : ℕ) → MessageName → Type 0
+PlanHas [] halt keys plan moment name = IsHaltIn halt plan moment name
+PlanHas (choice ∷ others) halt keys plan moment name =
+    IsChosen choice keys plan moment name × PlanHas others halt keys plan moment (record name { ordinal = suc name.ordinal })
 
 -- A client that goes on is let in as the setup has it, and texts are classed as code does.
 pub record IsTurning (service : Service) (default : List ℕ) (first : tales.Client) (from : Tale) (g : Ground) (t : Tabled) (client : tales.Client) : Type 0 where

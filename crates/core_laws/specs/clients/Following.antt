@@ -51,7 +51,7 @@ pub record IsFollowing (service : Service) (default : List ℕ) (g : Ground) (e 
   pub classes : AreClasses g.setup.reads
   pub let_in : IsLetIn g default client
   pub unrouted : g.plan.routes (name_of client 0) ≡ None
-  pub chosen : PlanHas choices halt g.plan freed.moment (name_of client (suc client.taken))
+  pub chosen : PlanHas choices halt g.setup.keys g.plan freed.moment (name_of client (suc client.taken))
   pub parted : IsPartedIn parting service g client.number freed.moment
   pub ends : (c : ClientNo) → ends_now g.plan (suc g.tale.moment) c ≡ (is_client client.number c && ends_by halt parting)
   pub rising : Ascend (λ l. l.0) freed.links

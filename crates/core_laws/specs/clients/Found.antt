@@ -1,14 +1,19 @@
 -- Which messages a client's turns took up, who it was, and how it stood.
 use Rattle.std.specs.Option.{option_map_or}
-use Rattle.std.specs.Prelude.{◌≡◌, ℕ, suc, slice_get, List, [], ◌∷◌, Option, Some}
+use Rattle.std.specs.Prelude.{◌≡◌, ◌<◌, ℕ, suc, slice_get, take, List, [], ◌∷◌, Option, Some, None}
 use Rattle.mx_base.specs.declared.names.ClientNo.{ClientNo}
 use Rattle.packet_frame.specs.Packets.{Framed}
 use Rattle.server_side.specs.Account.{Account}
 use Rattle.private_model.specs.Names.{Hostgroup, MessageName}
-use Rattle.private_model.specs.View.{Setup, View, present}
-use Rattle.log_story.specs.Tale.{view_of}
+use Rattle.private_model.specs.View.{Setup, present}
+use Rattle.log_story.specs.Executes.{prepared_by}
+use Rattle.log_story.specs.Owed.{messages}
+use Rattle.log_story.specs.Plan.{Plan}
+use Rattle.log_story.specs.Tale.{Tale, view_of}
 use Rattle.client_session.specs.Setups.{Setup as Service}
+use Rattle.client_seat.specs.Numbers.{Numbered, number_in}
 use Rattle.client_seat.specs.Seats.{account_in}
+use Rattle.client_seat.specs.Stands.{IsNumbered, Known}
 use Rattle.client_seat.specs.declared.phase.Phase.{Phase}
 use Rattle.client_desk.specs.Desks.{session_of}
 use Rattle.client_desk.specs.declared.desk.Desk.{Desk}
@@ -33,27 +38,36 @@ user_in phase = option_map_or (λ (account : Account). account.user) (account_in
 abbrev pub desk_up : (service : Service) → (default : List ℕ) → (row : Client) → Desk
 desk_up service default row = (seated (turn service default) row).desk
 
+-- what is known just before a message is taken up
+abbrev pub known_at : Setup → Plan → Tale → Known
+known_at setup plan tale = record { plan = plan; view = view_of setup tale; moment = tale.moment }
+
 -- The message is that which came up at the turn, and its client is served as this user. By what is known just before it is taken up the client
--- stands there, and these are its sessions.
-pub record IsFoundIn (c : ClientNo) (desk : Desk) (up : Framed) (user : List ℕ) (view : View) (message : Option Framed) : Type 0 where
+-- stands there, these are its sessions, and it has prepared what stands under its numbers, and nothing under a greater one.
+pub record IsFoundIn (c : ClientNo) (desk : Desk) (up : Framed) (setup : Setup) (plan : Plan) (taking : Taking) (message : Option Framed) : Type 0 where
   pub message_is : message ≡ Some up
-  pub login : user_in desk.seat.phase ≡ user
-  pub place : view.places c ≡ desk.seat.place
-  pub held : (hostgroup : Hostgroup) → view.held (present view c hostgroup) ≡ held_of (session_of desk hostgroup)
+  pub login : user_in desk.seat.phase ≡ (setup.accounts c).user
+  pub place : (view_of setup taking.tale).places c ≡ desk.seat.place
+  pub held : (hostgroup : Hostgroup)
+      → (view_of setup taking.tale).held (present (view_of setup taking.tale) c hostgroup) ≡ held_of (session_of desk hostgroup)
+  pub prepared : (number : ℕ) (one : Numbered) → number_in desk.seat.statements number ≡ Some one
+      → IsNumbered (known_at setup plan taking.tale) taking.client (λ (key : ℕ). key) number one
+  pub unused : (number : ℕ) → desk.seat.statements.last < number
+      → prepared_by (view_of setup taking.tale) plan taking.client number 1 (take taking.client.taken (messages plan taking.client)) ≡ None
 
 abbrev pub IsFoundAt : (choice : Choice) → (service : Service) → (default : List ℕ) → (c : ClientNo) → (old new : Tabled)
-    → IsTurn choice service default c old new → (user : List ℕ) → View → Option Framed → Type 0
-IsFoundAt (Goes route) service default c old new turn user view message =
-    IsFoundIn c (desk_up service default turn.up.row) turn.up.message user view message
-IsFoundAt (Answers payloads) service default c old new turn user view message =
-    IsFoundIn c (desk_up service default turn.up.row) turn.up.message user view message
+    → IsTurn choice service default c old new → Setup → Plan → Taking → Option Framed → Type 0
+IsFoundAt (Goes route keyed) service default c old new turn setup plan taking message =
+    IsFoundIn c (desk_up service default turn.up.row) turn.up.message setup plan taking message
+IsFoundAt (Answers payloads) service default c old new turn setup plan taking message =
+    IsFoundIn c (desk_up service default turn.up.row) turn.up.message setup plan taking message
 
 -- by the taking of its name, which is one of these
 pub record IsFound (choice : Choice) (service : Service) (default : List ℕ) (c : ClientNo) (old new : Tabled)
-    (turn : IsTurn choice service default c old new) (setup : Setup) (takings : List Taking) (message : Option Framed) (k : ℕ) : Type 0 where
+    (turn : IsTurn choice service default c old new) (setup : Setup) (plan : Plan) (takings : List Taking) (message : Option Framed) (k : ℕ) : Type 0 where
   pub taking : Taking
   pub among : IsAmong takings (message_at c (suc k)) taking
-  pub at : IsFoundAt choice service default c old new turn (setup.accounts c).user (view_of setup taking.tale) message
+  pub at : IsFoundAt choice service default c old new turn setup plan taking message
 
 -- a QUIT is taken up too
 abbrev pub IsLastAmong : Halt → (takings : List Taking) → MessageName → Type 0
@@ -62,8 +76,8 @@ IsLastAmong _ takings name = Unit {0}
 
 -- of these messages from the k-th on
 abbrev pub AreFoundAt : (choices : List Choice) → (halt : Halt) → (service : Service) → (default : List ℕ) → (c : ClientNo) → (old new : Tabled)
-    → Turns choices halt service default c old new → Setup → (takings : List Taking) → List Framed → (k : ℕ) → Type 0
-AreFoundAt [] halt service default c old new turns setup takings messages k = IsLastAmong halt takings (message_at c (suc k))
-AreFoundAt (choice ∷ others) halt service default c old new turns setup takings messages k =
-    IsFound choice service default c old turns.0 turns.1 setup takings (slice_get messages k) k
-    × AreFoundAt others halt service default c turns.0 new turns.2 setup takings messages (suc k)
+    → Turns choices halt service default c old new → Setup → Plan → (takings : List Taking) → (sent : List Framed) → (k : ℕ) → Type 0
+AreFoundAt [] halt service default c old new turns setup plan takings sent k = IsLastAmong halt takings (message_at c (suc k))
+AreFoundAt (choice ∷ others) halt service default c old new turns setup plan takings sent k =
+    IsFound choice service default c old turns.0 turns.1 setup plan takings (slice_get sent k) k
+    × AreFoundAt others halt service default c turns.0 new turns.2 setup plan takings sent (suc k)

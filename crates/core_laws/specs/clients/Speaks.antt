@@ -53,7 +53,7 @@ pub record IsSpeech (default : List ℕ) (g : Ground) (link : LinkId) (bytes : L
   pub classes : AreClasses g.setup.reads
   pub let_in : IsLetIn g default (spoke_more bytes client)
   pub unrouted : g.plan.routes (name_of client 0) ≡ None
-  pub chosen : PlanHas choices halt g.plan (suc g.tale.moment) (name_of client (suc client.taken))
+  pub chosen : PlanHas choices halt g.setup.keys g.plan (suc g.tale.moment) (name_of client (suc client.taken))
   pub all : links_are_freed g.setup g.plan (spoken g link bytes client) ≡ freed_in g.setup g.plan links (spoken g link bytes client)
   pub theirs : All (λ (l : LinkId). is_to_server (spoken g link bytes client) l ≡ true) links
 

@@ -4,15 +4,16 @@ use Rattle.packet_frame.specs.Packets.{Framed}
 use Rattle.private_model.specs.Commands.{Command}
 use Rattle.private_model.specs.View.{due_of, present}
 use Rattle.log_story.specs.Clients.{taken_by}
+use Rattle.log_story.specs.Executes.{requested}
 use Rattle.log_story.specs.Owed.{name_of}
 use Rattle.log_story.specs.Plan.{Route, com_reset, own_at}
 use Rattle.log_story.specs.Tale as tales
 use Rattle.log_story.specs.Tale.{Tale, with_client}
 use Rattle.step_laws.specs.Seats.{IsSeated}
 use Rattle.step_laws.specs.Taken.{next_of}
-use Rattle.link_state.specs.declared.wish.Command.TheVariants.{Plain}
+use Rattle.link_state.specs.declared.wish.Command.TheVariants.{Prepare}
 use Rattle.run_laws.specs.Reads.{HasArgs}
-use Rattle.client_seat.specs.Requests.{Says, text_in}
+use Rattle.stmt_map.specs.declared.client.ClientStatements.{ClientStatements}
 use Rattle.client_desk.specs.declared.work.Work.{Work}
 use Rattle.desk_laws.specs.Stands.{IsRequest}
 use Rattle.core_tables.specs.Tables.{Tabled}
@@ -44,15 +45,18 @@ is_reset message = nat_eq (slice_index_or message.payload 0 0) com_reset
 abbrev pub took : Ground → tales.Client → Framed → Tale
 took g client message = with_client (next_of client) (taken_by g.setup g.plan client (suc client.taken) message (route_of g client) g.tale)
 
+-- what is prepared gets the client's next number
+abbrev pub IsNumberedAs : Route → Work → ClientStatements → Type 0
+IsNumberedAs route work statements = work.command ≡ Prepare → (route.number ≡ statements.last + 1) × (statements.last < 4294967295)
+
 -- It goes to a server by this route, and asks for this, which is the statement that becomes due. No copy of it is made.
 pub record IsSent (g : Ground) (client : tales.Client) (message : Framed) (route : Route) (command : Command) (work : Work) : Type 0 where
   pub routed : route_of g client ≡ Some route
   pub unanswered : own_of g client ≡ None
   pub single : route.mirror ≡ None
-  pub asked : text_in message.payload route.text ≡ Some (Says command)
-  pub request : IsRequest g.setup.reads (suc client.taken) route.key command route.multiplex work
-  pub kind : work.command ≡ Plain
+  pub asked : requested g.setup (view_on g) g.plan client (suc client.taken) route message.payload ≡ Some (record { command = command; key = work.key })
+  pub request : IsRequest g.setup.reads (suc client.taken) work.key command route.multiplex work
   pub hostgroup : work.hostgroup ≡ route.hostgroup
   pub keyed : IsKeyedFor g.setup route
-      (due_of (view_on g) (present (view_on g) client.number work.hostgroup) (suc client.taken) route.key command route.multiplex) command
+      (due_of (view_on g) (present (view_on g) client.number work.hostgroup) (suc client.taken) work.key command route.multiplex) command
   pub whole : HasArgs command

@@ -49,7 +49,7 @@ pub fn follows_find()
         (freed : Tale) (choices : List Choice) (halt : Halt) (parting : Parting) (c : ClientNo) → client.number ≡ c
         → IsFollowing service default g e client freed choices halt parting → Stands service (to_look g fresh freed) mid
         → (turns : Turns choices halt service default c mid now)
-        → AreFoundAt choices halt service default c mid now turns g.setup (takings_of (length (messages g.plan client)) g.setup g.plan client freed)
+        → AreFoundAt choices halt service default c mid now turns g.setup g.plan (takings_of (length (messages g.plan client)) g.setup g.plan client freed)
         (messages g.plan client) client.taken }
 {
     turns_find();

@@ -17,7 +17,7 @@ ghost use Rattle.router_promises.specs.Takings.{takings_of};
 pub fn turns_stand()
     ensures { (service : Service) (default : List ℕ) (first client : tales.Client) (from : Tale) (g : Ground) (t now : Tabled)
         (choices : List Choice) (halt : Halt) → IsTurning service default first from g t client
-        → PlanHas choices halt g.plan g.tale.moment (name_of client (suc client.taken))
+        → PlanHas choices halt g.setup.keys g.plan g.tale.moment (name_of client (suc client.taken))
         → Turns choices halt service default client.number t now → StandsBehind halt service first from (client.taken + count_by choices halt) g
         client.number now }
 {
@@ -38,9 +38,9 @@ pub fn turns_stand()
 pub fn turns_find()
     ensures { (service : Service) (default : List ℕ) (first client : tales.Client) (from : Tale) (g : Ground) (t now : Tabled)
         (choices : List Choice) (halt : Halt) (c : ClientNo) → client.number ≡ c → IsTurning service default first from g t client
-        → PlanHas choices halt g.plan g.tale.moment (name_of client (suc client.taken)) → (turns : Turns choices halt service default c t now)
+        → PlanHas choices halt g.setup.keys g.plan g.tale.moment (name_of client (suc client.taken)) → (turns : Turns choices halt service default c t now)
         → (most : ℕ) → length (messages g.plan client) ≤ most + client.taken
-        → AreFoundAt choices halt service default c t now turns g.setup (takings_of most g.setup g.plan client g.tale) (messages g.plan client)
+        → AreFoundAt choices halt service default c t now turns g.setup g.plan (takings_of most g.setup g.plan client g.tale) (messages g.plan client)
         client.taken }
 {
     crate::arrival::clients_look();

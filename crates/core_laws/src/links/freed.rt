@@ -8,23 +8,23 @@ ghost use Rattle.private_model.specs.Names.{ClientNo, LinkId};
 ghost use Rattle.private_model.specs.Story.{is_link_id};
 ghost use Rattle.log_story.specs.Tale.{is_to_server};
 ghost use Rattle.log_story.specs.Telling.{told};
-ghost use Rattle.link_laws.specs.Stands.{AreApart};
 ghost use Rattle.core_tables.specs.Hearing.{IsHeardOn};
+ghost use Rattle.core_tables.specs.Preparing.{IsKeptFor};
 ghost use Rattle.core_tables.specs.Parting.{freed_in, given_up_in, lost_in};
 ghost use Rattle.core_tables.specs.Tables.{Tabled};
 ghost use Rattle.core_tables.specs.declared.said.Said.{Said};
 ghost use Rattle.core_tables.specs.declared.server.Server.{Server};
-ghost use Rattle.core_stands.specs.Grounds.{Ground, on};
+ghost use Rattle.core_stands.specs.Grounds.{AreNamed, Ground, on};
 ghost use Rattle.core_stands.specs.Stands.{Stands};
 ghost use Rattle.core_laws.specs.parting.Partings.{AreCounted, AreGivenUp, IsLosing};
 ghost use Rattle.core_laws.specs.links.Parting.{first_freed};
 
-/// Bytes are read there, and what is in work is given up or not.
+/// Bytes are read there, what they prepared is kept, and what is in work is given up or not.
 pub fn reads_stand()
-    ensures { (service : Service) (g : Ground) (t heard : Tabled) (l : LinkId) (server : Server) (bytes : List ℕ) (now : ℕ) (result : Said)
+    ensures { (service : Service) (g : Ground) (t mid heard : Tabled) (l : LinkId) (server : Server) (bytes : List ℕ) (now : ℕ) (result : Said)
         (given : ClientNo → Option (List ℕ)) → Stands service g t → is_to_server g.tale l ≡ true → t.links l ≡ Some server
-        → server.row.lost ≡ false → server.row.link.spoilt ≡ false → AreApart g.codes → AreBytes bytes → 0 < length bytes
-        → IsHeardOn server l bytes now result heard t → IsLawful g.setup (told g.setup g.plan g.tale (Got l bytes)).story
+        → server.row.lost ≡ false → server.row.link.spoilt ≡ false → AreNamed g.codes → AreBytes bytes → 0 < length bytes
+        → IsHeardOn server l bytes now result mid t → IsKeptFor result l mid heard → IsLawful g.setup (told g.setup g.plan g.tale (Got l bytes)).story
         → AreGivenUp given (λ other. false) heard → AreCounted (on g (told g.setup g.plan g.tale (Got l bytes))) given
         → Stands service (on g (first_freed g (Got l bytes) l)) (freed_in l (given_up_in given heard)) }
 {

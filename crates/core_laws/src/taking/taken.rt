@@ -18,7 +18,7 @@ ghost use Rattle.core_tables.specs.declared.client.Client.{Client};
 ghost use Rattle.core_stands.specs.Grounds.{Ground, ending, on, view_on};
 ghost use Rattle.core_stands.specs.Stands.{Stands};
 ghost use Rattle.core_laws.specs.parting.Partings.{HasLives};
-ghost use Rattle.core_laws.specs.taking.Takes.{IsSent, IsUpOf, is_reset, own_of, route_of, took};
+ghost use Rattle.core_laws.specs.taking.Takes.{IsNumberedAs, IsSent, IsUpOf, is_reset, own_of, route_of, took};
 
 use crate::parting::{clients_stay, left_stands, same_stands, servers_stay};
 use desk_laws::{anew_stands, due_stands, seats_stand};
@@ -75,7 +75,8 @@ pub fn quits_stand()
 pub fn dues_stand()
     ensures { (service : Service) (g : Ground) (t other : Tabled) (client : tales.Client) (row : Client) → Stands service g t
         → (is : IsUpOf g t client row) (flag : ℕ) (route : Route) (command : Command) (work : Work) (statements : ClientStatements)
-        → IsSent g client is.up.message route command work → AreNoted false is.up.message.payload row.desk.seat.statements statements
+        → IsSent g client is.up.message route command work → IsNumberedAs route work row.desk.seat.statements
+        → AreNoted false is.up.message.payload row.desk.seat.statements statements
         → IsSame other (client_changed client.number (goes flag work statements) t)
         → Stands service (on g (took g client is.up.message)) other }
 {

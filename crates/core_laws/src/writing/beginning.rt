@@ -10,11 +10,11 @@ ghost use Rattle.row_laws.specs.Readied.{AreClasses, IsStepFor, IsWished};
 ghost use Rattle.client_desk.specs.Desks.{name_of};
 ghost use Rattle.client_desk.specs.declared.work.Work.{Work};
 ghost use Rattle.core_tables.specs.Beginning.{capture_begun, end_begun, next_back, quit_begun, step_begun, text_begun};
-ghost use Rattle.core_tables.specs.Preparing.{prep_begun};
+ghost use Rattle.core_tables.specs.Preparing.{prep_begun, run_begun};
 ghost use Rattle.core_tables.specs.Tables.{IsSame, Tabled};
 ghost use Rattle.core_tables.specs.declared.client.Client.{Client};
 ghost use Rattle.core_tables.specs.declared.server.Server.{Server};
-ghost use Rattle.core_stands.specs.Grounds.{Ground};
+ghost use Rattle.core_stands.specs.Grounds.{AreNamed, Ground};
 ghost use Rattle.core_stands.specs.Stands.{Stands};
 ghost use Rattle.core_laws.specs.writing.Planned.{IsOpen, IsToPrepare};
 
@@ -25,11 +25,25 @@ use row_laws::{
     statements_are_readied, steps_are_readied,
 };
 
-/// A client's statement: its form and its packets go from the desk's work to the row.
+/// A client's statement: its form and its packets go from the desk's work to the row. Keys go by code's numbers.
 pub fn text_begins()
     ensures { (service : Service) (g : Ground) (t after : Tabled) (l : LinkId) (server : Server) (n : SessionName) (client : Client) (work : Work)
         → Stands service g t → IsOpen g t l server → t.clients n.client ≡ Some client → client.desk.work ≡ Some work
-        → work.sent ≡ false → n ≡ name_of client.desk work.hostgroup → IsSame after (text_begun l n t) → Stands service g after }
+        → work.sent ≡ false → n ≡ name_of client.desk work.hostgroup → AreNamed g.codes → IsSame after (text_begun l n t)
+        → Stands service g after }
+{
+    rows_take_next();
+    statements_are_readied();
+    taken_stands();
+    same_stands();
+}
+
+/// A client's execute, where its text is prepared there: its form goes to the row, and its arguments are spelt there.
+pub fn runs_begin()
+    ensures { (service : Service) (g : Ground) (t after : Tabled) (l : LinkId) (server : Server) (n : SessionName) (client : Client) (work : Work)
+        → Stands service g t → IsOpen g t l server → t.clients n.client ≡ Some client → client.desk.work ≡ Some work
+        → work.sent ≡ false → n ≡ name_of client.desk work.hostgroup → AreNamed g.codes → IsSame after (run_begun l n t)
+        → Stands service g after }
 {
     rows_take_next();
     statements_are_readied();

@@ -14,7 +14,7 @@ ghost use Rattle.core_stands.specs.Stands.{Stands};
 ghost use Rattle.core_laws.specs.writing.Planned.{IsPlanned};
 
 use crate::parting::{clients_at_stay, same_stands};
-use desk_laws::{coming_stays, others_stay, outlasts_as_said, sent_stands};
+use desk_laws::{coming_stays, lent_stands, others_stay, outlasts_as_said, sent_stands};
 use row_laws::{rows_begin, rows_may_begin, rows_say, rows_write_on};
 
 /// Bytes of what the tables lend are written: in the login, of what began, or of what begins with them.
@@ -32,6 +32,7 @@ pub fn writes_stand()
     coming_stays();
     clients_at_stay();
     sent_stands();
+    lent_stands();
     outlasts_as_said();
     same_stands();
 }

@@ -10,8 +10,8 @@ use Rattle.core_laws.proofs.OfLinks.OneRead.{read_links}
 use Rattle.core_laws.proofs.links.freed.reads_stand.Goals as goal
 
 pub returns : goal.returns
-returns c = λ service g t heard l server bytes now result given stands there at whole fine apart all some hears lawful gives counts.
+returns c = λ service g t mid heard l server bytes now result given stands there at whole fine named all some hears keeps lawful gives counts.
     c.freed_stands.ensures.stands service (on g (counted (told g.setup g.plan g.tale (Got l bytes)))) (given_up_in given heard) l
     (c.counted_stands.ensures service (on g (told g.setup g.plan g.tale (Got l bytes))) heard given
-    (c.bytes_are_heard.ensures service g t heard l server bytes now result stands there at whole fine apart all some hears lawful) gives counts)
+    (c.bytes_are_heard.ensures service g t mid heard l server bytes now result stands there at whole fine named all some hears keeps lawful) gives counts)
     (ap (list_any (is_link_id l)) (read_links g l bytes) ∙ there)
