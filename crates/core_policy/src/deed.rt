@@ -26,6 +26,16 @@ pub enum Deed {
         link: LinkId,
         name: SessionName,
     },
+    /// The execute of this session is.
+    BeginRun {
+        link: LinkId,
+        name: SessionName,
+    },
+    /// The preparation of its text is.
+    BeginPrep {
+        link: LinkId,
+        name: SessionName,
+    },
     /// A step is.
     BeginStep {
         link: LinkId,

@@ -5,7 +5,7 @@ use crate::verdict::{GiveUp, Verdict};
 use crate::waiting::unsent;
 use core_service::Failure;
 use core_tables::{Said, Tables};
-use link_state::Purpose;
+use link_state::{Carried, Purpose};
 use mx_base::{ClientNo, LinkId, OutOfMemory};
 use session_state::{ReplyEnd, SessionName, is_pinned};
 
@@ -75,19 +75,44 @@ pub(crate) fn breaks(tables: &Tables, name: SessionName, why: Failure) -> Verdic
     }
 }
 
+/// The session to which a link is lent that didn't run a statement of it yet.
+pub(crate) fn lent_to(carries: Carried) -> Option<SessionName> {
+    match carries {
+        Carried::Lent(name) => Some(name),
+        _ => None,
+    }
+}
+
+// A step of nobody's was refused: the statement is given up for which the link was readied, or to which it is lent.
+fn refuses_own(tables: &Tables, link: LinkId, why: Failure) -> Verdict {
+    let Some(server) = tables.links.get(&link.0) else {
+        return Verdict::none();
+    };
+    if let Some(name) = lent_to(server.row.link.state.carries) {
+        return give_up_in(tables, name, why);
+    }
+    match server.row.readied {
+        Some(client) => Verdict::gives(give_up_unsent(tables, client, why)),
+        None => Verdict::none(),
+    }
+}
+
 // A step was refused: the statement is given up that it was for.
 fn refuses(tables: &Tables, link: LinkId, purpose: Purpose, code: u16) -> Verdict {
     let why = Failure::StepRefused { code };
     match purpose {
         Purpose::Sync { name } => give_up_in(tables, name, why),
-        Purpose::Own => match tables.links.get(&link.0) {
-            Some(server) => match server.row.readied {
-                Some(client) => Verdict::gives(give_up_unsent(tables, client, why)),
-                None => Verdict::none(),
-            },
-            None => Verdict::none(),
-        },
+        Purpose::Prep { name, .. } => give_up_in(tables, name, why),
+        Purpose::Own => refuses_own(tables, link, why),
         _ => Verdict::none(),
+    }
+}
+
+// Whether a link is lent for a statement that isn't there yet.
+fn is_lent(tables: &Tables, link: LinkId) -> bool {
+    match tables.links.get(&link.0) {
+        Some(server) => lent_to(server.row.link.state.carries).is_some(),
+        None => false,
     }
 }
 
@@ -110,7 +135,7 @@ fn is_sound(
     let held_fast = is_held_fast(tables, name);
     if (amiss && (held_fast || captures)) || (behind && held_fast) {
         Verdict::ends(name.client)
-    } else if amiss {
+    } else if amiss || (behind && is_lent(tables, link)) {
         give_up_in(tables, name, Failure::BadBytes { place: 0 })
     } else {
         Verdict::none()

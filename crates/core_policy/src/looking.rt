@@ -7,6 +7,7 @@ use crate::steps::{Next, begins_on};
 use conn_pool::Shelf;
 use core_service::Service;
 use core_tables::{Server, Tables};
+use core_texts::Texts;
 use hostgroups::ServerStatus;
 use mx_base::{LinkId, OutOfMemory, ServerId};
 use served_link::{Outside, Row};
@@ -38,6 +39,7 @@ impl Policy {
     pub fn deed(
         &mut self,
         tables: &Tables,
+        texts: &Texts,
         service: &Service,
         now: u64,
     ) -> Result<Option<Deed>, OutOfMemory> {
@@ -45,7 +47,7 @@ impl Policy {
             return Ok(Some(deed));
         }
         self.queue_anew(tables)?;
-        if let Some(deed) = self.look(tables, service, now)? {
+        if let Some(deed) = self.look(tables, texts, service, now)? {
             return Ok(Some(deed));
         }
         self.lend(tables)
@@ -55,6 +57,7 @@ impl Policy {
     fn look(
         &mut self,
         tables: &Tables,
+        texts: &Texts,
         service: &Service,
         now: u64,
     ) -> Result<Option<Deed>, OutOfMemory> {
@@ -63,7 +66,7 @@ impl Policy {
                 return Ok(None);
             };
             if let Some(link) = self.link_at(slot) {
-                if let Some(deed) = self.look_on(tables, service, link, now)? {
+                if let Some(deed) = self.look_on(tables, texts, service, link, now)? {
                     return Ok(Some(deed));
                 }
             }
@@ -86,6 +89,7 @@ impl Policy {
     fn look_on(
         &mut self,
         tables: &Tables,
+        texts: &Texts,
         service: &Service,
         link: LinkId,
         now: u64,
@@ -109,7 +113,7 @@ impl Policy {
         if !row.may_take() {
             return Ok(None);
         }
-        match begins_on(self.alloc, tables, link, row)? {
+        match begins_on(self.alloc, tables, texts, link, row)? {
             Some(next) => Ok(Some(self.begins(link, next))),
             None => Ok(None),
         }

@@ -14,7 +14,8 @@ impl ClientPart {
         self.counted = if is_ended(row) {
             0
         } else {
-            row.desk.seat.kept()
+            let seat = &row.desk.seat;
+            seat.kept().saturating_add(seat.statements.long)
         };
         others.saturating_add(self.counted)
     }

@@ -15,9 +15,11 @@ pub(crate) fn unsent(row: &Client) -> Option<&Work> {
     }
 }
 
-fn is_unsent(row: &Client, ordinal: u64) -> bool {
+// It wasn't sent, and no link is lent for it: it waits for one still. One that was prepared for on a link waits for none, and is given up only
+// by what that link says.
+fn waits_still(row: &Client, ordinal: u64) -> bool {
     match unsent(row) {
-        Some(work) => work.ordinal == ordinal,
+        Some(work) => work.ordinal == ordinal && row.desk.session(work.hostgroup).home.is_none(),
         None => false,
     }
 }
@@ -67,7 +69,7 @@ impl ClientPart {
     // What it waited for, where that was sent or given up: it waits no more.
     pub(crate) fn leaves(&mut self, row: &Client) -> Option<Waiting> {
         let waiting = self.waits?;
-        if is_unsent(row, waiting.ordinal) {
+        if waits_still(row, waiting.ordinal) {
             return None;
         }
         self.waits = None;

@@ -45,7 +45,7 @@ passes_same : (p : Purpose) (row : Row) (form : Form) (old new : Tabled)
     → ((n : SessionName) → asks_for p ≡ Some n → new.clients n.client ≡ old.clients n.client)
     → passes_for p row form new ≡ passes_for p row form old
 passes_same (purposes.Statement n ordinal key) row form old new same = rw (same n refl) refl
-passes_same (purposes.Prep n ordinal key) row form old new same = refl
+passes_same (purposes.Prep n ordinal key) row form old new same = rw (same n refl) refl
 passes_same (purposes.Sync n) row form old new same = rw (same n refl) refl
 passes_same purposes.Own row form old new same = refl
 passes_same (purposes.End n) row form old new same = refl

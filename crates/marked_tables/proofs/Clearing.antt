@@ -27,7 +27,7 @@ use Rattle.client_seat.specs.declared.phase.Phase.TheVariants as phase
 use Rattle.client_seat.specs.declared.seat.Seat.{Seat}
 use Rattle.client_desk.specs.Answers.{heard}
 use Rattle.client_desk.specs.Desks.{changed, moved_by, session_of}
-use Rattle.client_desk.specs.Sessions.{first_session, is_in, next_session, next_sessions, put_in, stated, unhomed}
+use Rattle.client_desk.specs.Sessions.{first_session, homed, is_in, next_session, next_sessions, put_in, stated, unhomed}
 use Rattle.client_desk.specs.declared.session.Session.{Session}
 use Rattle.client_desk.specs.declared.work.Work.{Work}
 use Rattle.core_tables.specs.Arrivals.{seated, turn}
@@ -36,7 +36,7 @@ use Rattle.core_tables.specs.Hearing.{Answer, at_desk, grown_by, replied_by, tol
 use Rattle.core_tables.specs.Noting.{with_note}
 use Rattle.core_tables.specs.Parting.{freed_row, given_row, gone_row, left_row}
 use Rattle.core_tables.specs.Taking.{answers, found_of, goes, goes_found, passes, passes_found}
-use Rattle.core_tables.specs.Writing.{client_sent}
+use Rattle.core_tables.specs.Writing.{client_lent, client_sent}
 use Rattle.core_tables.specs.declared.client.Client.{Client}
 use Rattle.core_tables.specs.declared.client.ClientNote.{ClientNote}
 use Rattle.core_says.specs.Marking.{AreAway, IsClear}
@@ -214,6 +214,10 @@ gone_spares h link row clear = session_spares next_session h link (λ s off. ref
 pub sent_spares : (h : Hostgroup) (l : LinkId) (lasting : Bool) (link : LinkId) → IsOther l link → Spares link (client_sent h l lasting)
 sent_spares h l lasting link other row clear =
     work_spares _ link _ (session_spares (stated l lasting) h link (λ s off. other) row clear)
+
+-- or it is lent to a session of it
+pub lent_spares : (h : Hostgroup) (l link : LinkId) → IsOther l link → Spares link (client_lent h l)
+lent_spares h l link other row clear = session_spares (homed l) h link (λ s off. other) row clear
 
 -- an answer to it is heard
 pub told_spares : (a : Answer) (h : Hostgroup) (link : LinkId) → Spares link (at_desk (told_of a h))

@@ -2,13 +2,11 @@
 use Rattle.std.specs.Prelude.{◌≡◌, ℕ, List, Option, Some, None, false}
 use Rattle.std.proofs.Common.{refl, subst}
 use Rattle.mx_base.specs.declared.names.ClientNo.{ClientNo}
-use Rattle.mx_base.specs.declared.names.Hostgroup.{Hostgroup}
 use Rattle.mx_base.specs.declared.names.LinkId.{LinkId}
 use Rattle.session_state.specs.declared.names.SessionName.{SessionName}
 use Rattle.private_model.specs.Commands.{Args}
 use Rattle.link_state.specs.Stood.{number_of}
 use Rattle.stmt_map.specs.declared.statement.Prepared.{Prepared}
-use Rattle.client_desk.specs.Sessions.{homed}
 use Rattle.client_desk.specs.Works.{formless}
 use Rattle.client_desk.specs.declared.work.Work.{Work}
 use Rattle.core_tables.specs.Arrivals.{seated}
@@ -16,7 +14,7 @@ use Rattle.core_tables.specs.Beginning.{with_work}
 use Rattle.core_tables.specs.Preparing.{IsKept, IsKeptOf, prep_begun, prep_by, prep_for, run_at, run_begun, run_by, run_for, with_statements}
 use Rattle.core_tables.specs.Taking.{IsRunDue, goes}
 use Rattle.core_tables.specs.Tables.{IsSame, Tabled, client_put, tables_of}
-use Rattle.core_tables.specs.Writing.{client_lent, lent_to}
+use Rattle.core_tables.specs.Writing.{lent_to}
 use Rattle.core_tables.specs.declared.client.Client.{Client}
 use Rattle.core_tables.specs.declared.server.Server.{Server}
 use Rattle.core_tables.specs.declared.tables.Tables.{Tables}
@@ -28,7 +26,7 @@ use Rattle.marked_tables.specs.Goes.{GoesOn}
 use Rattle.marked_tables.specs.Marking.{IsClearAt, IsOther, MarksBut}
 use Rattle.marked_tables.specs.declared.marked.MarkedTables.{MarkedTables}
 use Rattle.marked_tables.proofs.Calls.{taken_goes}
-use Rattle.marked_tables.proofs.Clearing.{Spares, goes_spares, seated_spares, session_spares, work_spares}
+use Rattle.marked_tables.proofs.Clearing.{goes_spares, lent_spares, seated_spares, work_spares}
 use Rattle.marked_tables.proofs.Going.{goes_by}
 use Rattle.marked_tables.proofs.Quiet.{client_quiet, link_quiet, put_quiet, still_quiet}
 use Rattle.marked_tables.proofs.Staying.{KeepsRows, client_rows, link_rows, rows_on, still_rows}
@@ -117,9 +115,6 @@ pub run_rows : (t : Tabled) (l : LinkId) (name : SessionName) → KeepsRows t (r
 run_rows t l name = run_rows_for t l name (t.links l) (t.clients name.client)
 
 -- A link is lent, which is another than this.
-
-lent_spares : (h : Hostgroup) (l link : LinkId) → IsOther l link → Spares link (client_lent h l)
-lent_spares h l link other row clear = session_spares (homed l) h link (λ s off. other) row clear
 
 pub lent_quiet : (t : Tabled) (l : LinkId) (name : SessionName) (link : LinkId) → IsOther l link → IsClearAt t name.client link
     → IsQuieter t (lent_to l name t) link

@@ -49,7 +49,7 @@ use Rattle.core_says.specs.Marking.{IsClearOf}
 use Rattle.core_says.specs.Says.{IsQuieter}
 use Rattle.core_says.proofs.Concerning.{quieter_on, same_quieter}
 use Rattle.marked_tables.specs.Marking.{IsClearAt, IsClearFor, IsOther, IsUnasked, IsUncarried, carrier_at, client_of, next_at, next_client, stage_at, stage_client}
-use Rattle.marked_tables.proofs.Clearing.{back_spares, freed_spares, gone_spares, grown_spares, replied_spares, sent_spares, told_spares, work_spares}
+use Rattle.marked_tables.proofs.Clearing.{back_spares, freed_spares, gone_spares, grown_spares, lent_spares, replied_spares, sent_spares, told_spares, work_spares}
 use Rattle.marked_tables.proofs.Quiet.{client_quiet, link_quiet, named_quiet, put_quiet, still_quiet}
 
 clear_for : (t : Tabled) (a b : Option ClientNo) (link : LinkId) → a ≡ b → IsClearFor t a link → IsClearFor t b link
@@ -131,7 +131,7 @@ begun_quiet : (t : Tabled) (p : Option Purpose) (l : LinkId) (lasting : Bool) (l
 begun_quiet t None l lasting link other clear = still_quiet t link
 begun_quiet t (Some (purposes.Statement n ordinal key)) l lasting link other clear =
     client_quiet t n.client _ link (sent_spares n.hostgroup l lasting link other) clear
-begun_quiet t (Some (purposes.Prep n ordinal key)) l lasting link other clear = still_quiet t link
+begun_quiet t (Some (purposes.Prep n ordinal key)) l lasting link other clear = client_quiet t n.client _ link (lent_spares n.hostgroup l link other) clear
 begun_quiet t (Some (purposes.Sync n)) l lasting link other clear = still_quiet t link
 begun_quiet t (Some purposes.Own) l lasting link other clear = still_quiet t link
 begun_quiet t (Some (purposes.End n)) l lasting link other clear = still_quiet t link

@@ -124,7 +124,7 @@ back_rows t l = back_by_rows t l (t.links l)
 begun_rows : (t : Tabled) (p : Option Purpose) (l : LinkId) (lasting : Bool) → KeepsRows t (begun_for p l lasting t)
 begun_rows t None l lasting = still_rows t
 begun_rows t (Some (purposes.Statement n ordinal key)) l lasting = client_rows t n.client _
-begun_rows t (Some (purposes.Prep n ordinal key)) l lasting = still_rows t
+begun_rows t (Some (purposes.Prep n ordinal key)) l lasting = client_rows t n.client _
 begun_rows t (Some (purposes.Sync n)) l lasting = still_rows t
 begun_rows t (Some purposes.Own) l lasting = still_rows t
 begun_rows t (Some (purposes.End n)) l lasting = still_rows t
