@@ -1,11 +1,13 @@
--- What a draft can be, by its message's bytes.
-use Rattle.std.specs.Prelude.{◌≡◌, ℕ, Bool, true, false, List, [], ◌∷◌, Option, Some, None, Result, Ok, Err, if◌then◌else◌}
-use Rattle.std.proofs.Common.{refl, sym, ap, subst, inl, inr}
+-- What a draft can be, by its message's bytes, and by whether its client prepared the statement that it names.
+use Rattle.std.specs.Prelude.{◌≡◌, ◌||◌, ℕ, Bool, true, false, nat_eq, List, [], ◌∷◌, Option, Some, None, Result, Ok, Err, if◌then◌else◌}
+use Rattle.std.specs.Option.{option_and_then}
+use Rattle.std.proofs.Common.{refl, sym, ap, subst, ◌∙◌, inl, inr}
 use Rattle.command_parse.specs.Meaning as meaning
 use Rattle.command_parse.specs.Meaning.{Meaning, has_no_reply}
-use Rattle.command_parse.specs.Whole.{close_of, execute_of, fetch_of, long_data_of, reset_of}
+use Rattle.command_parse.specs.Whole.{close_of, execute_by, execute_of, fetch_of, long_data_of, of_known, reset_of}
 use Rattle.command_parse.specs.declared.fault.CommandFault.{CommandFault}
 use Rattle.command_parse.specs.declared.fault.CommandFault.TheVariants as fault
+use Rattle.command_parse.specs.declared.statement.Known.{Known}
 use Rattle.mx_base.specs.Fields.{number_at}
 use Rattle.pin_classifier.specs.Classes.{class_of}
 use Rattle.pin_classifier.specs.declared.class.Class.{Class}
@@ -16,27 +18,47 @@ use Rattle.query_rules.specs.declared.ask.Stop.{Stop}
 use Rattle.query_rules.specs.declared.ask.Stop.TheVariants as stop
 use Rattle.query_rules.specs.declared.rule.Rule.{Rule}
 use Rattle.server_rule.specs.Classes.{router_reads}
+use Rattle.session_state.specs.declared.place.Place.{Place}
+use Rattle.private_model.specs.Story.{Key}
 use Rattle.log_story.specs.Plan.{com_execute, com_field_list, com_init_db, com_long_data, com_prepare, com_query, com_reset, com_statement_reset}
 use Rattle.router_promises.specs.Errors as error
 use Rattle.router_promises.specs.Statements.{com_close}
 use Rattle.router_promises.specs.Verdicts as verdicts
-use Rattle.router_promises.specs.Verdicts.{Wanted, is_connection_id}
-use Rattle.std.specs.Option.{option_or}
-use Rattle.message_judge.specs.Drafts.{draft_of, executed_key, prepared_key, value_of}
+use Rattle.router_promises.specs.Verdicts.{Wanted, is_connection_id, plain_route}
 use Rattle.message_judge.specs.Judging as judging
 use Rattle.message_judge.specs.declared.caller.Caller.{Caller}
+use Rattle.message_judge.specs.declared.caller.Prepared.{Prepared}
 use Rattle.message_judge.specs.declared.caller.Standing.{Standing}
-use Rattle.message_judge.specs.declared.draft.Draft.{Draft}
-use Rattle.message_judge.specs.declared.draft.Draft.TheVariants as drafts
-use Rattle.message_judge.specs.declared.draft.Going.{Going}
-use Rattle.message_judge.specs.declared.draft.Judged.{Judged}
-use Rattle.message_judge.proofs.Commands.{split}
-use Rattle.core_turns.specs.Judged.{IsDraftOn, IsNoReset, IsSayable}
+use Rattle.message_judge.proofs.Commands.{Faulty, IsRead, Whole, numbered-some, reads, split}
+use Rattle.core_promises.specs.Statements.{number_named}
+use Rattle.core_turns.specs.Judged.{IsExecute, IsNoReset, IsPlain, byte_of, is_whole}
 
-abbrev pub IsSo : (payload : List ℕ) → judging.Draft → Type 0
-IsSo payload judging.Ends = IsNoReset payload
-IsSo payload (judging.Answers payloads) = Unit {0}
-IsSo payload (judging.Sends class wanted) = IsSayable payload class wanted.route.text × (wanted.key ≡ None)
+-- A query, or a text that is prepared under the next number; or what has no text.
+
+abbrev pub IsTextSo : (next : Option ℕ) → (stands : Place) → (payload : List ℕ) → Class → (text : Option (List ℕ)) → (key : Option Key) → (number : ℕ) → Type 0
+IsTextSo next stands payload class None key number = ⊥
+IsTextSo next stands payload class (Some text) None number = (nat_eq (byte_of payload) com_query ≡ true) × (class ≡ class_of text)
+IsTextSo next stands payload class (Some text) (Some key) number =
+    (nat_eq (byte_of payload) com_prepare ≡ true) × (class ≡ class_of text) × (next ≡ Some number) × (key ≡ record { text = text; place = stands })
+
+abbrev pub IsOwnSo : (next : Option ℕ) → (stands : Place) → (payload : List ℕ) → Option Class → Wanted → Type 0
+IsOwnSo next stands payload (Some class) wanted = IsTextSo next stands payload class wanted.route.text wanted.key wanted.route.number
+IsOwnSo next stands payload None wanted = IsPlain payload × (wanted.route.text ≡ None) × (wanted.key ≡ None) × (wanted.route.number ≡ 0)
+
+-- an execute
+abbrev pub IsRunSo : Caller → Prepared → (payload : List ℕ) → Wanted → Type 0
+IsRunSo caller known payload wanted =
+    IsExecute known payload
+    × (wanted ≡ record { route = record (plain_route wanted.route.hostgroup) { multiplex = wanted.route.multiplex }; key = judging.run_key caller known })
+
+abbrev pub IsSentSo : Caller → Standing → Option Prepared → (payload : List ℕ) → Option Class → Wanted → Type 0
+IsSentSo caller standing None payload class wanted = IsOwnSo standing.next_number caller.place payload class wanted
+IsSentSo caller standing (Some known) payload class wanted = IsRunSo caller known payload wanted
+
+abbrev pub IsSo : Caller → Standing → Option Prepared → (payload : List ℕ) → judging.Draft → Type 0
+IsSo caller standing prepared payload judging.Ends = IsNoReset payload
+IsSo caller standing prepared payload (judging.Answers payloads) = Unit {0}
+IsSo caller standing prepared payload (judging.Sends class wanted) = IsSentSo caller standing prepared payload class wanted
 
 -- what the router answers itself, whoever asks
 
@@ -75,9 +97,12 @@ module _ (payload : List ℕ) where
   long-own (Some id) is = part-own id is (number_at 2 5 payload) refl
 
 module _ (rules : List Rule) (caller : Caller) (standing : Standing) where
-  faults : (payload : List ℕ) (byte : ℕ) (why : CommandFault) → IsSo payload (judging.faulty byte why)
-  faults payload byte why = by (has_no_reply byte) refl why where
-    by : (silent : Bool) → has_no_reply byte ≡ silent → (why : CommandFault) → IsSo payload (judging.faulty byte why)
+  abbrev so : Option Prepared → (payload : List ℕ) → judging.Draft → Type 0
+  so prepared payload draft = IsSo caller standing prepared payload draft
+
+  faults : (prepared : Option Prepared) (payload : List ℕ) (byte : ℕ) (why : CommandFault) → so prepared payload (judging.faulty byte why)
+  faults prepared payload byte why = by (has_no_reply byte) refl why where
+    by : (silent : Bool) → has_no_reply byte ≡ silent → (why : CommandFault) → so prepared payload (judging.faulty byte why)
     by silent is (fault.UnknownStatement id) = tt
     by true is fault.Empty = rw is tt
     by true is (fault.Short at) = rw is tt
@@ -87,8 +112,8 @@ module _ (rules : List Rule) (caller : Caller) (standing : Standing) where
     by false is fault.TypesMissing = rw is tt
 
   owns : (payload : List ℕ) (byte : ℕ) (meant : Result Meaning CommandFault) → is_own meant ≡ true
-      → IsSo payload (judging.by_parsed router_reads rules caller standing None byte meant).draft
-  owns payload byte (Err why) own = faults payload byte why
+      → so None payload (judging.by_parsed router_reads rules caller standing None byte meant).draft
+  owns payload byte (Err why) own = faults None payload byte why
   owns payload byte (Ok meaning.Quit) own = absurd (cc)
   owns payload byte (Ok (meaning.InitDb schema)) own = absurd (cc)
   owns payload byte (Ok (meaning.Query text)) own = absurd (cc)
@@ -103,49 +128,60 @@ module _ (rules : List Rule) (caller : Caller) (standing : Standing) where
   owns payload byte (Ok meaning.ResetConnection) own = tt
   owns payload byte (Ok (meaning.Refused code)) own = tt
 
-  -- a query
-
-  classed : (rest : List ℕ) (class : Class) (why : Option Refusal) (wanted : Wanted) (text : List ℕ)
-      → wanted.route.text ≡ Some text → class ≡ class_of text → wanted.key ≡ None → IsSo (com_query ∷ rest) (judging.by_class class why wanted)
-  classed rest class (Some refusal.SetsServer) wanted text is classes keyless = tt
-  classed rest class (Some refusal.NamesConnection) wanted text is classes keyless = tt
-  classed rest class (Some refusal.ReadsLast) wanted text is classes keyless = tt
-  classed rest class None wanted text is classes keyless = by (is_connection_id class.shape) where
-    by : (asks : Bool) → IsSo (com_query ∷ rest) (if asks then judging.answers_one error.names_connection else judging.Sends (Some class) wanted)
+  -- what has a class, and isn't refused for it
+  classed : (prepared : Option Prepared) (payload : List ℕ) (class : Class) (why : Option Refusal) (wanted : Wanted)
+      → IsSentSo caller standing prepared payload (Some class) wanted → so prepared payload (judging.by_class class why wanted)
+  classed prepared payload class (Some refusal.SetsServer) wanted sent = tt
+  classed prepared payload class (Some refusal.NamesConnection) wanted sent = tt
+  classed prepared payload class (Some refusal.ReadsLast) wanted sent = tt
+  classed prepared payload class None wanted sent = by (is_connection_id class.shape) where
+    by : (asks : Bool) → so prepared payload (if asks then judging.answers_one error.names_connection else judging.Sends (Some class) wanted)
     by true = tt
-    by false = (subst (IsSayable (com_query ∷ rest) (Some class)) (sym is) (refl, classes), keyless)
+    by false = sent
 
-  ruled-so : (rest : List ℕ) (routed : Routed) (why : Option Stop) → IsSo (com_query ∷ rest) (judging.ruled router_reads caller standing routed None why)
+  -- a query, and a text to be prepared
+
+  abbrev wanted_by : Routed → (number : Option ℕ) → Wanted
+  wanted_by routed number = judging.prepares_as caller routed number (record {
+    route = record (plain_route (judging.hostgroup_for caller standing (class_of routed.text) routed.hostgroup)) { text = Some routed.text; multiplex = routed.multiplex };
+    key = None;
+  })
+
+  ruled-so : (payload : List ℕ) (routed : Routed) (number : Option ℕ) → IsOwnSo standing.next_number caller.place payload (Some (class_of routed.text)) (wanted_by routed number)
+      → (why : Option Stop) → so None payload (judging.ruled router_reads caller standing routed number why)
   unfolding router_reads
-  ruled-so rest routed None = classed rest (class_of routed.text) (class_of routed.text).refusal _ routed.text refl refl refl
-  ruled-so rest routed (Some (stop.Error text)) = tt
-  ruled-so rest routed (Some (stop.Ok text)) = tt
+  ruled-so payload routed number sent None = classed None payload (class_of routed.text) (class_of routed.text).refusal (wanted_by routed number) sent
+  ruled-so payload routed number sent (Some (stop.Error text)) = tt
+  ruled-so payload routed number sent (Some (stop.Ok text)) = tt
 
-  asked-so : (rest : List ℕ) → IsSo (com_query ∷ rest) (judging.asks router_reads rules caller standing rest).draft
+  asked-so : (rest : List ℕ) → so None (com_query ∷ rest) (judging.asks router_reads rules caller standing rest).draft
   asked-so rest = by (is_connection_id (router_reads.class rest).shape) where
     routed : Routed
     routed = judging.pass_of rules caller rest
 
     by : (asks : Bool)
-        → IsSo (com_query ∷ rest)
+        → so None (com_query ∷ rest)
         (if asks then judging.still caller (judging.connection_id caller standing) else judging.by_pass router_reads caller standing routed None).draft
     by true = tt
-    by false = ruled-so rest routed routed.stop
+    by false = ruled-so (com_query ∷ rest) routed None (refl, refl) routed.stop
 
-  prepared-so : (rest : List ℕ) (next : Option ℕ) → next ≡ None → IsSo (com_prepare ∷ rest) (judging.prepares router_reads rules caller standing rest next).draft
+  prepared-so : (rest : List ℕ) (next : Option ℕ) → standing.next_number ≡ next
+      → so None (com_prepare ∷ rest) (judging.prepares router_reads rules caller standing rest next).draft
   prepared-so rest None none = tt
-  prepared-so rest (Some number) none = absurd (cc)
+  prepared-so rest (Some number) some =
+      let routed : Routed = judging.pass_of rules caller rest in
+      ruled-so (com_prepare ∷ rest) routed (Some number) (refl, refl, some, refl) routed.stop
 
   -- by the message's bytes
-  judged-so : standing.next_number ≡ None → (payload : List ℕ) → IsSo payload (judging.judged router_reads rules caller standing None payload).draft
-  judged-so none [] = tt
-  judged-so none (byte ∷ rest) =
+  own-so : (payload : List ℕ) → so None payload (judging.judged router_reads rules caller standing None payload).draft
+  own-so [] = tt
+  own-so (byte ∷ rest) =
       split byte verdicts.com_quit (λ is. moved is refl)
-      (λ quit. split byte com_init_db (λ is. moved is (inl refl, refl))
+      (λ quit. split byte com_init_db (λ is. moved is (inl refl, refl, refl, refl))
       (λ init. split byte com_query (λ is. moved is (asked-so rest))
-      (λ query. split byte com_field_list (λ is. moved is (inr refl, refl))
+      (λ query. split byte com_field_list (λ is. moved is (inr refl, refl, refl, refl))
       (λ fields. split byte verdicts.com_ping (λ is. moved is tt)
-      (λ ping. split byte com_prepare (λ is. moved is (prepared-so rest standing.next_number none))
+      (λ ping. split byte com_prepare (λ is. moved is (prepared-so rest standing.next_number refl))
       (λ prepare. split byte com_execute (λ is. moved is (owns (com_execute ∷ rest) com_execute _ (execute-own (com_execute ∷ rest) _ refl)))
       (λ execute. split byte com_long_data (λ is. moved is (owns (com_long_data ∷ rest) com_long_data _ (long-own (com_long_data ∷ rest) _ refl)))
       (λ long. split byte com_close (λ is. moved is (owns (com_close ∷ rest) com_close _ (close-own (com_close ∷ rest) _ refl)))
@@ -154,26 +190,62 @@ module _ (rules : List Rule) (caller : Caller) (standing : Standing) where
       (λ fetch. split byte com_reset (λ is. moved is tt)
       (λ reset. rw (quit, init, query, fields, ping, prepare, execute, long, close, resets, fetch, reset) tt))))))))))))
     where
-      moved : {k : ℕ} → byte ≡ k → IsSo (k ∷ rest) (judging.judged router_reads rules caller standing None (k ∷ rest)).draft
-          → IsSo (byte ∷ rest) (judging.judged router_reads rules caller standing None (byte ∷ rest)).draft
-      moved is so = subst (λ b. IsSo (b ∷ rest) (judging.judged router_reads rules caller standing None (b ∷ rest)).draft) (sym is) so
+      moved : {k : ℕ} → byte ≡ k → so None (k ∷ rest) (judging.judged router_reads rules caller standing None (k ∷ rest)).draft
+          → so None (byte ∷ rest) (judging.judged router_reads rules caller standing None (byte ∷ rest)).draft
+      moved is given = subst (λ b. so None (b ∷ rest) (judging.judged router_reads rules caller standing None (b ∷ rest)).draft) (sym is) given
 
--- what has no key has no number
-unnumbered : (caller : Caller) (going : Going) → option_or (prepared_key caller going going.number) (executed_key caller None going.class) ≡ None
-    → going.number ≡ None
-unnumbered caller going keyless = by going.number keyless where
-  by : (number : Option ℕ) → option_or (prepared_key caller going number) (executed_key caller None going.class) ≡ None → number ≡ None
-  by None is = refl
-  by (Some number) is = absurd (let e = is in cc)
+  -- An execute of what its client prepared, or a STMT_RESET.
 
--- and of the draft that code has
-pub drafted-so : (rules : List Rule) (caller : Caller) (standing : Standing) (payload : List ℕ) (found : Judged) → standing.next_number ≡ None
-    → value_of caller None found ≡ judging.judged router_reads rules caller standing None payload → IsDraftOn payload found.draft
-drafted-so rules caller standing payload found none is = by found.draft so where
-  so : IsSo payload (draft_of caller None found.draft)
-  so = subst (IsSo payload) (sym (ap (λ (j : judging.Judged). j.draft) is)) (judged-so rules caller standing none payload)
+  module _ (known : Prepared) (rest : List ℕ) (number : ℕ) where
+    abbrev read_as : Known
+    read_as = record { params = known.params; bound = known.bound }
 
-  by : (draft : Draft) → IsSo payload (draft_of caller None draft) → IsDraftOn payload draft
-  by drafts.Ends so = so
-  by (drafts.Answers told) so = tt
-  by (drafts.Sends going) so = (so.0, unnumbered caller going so.1)
+    abbrev executes : List ℕ
+    executes = com_execute ∷ rest
+
+    abbrev resets : List ℕ
+    resets = com_statement_reset ∷ rest
+
+    run-read : (result : Result Meaning CommandFault) (whole : Bool) → IsRead number result whole → is_whole known executes ≡ whole
+        → so (Some known) executes (judging.by_parsed router_reads rules caller standing (Some known) com_execute result).draft
+    run-read _ _ (Whole types nulls values) is = classed (Some known) executes known.class known.class.refusal _ ((refl, is), refl)
+    run-read _ _ (Faulty why plain) is = faults (Some known) executes com_execute why
+
+    run-so : number_at 4 1 executes ≡ Some number → so (Some known) executes (judging.judged router_reads rules caller standing (Some known) executes).draft
+    run-so at =
+        subst (λ (meant : Result Meaning CommandFault). so (Some known) executes (judging.by_parsed router_reads rules caller standing (Some known) com_execute meant).draft)
+        (sym (numbered-some executes (λ id. of_known id (Some read_as) (execute_by executes id)) number at))
+        (run-read (execute_by executes number read_as) (is_whole known executes) (reads number read_as executes) refl)
+
+    reset-so : number_at 4 1 resets ≡ Some number → so (Some known) resets (judging.judged router_reads rules caller standing (Some known) resets).draft
+    reset-so at =
+        subst (λ (meant : Result Meaning CommandFault). so (Some known) resets (judging.by_parsed router_reads rules caller standing (Some known) com_statement_reset meant).draft)
+        (sym (numbered-some resets (λ id. of_known id (Some read_as) (λ (k : Known). Ok (meaning.ResetStmt id))) number at)) tt
+
+  named-so : (known : Prepared) (number : ℕ) (payload : List ℕ) → number_named payload ≡ Some number
+      → so (Some known) payload (judging.judged router_reads rules caller standing (Some known) payload).draft
+  named-so known number [] named = absurd (let e = named in cc)
+  named-so known number (byte ∷ rest) named =
+      split byte com_execute (λ is. moved com_execute is (run-so known rest number (at com_execute is)))
+      (λ execute. split byte com_statement_reset (λ is. moved com_statement_reset is (reset-so known rest number (at com_statement_reset is)))
+      (λ resets. absurd (let none : None ≡ Some number = rw (execute, resets) at named in cc)))
+    where
+      at : (k : ℕ) → byte ≡ k → number_named (k ∷ rest) ≡ Some number
+      at k is = subst (λ (b : ℕ). number_named (b ∷ rest) ≡ Some number) is named
+
+      moved : (k : ℕ) → byte ≡ k → so (Some known) (k ∷ rest) (judging.judged router_reads rules caller standing (Some known) (k ∷ rest)).draft
+          → so (Some known) (byte ∷ rest) (judging.judged router_reads rules caller standing (Some known) (byte ∷ rest)).draft
+      moved k is given = subst (λ b. so (Some known) (b ∷ rest) (judging.judged router_reads rules caller standing (Some known) (b ∷ rest)).draft) (sym is) given
+
+  has-number : (f : ℕ → Option Prepared) (named : Option ℕ) (known : Prepared) → option_and_then f named ≡ Some known → (number : ℕ) × (named ≡ Some number)
+  has-number f None known is = absurd (let e = is in cc)
+  has-number f (Some number) known is = (number, refl)
+
+  -- by what its client prepared
+  pub judged-so : (f : ℕ → Option Prepared) (payload : List ℕ) (prepared : Option Prepared)
+      → ((known : Prepared) → prepared ≡ Some known → option_and_then f (number_named payload) ≡ Some known)
+      → so prepared payload (judging.judged router_reads rules caller standing prepared payload).draft
+  judged-so f payload None named = own-so payload
+  judged-so f payload (Some known) named =
+      let at = has-number f (number_named payload) known (named known refl) in
+      named-so known at.0 payload at.1

@@ -5,3 +5,7 @@ pub mod Able
 pub mod Ups
 pub mod Turning
 pub mod Partings
+pub mod Prepared
+pub mod Ran
+pub mod Named
+pub mod Keys

@@ -2,11 +2,12 @@
 use Rattle.std.specs.Prelude.{◌≡◌, ℕ, Bool, true, false, nat_eq, if◌then◌else◌, All, IsSome, List, [], ◌∷◌, ◌++◌, Option, Some, None}
 use Rattle.std.specs.Option.{option_map, option_map_or}
 use Rattle.std.proofs.Common.{refl, sym, ap, subst, append_assoc}
-use Rattle.std.proofs.lemmas.List.Elements.{All-append, All-nil, All-push}
+use Rattle.std.proofs.lemmas.List.Elements.{All-append, All-nil, All-push, All-weaker}
 use Rattle.mx_base.specs.declared.names.ClientNo.{ClientNo}
 use Rattle.mx_base.specs.declared.names.LinkId.{LinkId}
 use Rattle.packet_frame.specs.Packets.{Framed}
 use Rattle.core_promises.specs.Judges.{Rulebook}
+use Rattle.core_promises.specs.Ruled.{Ruling}
 use Rattle.server_side.specs.Account.{Account}
 use Rattle.handshake.specs.declared.response.Response.{Response}
 use Rattle.client_session.specs.Accounts.{account_of}
@@ -29,13 +30,19 @@ use Rattle.core_tables.specs.Parting.{kept_at, left_in, left_row, parted_in, wit
 use Rattle.core_tables.specs.Tables.{IsSame, Tabled, client_put, tables_of}
 use Rattle.core_tables.specs.Taking.{IsUpOr}
 use Rattle.core_tables.specs.declared.client.Client.{Client}
-use Rattle.core_laws.specs.clients.Turns.{Choice, EndsThere, Halt, QuitsThere}
+use Rattle.core_laws.specs.clients.Found.{desk_up}
+use Rattle.core_laws.specs.clients.Turns.{Answers, Choice, EndsThere, Goes, Halt, QuitsThere}
+use Rattle.router_promises.specs.Verdicts.{Tells}
+use Rattle.core_texts.specs.Texts.{AreMore, key_at}
+use Rattle.core_texts.specs.declared.texts.Texts.{Texts}
 use Rattle.marked_tables.specs.Goes.{GoesOn}
 use Rattle.marked_tables.specs.declared.marked.MarkedTables.{MarkedTables}
 use Rattle.marked_tables.proofs.Going.{goes_along, still_goes}
-use Rattle.core_turns.specs.Turned.{HasChosen, HasGone, IsSaid, IsToEnd, IsToQuit, MayLeaveBy, RuledTurns, StopsSo, TurnsUntil, halt_of, is_away}
+use Rattle.core_turns.specs.Turned.{HasChosen, HasGone, IsRuledTurn, IsSaid, IsToEnd, IsToQuit, MayLeaveBy, RuledTurns, StopsSo, TurnsUntil, halt_of, is_away}
 use Rattle.core_turns.specs.declared.turn.Stop.{Stop}
 use Rattle.core_turns.specs.declared.turn.Stop.TheVariants as stops
+use Rattle.core_turns.specs.Taken.{Keys}
+use Rattle.core_turns.proofs.Keys.{HasKeys, keys_along, keys_of, more_along, more_routed, more_said, more_verdict, same_texts}
 use Rattle.core_turns.proofs.Turning.{both-same, chosen-some, not-away, seated-there}
 
 -- Who is told at a look that it ends has ended.
@@ -164,11 +171,11 @@ LeavesBy stops.Rests c now new = IsSame new now
 LeavesBy stops.Ends c now new = IsSame new (left_in c ended now)
 LeavesBy (stops.Quits flag) c now new = leaving.Quits flag c now new
 
-module _ (book : Rulebook) (service : Service) (default : List ℕ) (c : ClientNo) where
+module _ (ruling : Ruling) (service : Service) (default : List ℕ) (c : ClientNo) where
   pub leaves-so : (stop : Stop) (choices : List Choice) (old now new : Tabled) → LeavesBy stop c now new
-      → TurnsUntil book choices (halt_of stop) service default c old now → RuledTurns book choices (halt_of stop) service default c old new
+      → TurnsUntil ruling choices (halt_of stop) service default c old now → RuledTurns ruling choices (halt_of stop) service default c old new
   leaves-so stop (choice ∷ others) old now new leaves is =
-      let rest : RuledTurns book others (halt_of stop) service default c is.0 new = leaves-so stop others is.0 now new leaves is.2 in
+      let rest : RuledTurns ruling others (halt_of stop) service default c is.0 new = leaves-so stop others is.0 now new leaves is.2 in
       ((is.0, is.1.0, rest.0), (is.1.1, rest.1))
   leaves-so stops.Waits [] old now new leaves is = (record { row = is.row; there = is.there; waits = is.waits; same = both-same leaves is.same }, tt)
   leaves-so stops.Rests [] old now new leaves is = (record { row = is.row; looks = is.looks; same = both-same leaves is.same }, tt)
@@ -176,7 +183,7 @@ module _ (book : Rulebook) (service : Service) (default : List ℕ) (c : ClientN
   leaves-so (stops.Quits flag) [] old now new leaves is = (quits-so service default c flag old now new is leaves, tt)
 
   -- a message is up where it quits
-  pub may-leave : (stop : Stop) (choices : List Choice) (old now : Tabled) → TurnsUntil book choices (halt_of stop) service default c old now
+  pub may-leave : (stop : Stop) (choices : List Choice) (old now : Tabled) → TurnsUntil ruling choices (halt_of stop) service default c old now
       → MayLeaveBy stop (now.clients c)
   may-leave stop (choice ∷ others) old now is = may-leave stop others is.0 now is.2
   may-leave stops.Waits [] old now is = tt
@@ -186,58 +193,81 @@ module _ (book : Rulebook) (service : Service) (default : List ℕ) (c : ClientN
       subst IsUpOr (sym (seated-there service default c old now is.up.row is.up.looks.there is.up.same))
       (record { found = subst (λ (o : Option Framed). IsSome o) (sym is.up.found) refl; past_login = is.past_login })
 
--- Turns that are behind a client, whatever comes behind them.
-pub record HasTurned (book : Rulebook) (service : Service) (default : List ℕ) (c : ClientNo) (old now : Tabled) : Type 0 where
+abbrev pub by : Rulebook → Keys → Ruling
+by book keys = record { book = book; keys = keys }
+
+-- Turns that are behind a client, whatever comes behind them, and whatever keys there are more by then.
+pub record HasTurned (book : Rulebook) (keys : Keys) (service : Service) (default : List ℕ) (c : ClientNo) (old now : Tabled) : Type 0 where
   pub choices : List Choice
-  pub said : All (IsSaid book.rules c) choices
-  pub onward : (others : List Choice) (halt : Halt) (new : Tabled) → TurnsUntil book others halt service default c now new
-      → TurnsUntil book (choices ++ others) halt service default c old new
+  pub said : All (IsSaid (by book keys) c) choices
+  pub onward : (later : Keys) → HasKeys keys later → (others : List Choice) (halt : Halt) (new : Tabled)
+      → TurnsUntil (by book later) others halt service default c now new → TurnsUntil (by book later) (choices ++ others) halt service default c old new
 
 -- The loop's invariant, and what stands behind it.
 
-pub record IsGoing (book : Rulebook) (service : Service) (default : List ℕ) (c : ClientNo) (old now : MarkedTables) : Type 0 where
-  pub turned : HasTurned book service default c (tables_of old.tables) (tables_of now.tables)
+pub record IsGoing (book : Rulebook) (first texts : Texts) (service : Service) (default : List ℕ) (c : ClientNo) (old now : MarkedTables) : Type 0 where
+  pub turned : HasTurned book (key_at texts) service default c (tables_of old.tables) (tables_of now.tables)
   pub there : IsSome ((tables_of now.tables).clients c)
   pub goes : GoesOn old now
+  pub more : AreMore first texts
+
+-- a turn that was made stands by more keys
+more-turn : (book : Rulebook) (keys later : Keys) → HasKeys keys later → (choice : Choice) (service : Service) (default : List ℕ) (c : ClientNo) (old new : Tabled)
+    → IsRuledTurn (by book keys) choice service default c old new → IsRuledTurn (by book later) choice service default c old new
+more-turn book keys later has (Goes route keyed) service default c old new is =
+    (is.0, more_routed keys later has book (desk_up service default is.0.up.row) c is.0.up.message.payload route is.1)
+more-turn book keys later has (Answers payloads) service default c old new is =
+    (is.0, more_verdict keys later has book (desk_up service default is.0.up.row) c is.0.up.message.payload (Tells payloads) is.1)
 
 module _ (book : Rulebook) (service : Service) (default : List ℕ) (c : ClientNo) where
-  none-turned : (old : Tabled) → HasTurned book service default c old old
-  none-turned old = record { choices = []; said = All-nil (IsSaid book.rules c); onward = λ others halt new is. is }
+  none-turned : (keys : Keys) (old : Tabled) → HasTurned book keys service default c old old
+  none-turned keys old = record { choices = []; said = All-nil (IsSaid (by book keys) c); onward = λ later has others halt new is. is }
 
-  one-more : (old now later : Tabled) → HasTurned book service default c old now → HasChosen book service default c now later
-      → HasTurned book service default c old later
-  one-more old now later turned chosen = record {
+  one-more : (keys more : Keys) → HasKeys keys more → (old now later : Tabled) → HasTurned book keys service default c old now
+      → HasChosen (by book more) service default c now later → HasTurned book more service default c old later
+  one-more keys more has old now later turned chosen = record {
     choices = turned.choices ++ chosen.choice ∷ [];
-    said = All-push (IsSaid book.rules c) turned.choices chosen.choice turned.said chosen.said;
-    onward = λ others halt new is.
-        subst (λ (all : List Choice). TurnsUntil book all halt service default c old new) (sym (append_assoc turned.choices (chosen.choice ∷ []) others))
-        (turned.onward (chosen.choice ∷ others) halt new (later, chosen.turns, is));
+    said = All-push (IsSaid (by book more) c) turned.choices chosen.choice
+        (All-weaker (IsSaid (by book keys) c) (IsSaid (by book more) c) (λ choice said. more_said keys more has book c choice said) turned.choices turned.said) chosen.said;
+    onward = λ last lasts others halt new is.
+        subst (λ (all : List Choice). TurnsUntil (by book last) all halt service default c old new) (sym (append_assoc turned.choices (chosen.choice ∷ []) others))
+        (turned.onward last (keys_along keys more last has lasts) (chosen.choice ∷ others) halt new
+        (later, more-turn book more last lasts chosen.choice service default c now later chosen.turns, is));
   }
 
-  pub begins : (m : MarkedTables) → is_away ((tables_of m.tables).clients c) ≡ false → IsGoing book service default c m m
-  begins m going = record {
-    turned = none-turned (tables_of m.tables);
+  pub begins : (texts : Texts) (m : MarkedTables) → is_away ((tables_of m.tables).clients c) ≡ false → IsGoing book texts texts service default c m m
+  begins texts m going = record {
+    turned = none-turned (key_at texts) (tables_of m.tables);
     there = not-away ((tables_of m.tables).clients c) going;
     goes = still_goes m;
+    more = same_texts texts;
   }
 
-  pub goes-on : (old now later : MarkedTables) → IsGoing book service default c old now
-      → HasChosen book service default c (tables_of now.tables) (tables_of later.tables) → GoesOn now later → IsGoing book service default c old later
-  goes-on old now later going chosen goes = record {
-    turned = one-more (tables_of old.tables) (tables_of now.tables) (tables_of later.tables) going.turned chosen;
-    there = chosen-some book service default c (tables_of now.tables) (tables_of later.tables) chosen;
+  pub goes-on : (first texts more : Texts) (old now later : MarkedTables) → IsGoing book first texts service default c old now
+      → HasChosen (by book (key_at more)) service default c (tables_of now.tables) (tables_of later.tables) → GoesOn now later → AreMore texts more
+      → IsGoing book first more service default c old later
+  goes-on first texts more old now later going chosen goes comes = record {
+    turned = one-more (key_at texts) (key_at more) (keys_of texts more comes) (tables_of old.tables) (tables_of now.tables) (tables_of later.tables) going.turned chosen;
+    there = chosen-some (by book (key_at more)) service default c (tables_of now.tables) (tables_of later.tables) chosen;
     goes = goes_along old now later going.goes goes;
+    more = more_along first texts more going.more comes;
   }
 
-  pub gone-so : (stop : Stop) (old now new : MarkedTables) → is_away ((tables_of old.tables).clients c) ≡ false → IsGoing book service default c old now
+  pub gone-so : (stop : Stop) (first texts more : Texts) (old now new : MarkedTables) → is_away ((tables_of old.tables).clients c) ≡ false
+      → IsGoing book first texts service default c old now → AreMore texts more
       → StopsSo (halt_of stop) service default c (tables_of now.tables) (tables_of new.tables)
-      → HasGone TurnsUntil stop book service default c (tables_of old.tables) (tables_of new.tables)
-  gone-so stop old now new present going is = record {
-    going = present;
-    choices = going.turned.choices ++ [];
-    said = All-append (IsSaid book.rules c) going.turned.choices [] going.turned.said (All-nil (IsSaid book.rules c));
-    turned = going.turned.onward [] (halt_of stop) (tables_of new.tables) is;
-  }
+      → HasGone TurnsUntil stop (by book (key_at more)) service default c (tables_of old.tables) (tables_of new.tables)
+  gone-so stop first texts more old now new present going comes is =
+      let has : HasKeys (key_at texts) (key_at more) = keys_of texts more comes in
+      let said : All (IsSaid (by book (key_at more)) c) going.turned.choices =
+      All-weaker (IsSaid (by book (key_at texts)) c) (IsSaid (by book (key_at more)) c) (λ choice said. more_said (key_at texts) (key_at more) has book c choice said)
+      going.turned.choices going.turned.said in
+      record {
+        going = present;
+        choices = going.turned.choices ++ [];
+        said = All-append (IsSaid (by book (key_at more)) c) going.turned.choices [] said (All-nil (IsSaid (by book (key_at more)) c));
+        turned = going.turned.onward (key_at more) has [] (halt_of stop) (tables_of new.tables) is;
+      }
 
-  pub gone-leaves : (stop : Stop) (old new : Tabled) → HasGone TurnsUntil stop book service default c old new → MayLeaveBy stop (new.clients c)
-  gone-leaves stop old new gone = may-leave book service default c stop gone.choices old new gone.turned
+  pub gone-leaves : (keys : Keys) (stop : Stop) (old new : Tabled) → HasGone TurnsUntil stop (by book keys) service default c old new → MayLeaveBy stop (new.clients c)
+  gone-leaves keys stop old new gone = may-leave (by book keys) service default c stop gone.choices old new gone.turned

@@ -5,7 +5,7 @@ use Rattle.std.proofs.Common.{refl, sym, ap, subst, ◌∙◌}
 use Rattle.mx_base.specs.declared.names.ClientNo.{ClientNo}
 use Rattle.mx_base.specs.declared.names.Hostgroup.{Hostgroup}
 use Rattle.packet_frame.specs.Packets.{Framed}
-use Rattle.core_promises.specs.Judges.{Rulebook}
+use Rattle.core_promises.specs.Ruled.{Ruling}
 use Rattle.private_model.proofs.Maps.{same_number}
 use Rattle.client_session.specs.Setups.{Setup as Service}
 use Rattle.client_side.specs.declared.stage.Stage.TheVariants.{Commands}
@@ -76,9 +76,9 @@ module _ (service : Service) (default : List ℕ) (c : ClientNo) (old between : 
   makes-so true flag packets statements new lives is = (lives, is)
   makes-so false flag packets statements new lives is = is
 
-  module _ (book : Rulebook) (ordinal : ℕ) (message : Framed) (able : IsLookable false row) (looks : IsLookedAt service default c old row (next.Message ordinal))
+  module _ (ruling : Ruling) (ordinal : ℕ) (message : Framed) (able : IsLookable false row) (looks : IsLookedAt service default c old row (next.Message ordinal))
       (found : found_of after ≡ Some message) (past : (turn service default row.desk.seat).client.stage ≡ Commands) (new : Tabled) where
-    taken-up : (turned : Turn) → IsTakenUp turned ordinal book c after message between new → IsTurned turned book service default c old new
+    taken-up : (turned : Turn) → IsTakenUp turned ordinal ruling c after message between new → IsTurned turned ruling service default c old new
     taken-up (turns.Stops (stops.Quits flag)) is = record {
       up = record { row = row; ordinal = ordinal; looks = looks; same = both-same is.same same; message = message; found = found };
       past_login = past;
@@ -107,6 +107,7 @@ module _ (service : Service) (default : List ℕ) (c : ClientNo) (old between : 
     )
     taken-up (turns.Due hostgroup) is = record {
       route = is.route;
+      keyed = is.keyed;
       goes = record {
         between = between;
         up = comes-up ordinal message looks found;
@@ -116,14 +117,16 @@ module _ (service : Service) (default : List ℕ) (c : ClientNo) (old between : 
         statements = is.statements;
         asked = is.asked;
         request = is.request;
-        kind = is.kind;
         hostgroup = is.at;
-        unnumbered = is.unnumbered;
+        numbered = is.numbered;
+        keyed_for = is.keyed_for;
+        whole = is.whole;
         noted = is.noted;
         same = is.same;
       };
       there = is.there;
       single = is.single;
+      under = is.under;
       ruled = is.ruled;
     }
 
@@ -134,22 +137,22 @@ module _ (service : Service) (default : List ℕ) (c : ClientNo) (old between : 
   ends-there able is = record { row = row; looks = looks-at next.Ended able is; lives = able.able.lives; same = same }
 
   -- the message that is up is taken up
-  pub taken-next : (book : Rulebook) (ordinal : ℕ) (turned : Turn) (new : Tabled) → IsLookable false row → next.Message ordinal ≡ next_of service default (old.clients c)
+  pub taken-next : (ruling : Ruling) (ordinal : ℕ) (turned : Turn) (new : Tabled) → IsLookable false row → next.Message ordinal ≡ next_of service default (old.clients c)
       → IsUpIn (next.Message ordinal) (between.clients c)
-      → OnUp c between (λ up message. IsTakenUp turned ordinal book c up message between new) → IsTurned turned book service default c old new
-  taken-next book ordinal turned new able is up taken = by (found_of after) refl where
+      → OnUp c between (λ up message. IsTakenUp turned ordinal ruling c up message between new) → IsTurned turned ruling service default c old new
+  taken-next ruling ordinal turned new able is up taken = by (found_of after) refl where
     seat : Seat
     seat = turn service default row.desk.seat
 
     ups : IsUp (next.Message ordinal) seat
     ups = subst (IsUpIn (next.Message ordinal)) seated-there up
 
-    by : (found : Option Framed) → found_of after ≡ found → IsTurned turned book service default c old new
+    by : (found : Option Framed) → found_of after ≡ found → IsTurned turned ruling service default c old new
     by None none =
         let no : false ≡ true = subst (λ (o : Option Framed). IsSome o) none ups.0 in
         absurd (cc)
     by (Some message) found =
-        taken-up book ordinal message able (looks-at (next.Message ordinal) able is) found ups.1 new turned (taken after seated-there message found)
+        taken-up ruling ordinal message able (looks-at (next.Message ordinal) able is) found ups.1 new turned (taken after seated-there message found)
 
 -- a message is up there
 pub up-there : (ordinal : ℕ) (found : Option Client) → IsSome found → IsUpIn (next.Message ordinal) found → IsUpOr found
@@ -194,19 +197,18 @@ answered-some false c flag packets statements row between new makes some = some-
 
 pub turn-some : (choice : Choice) (service : Service) (default : List ℕ) (c : ClientNo) (old new : Tabled) → IsTurn choice service default c old new
     → IsSome (new.clients c)
-turn-some (Goes route) service default c old new is = some-changed c _ is.between new is.same (up-some is.up)
+turn-some (Goes route keyed) service default c old new is = some-changed c _ is.between new is.same (up-some is.up)
 turn-some (Answers payloads) service default c old new is =
     answered-some (is_reset is.up.message) c is.flag is.packets is.statements is.up.row is.between new is.makes (up-some is.up)
 
 -- a choice by what code says of it
 
-pub answered-choice : (book : Rulebook) (service : Service) (default : List ℕ) (c : ClientNo) (old new : Tabled) → IsTurned turns.Answered book service default c old new
-    → HasChosen book service default c old new
-answered-choice book service default c old new is = record { choice = Answers is.0; said = is.1; turns = is.2 }
+module _ (ruling : Ruling) (service : Service) (default : List ℕ) (c : ClientNo) (old new : Tabled) where
+  pub answered-choice : IsTurned turns.Answered ruling service default c old new → HasChosen ruling service default c old new
+  answered-choice is = record { choice = Answers is.0; said = is.1; turns = is.2 }
 
-pub due-choice : (hostgroup : Hostgroup) (book : Rulebook) (service : Service) (default : List ℕ) (c : ClientNo) (old new : Tabled) → IsTurned (turns.Due hostgroup) book service default c old new
-    → HasChosen book service default c old new
-due-choice hostgroup book service default c old new is = record { choice = Goes is.route; said = is.single; turns = (is.goes, is.ruled) }
+  pub due-choice : (hostgroup : Hostgroup) → IsTurned (turns.Due hostgroup) ruling service default c old new → HasChosen ruling service default c old new
+  due-choice hostgroup is = record { choice = Goes is.route is.keyed; said = (is.single, is.under); turns = (is.goes, is.ruled) }
 
-pub chosen-some : (book : Rulebook) (service : Service) (default : List ℕ) (c : ClientNo) (old new : Tabled) → HasChosen book service default c old new → IsSome (new.clients c)
-chosen-some book service default c old new is = turn-some is.choice service default c old new is.turns.0
+  pub chosen-some : HasChosen ruling service default c old new → IsSome (new.clients c)
+  chosen-some is = turn-some is.choice service default c old new is.turns.0

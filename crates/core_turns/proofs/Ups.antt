@@ -1,7 +1,9 @@
 -- A message that came up, by the row of its client.
-use Rattle.std.specs.Prelude.{◌≡◌, ℕ, Bool, true, false, nat_eq, slice_index_or, IfSome, List, Option, Some, None, if◌then◌else◌}
+use Rattle.std.specs.Prelude.{◌≡◌, ℕ, Bool, true, false, nat_eq, slice_index_or, IfSome, IsSome, List, [], Option, Some, None, if◌then◌else◌}
 use Rattle.std.specs.Option.{option_and_then, option_map, option_map_or}
 use Rattle.std.proofs.Common.{refl, sym, ap, subst, ◌∙◌}
+use Rattle.std.proofs.lemmas.List.Elements.{All-nil}
+use Rattle.std.proofs.lemmas.Option.{none-some}
 use Rattle.mx_base.specs.Fields.{number_at}
 use Rattle.mx_base.specs.declared.names.ClientNo.{ClientNo}
 use Rattle.mx_base.specs.declared.names.Hostgroup.{Hostgroup}
@@ -12,25 +14,26 @@ use Rattle.private_model.specs.Commands.{Command, is_marked}
 use Rattle.log_story.specs.Plan.{com_execute, text_payload}
 use Rattle.link_state.specs.Asks.{marks}
 use Rattle.link_state.specs.declared.asking.Form.{Form}
-use Rattle.link_state.specs.declared.wish.Command.TheVariants.{Plain}
+use Rattle.link_state.specs.declared.wish.Command.TheVariants.{Plain, Prepare}
 use Rattle.link_laws.specs.Stands.{IsForm}
 use Rattle.desk_laws.specs.Stands.{is_text, kind_of}
 use Rattle.row_laws.specs.Readied.{AreClasses}
 use Rattle.client_seat.specs.Numbers.{Numbered, number_in}
-use Rattle.client_seat.specs.Requests.{Asked, Runs, Says, args_by, asked_in, run_in, text_in}
+use Rattle.client_seat.specs.Requests.{Asked, Runs, Says, args_by, asked_in, request_of, run_in, text_in}
 use Rattle.stmt_map.specs.declared.client.ClientStatements.{ClientStatements}
 use Rattle.private_model.proofs.Maps.{same_number}
 use Rattle.client_seat.specs.declared.seat.Seat.{Seat}
 use Rattle.core_tables.specs.Parting.{left_in, left_row, parted_in}
 use Rattle.core_tables.specs.Tables.{IsSame, Tabled, client_put}
-use Rattle.core_tables.specs.Taking.{AreNotedIn, IsDue, asked_of, found_of, text_work}
+use Rattle.core_tables.specs.Taking.{AreNotedIn, IsDue, IsUpOr, found_of, text_work}
 use Rattle.core_tables.specs.declared.client.Client.{Client}
 use Rattle.router_promises.specs.Verdicts.{Tells}
-use Rattle.core_promises.specs.Judges.{IsVerdictFor, Rulebook, goes_by}
-use Rattle.core_promises.specs.Ruled.{situation_at}
-use Rattle.core_turns.specs.Judged.{IsSendable, route_by}
-use Rattle.core_turns.specs.Taken.{IsAnswered, IsDueThere, OnUp, answered_so}
-use Rattle.core_laws.proofs.OfTaking.Joining.{noted_there}
+use Rattle.core_promises.specs.Judges.{IsRoutedFor, IsVerdictFor, Rulebook}
+use Rattle.core_promises.specs.Ruled.{Ruling, situation_at}
+use Rattle.core_turns.specs.Judged.{IsSendable, goes_with, route_by}
+use Rattle.core_turns.specs.Taken.{IsAnswered, IsDueThere, Keys, OnUp, answered_so}
+use Rattle.core_laws.proofs.OfTaking.Joining.{keyed_so, noted_there, whole_so}
+use Rattle.core_laws.specs.clients.Turns.{Keyed}
 
 -- the row is the one that is there
 pub on-up : (t : Tabled) (c : ClientNo) (row : Client) (fact : Client → Framed → Type 0) → t.clients c ≡ Some row
@@ -39,6 +42,17 @@ on-up t c row fact there given = λ other at message found.
     let some : Some row ≡ Some other = sym there ∙ at in
     let same : row ≡ other = cc in
     subst (λ (r : Client). fact r message) same (given message (ap found_of same ∙ found))
+
+-- what doesn't speak of them is so
+pub up-fact : (t : Tabled) (c : ClientNo) (fact : Type 0) → IsUpOr (t.clients c) → OnUp c t (λ row message. fact) → fact
+up-fact t c fact up on = by (t.clients c) refl up where
+  found : (row : Client) (message : Option Framed) → t.clients c ≡ Some row → found_of row ≡ message → IsSome message → fact
+  found row None there at some = absurd (let no : false ≡ true = some in cc)
+  found row (Some message) there at some = on row there message at
+
+  by : (row : Option Client) → t.clients c ≡ row → IsUpOr row → fact
+  by None there is = absurd is
+  by (Some row) there is = found row (found_of row) there refl is.found
 
 pub payload-at : (payload : List ℕ) (found : Option Framed) (message : Framed) → found ≡ Some message
     → IfSome found (λ (m : Framed). payload ≡ m.payload) → payload ≡ message.payload
@@ -62,12 +76,12 @@ left-noted refused c t statements noted = by (t.clients c) refl where
   by (Some row) at = subst (λ (o : Option Client). AreNotedIn refused o statements) (left-there c t row at) noted
 
 -- The router answers it.
-pub answer-so : (anew : Bool) (book : Rulebook) (c : ClientNo) (flag : ℕ) (said packets : List ℕ) (statements : ClientStatements) (payloads : List (List ℕ)) (old new : Tabled)
-    → IsAnswer book.rules c payloads → OnUp c old (λ row message. packets ≡ spellings row.desk.seat.first payloads) → said ≡ packets
+pub answer-so : (anew : Bool) (ruling : Ruling) (c : ClientNo) (flag : ℕ) (said packets : List ℕ) (statements : ClientStatements) (payloads : List (List ℕ)) (old new : Tabled)
+    → IsAnswer ruling.book.rules c payloads → OnUp c old (λ row message. packets ≡ spellings row.desk.seat.first payloads) → said ≡ packets
     → OnUp c old (λ row message. anew ≡ nat_eq (slice_index_or message.payload 0 0) 0x1F)
     → AreNotedIn true (old.clients c) statements → IsSame new (answered_so anew c flag said statements old)
-    → OnUp c old (λ row message. IsVerdictFor book (situation_at row.desk) c message.payload (Tells payloads) → IsAnswered book c row message old new)
-answer-so anew book c flag said packets statements payloads old new own spelt same is noted made = λ row there message found ruled. record {
+    → OnUp c old (λ row message. IsVerdictFor ruling.book (situation_at ruling.keys row.desk) c message.payload (Tells payloads) → IsAnswered ruling c row message old new)
+answer-so anew ruling c flag said packets statements payloads old new own spelt same is noted made = λ row there message found ruled. record {
   payloads = payloads;
   own = own;
   ruled = ruled;
@@ -88,7 +102,7 @@ no-run (Some one) f command none is =
     let same : f one ≡ Says command = cc in
     none one same
 
-said-in : (statements : ClientStatements) (payload : List ℕ) (text : Option (List ℕ)) (command : Command)
+pub said-in : (statements : ClientStatements) (payload : List ℕ) (text : Option (List ℕ)) (command : Command)
     → asked_in statements payload text ≡ Some (Says command) → text_in payload text ≡ Some (Says command)
 said-in statements payload text command is = by (nat_eq (slice_index_or payload 0 0) com_execute) refl where
   by : (execute : Bool) → nat_eq (slice_index_or payload 0 0) com_execute ≡ execute → text_in payload text ≡ Some (Says command)
@@ -99,12 +113,6 @@ said-in statements payload text command is = by (nat_eq (slice_index_or payload 
       (λ one e. let f = e in cc) run)
   by false at = subst (λ (b : Bool). (if b then run_in statements payload else text_in payload text) ≡ Some (Says command)) at is
 
-asked-there : (row : Client) (message : Framed) (text : Option (List ℕ)) (command : Command) → found_of row ≡ Some message
-    → asked_of row text ≡ Some (Says command) → text_in message.payload text ≡ Some (Says command)
-asked-there row message text command found is =
-    said-in row.desk.seat.statements message.payload text command
-    (subst (λ (o : Option Framed). option_and_then (λ (m : Framed). asked_in row.desk.seat.statements m.payload text) o ≡ Some (Says command)) found is)
-
 -- by its command
 record IsSendsAs (form : Form) (command : Command) : Type 0 where
   kind : kind_of command ≡ Plain
@@ -112,17 +120,30 @@ record IsSendsAs (form : Form) (command : Command) : Type 0 where
   formed : (reads : Reads) → AreClasses reads → IsForm reads form command
   marked : (reads : Reads) → AreClasses reads → is_marked reads command ≡ marks form
 
-pub due-there : (book : Rulebook) (hostgroup : Hostgroup) (ordinal flag since : ℕ) (text : Option (List ℕ)) (multiplex : Option Bool) (form : Form) (c : ClientNo) (old new : Tabled)
+-- it is routed so where nothing is to stand under its key
+unkeyed : (book : Rulebook) (keys : Keys) (row : Client) (c : ClientNo) (payload : List ℕ) (hostgroup : Hostgroup) (text : Option (List ℕ)) (multiplex : Option Bool)
+    → IsVerdictFor book (situation_at keys row.desk) c payload (goes_with (route_by hostgroup text multiplex) None)
+    → IsRoutedFor book (situation_at keys row.desk) keys c payload (route_by hostgroup text multiplex)
+unkeyed book keys row c payload hostgroup text multiplex ruled = record {
+  wanted = record { route = route_by hostgroup text multiplex; key = None };
+  routed = refl;
+  keyed = λ key is. absurd (none-some key is);
+  is = ruled;
+}
+
+pub due-there : (ruling : Ruling) (hostgroup : Hostgroup) (ordinal flag since : ℕ) (text : Option (List ℕ)) (multiplex : Option Bool) (form : Form) (c : ClientNo) (old new : Tabled)
     → OnUp c old (λ row message. IsSendable message.payload text form)
     → IsDue flag text (text_work ordinal hostgroup since multiplex form) c old new
-    → OnUp c old (λ row message. IsVerdictFor book (situation_at row.desk) c message.payload (goes_by (route_by hostgroup text multiplex))
-    → IsDueThere hostgroup ordinal book c row message old new)
-due-there book hostgroup ordinal flag since text multiplex form c old new sendable due =
-    on-up old c due.row (λ row message. IsVerdictFor book (situation_at row.desk) c message.payload (goes_by (route_by hostgroup text multiplex))
-    → IsDueThere hostgroup ordinal book c row message old new) due.there
+    → OnUp c old (λ row message. IsVerdictFor ruling.book (situation_at ruling.keys row.desk) c message.payload (goes_with (route_by hostgroup text multiplex) None)
+    → IsDueThere hostgroup ordinal ruling c row message old new)
+due-there ruling hostgroup ordinal flag since text multiplex form c old new sendable due =
+    on-up old c due.row (λ row message. IsVerdictFor ruling.book (situation_at ruling.keys row.desk) c message.payload (goes_with (route_by hostgroup text multiplex) None)
+    → IsDueThere hostgroup ordinal ruling c row message old new) due.there
     (λ message found ruled.
     let sends : IsSendable message.payload text form = sendable due.row due.there message found in
-    let asked : text_in message.payload text ≡ Some (Says due.command) = asked-there due.row message text due.command found due.asked in
+    let asks : asked_in due.row.desk.seat.statements message.payload text ≡ Some (Says due.command) =
+    subst (λ (o : Option Framed). option_and_then (λ (m : Framed). asked_in due.row.desk.seat.statements m.payload text) o ≡ Some (Says due.command)) found due.asked in
+    let asked : text_in message.payload text ≡ Some (Says due.command) = said-in due.row.desk.seat.statements message.payload text due.command asks in
     let some : Some (Says sends.command) ≡ Some (Says due.command) = sym sends.asks ∙ asked in
     let says : Says sends.command ≡ Says due.command = cc in
     let same : sends.command ≡ due.command = cc in
@@ -130,14 +151,16 @@ due-there book hostgroup ordinal flag since text multiplex form c old new sendab
     subst (IsSendsAs form) same (record { kind = sends.kind; says = sends.says; formed = sends.formed; marked = sends.marked }) in
     record {
       route = route_by hostgroup text multiplex;
+      keyed = [];
       there = refl;
       single = refl;
-      ruled = ruled;
+      under = All-nil (λ (one : Keyed). ruling.keys one.number ≡ Some one.key);
+      ruled = unkeyed ruling.book ruling.keys due.row c message.payload hostgroup text multiplex ruled;
       flag = flag;
       command = due.command;
       work = text_work ordinal hostgroup since multiplex form (spelling 0 (text_payload due.command));
       statements = due.taken.statements;
-      asked = asked;
+      asked = λ setup keyed. ap (option_map (request_of setup due.row.desk.seat.place.schema 0 (λ (key : ℕ). key))) asks;
       request = λ reads classes. record {
         ordinal_is = refl;
         key_is = refl;
@@ -147,9 +170,10 @@ due-there book hostgroup ordinal flag since text multiplex form c old new sendab
         form = at.formed reads classes;
         body = (at.says, refl);
       };
-      kind = refl;
       at = refl;
-      unnumbered = refl;
+      numbered = λ prepares. (let no : Plain ≡ Prepare = prepares in absurd (cc));
+      keyed_for = λ setup keyed story_due key place. keyed_so setup (route_by hostgroup text multiplex) story_due due.command at.kind refl;
+      whole = λ bound. whole_so due.command at.kind;
       noted = noted_there false old c due.row message due.taken.statements due.there found due.taken.noted;
       same = due.taken.same;
     })

@@ -1,3 +1,4 @@
 pub mod Turned
 pub mod Judged
 pub mod Taken
+pub mod Preparing

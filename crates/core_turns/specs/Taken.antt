@@ -1,30 +1,41 @@
 -- What code makes of the tables with a message that came up.
-use Rattle.std.specs.Prelude.{◌≡◌, ℕ, Bool, true, false, List, None, Some}
+use Rattle.std.specs.Prelude.{◌≡◌, ℕ, Bool, true, false, All, List, Option, None, Some}
 use Rattle.mx_base.specs.declared.names.ClientNo.{ClientNo}
 use Rattle.mx_base.specs.declared.names.Hostgroup.{Hostgroup}
 use Rattle.packet_frame.specs.Packets.{Framed, spellings}
 use Rattle.own_words.specs.Own.{IsAnswer}
 use Rattle.server_rule.specs.Classes.{Reads}
 use Rattle.private_model.specs.Commands.{Command}
+use Rattle.private_model.specs.Story.{Due, Key}
+use Rattle.private_model.specs.View.{Setup}
+use Rattle.run_laws.specs.Reads.{HasArgs}
 use Rattle.log_story.specs.Plan.{Route}
-use Rattle.link_state.specs.declared.wish.Command.TheVariants.{Plain}
-use Rattle.client_seat.specs.Requests.{Says, text_in}
 use Rattle.client_desk.specs.declared.work.Work.{Work}
 use Rattle.stmt_map.specs.declared.client.ClientStatements.{ClientStatements}
 use Rattle.desk_laws.specs.Stands.{IsRequest}
 use Rattle.row_laws.specs.Readied.{AreClasses}
-use Rattle.core_laws.specs.taking.Takes.{is_reset}
+use Rattle.core_stands.specs.Stands.{IsKeyedFor}
+use Rattle.core_laws.specs.clients.Turns.{AreBoundSo, AreKeyed, Keyed, asked_by}
+use Rattle.core_laws.specs.taking.Takes.{IsNumberedAs, is_reset}
 use Rattle.core_tables.specs.Tables.{IsSame, Tabled, client_changed}
 use Rattle.core_tables.specs.Taking.{answers, begins_anew, found_of, goes}
 use Rattle.core_tables.specs.declared.client.Client.{Client}
 use Rattle.router_promises.specs.Verdicts.{Tells}
-use Rattle.core_promises.specs.Judges.{IsVerdictFor, Rulebook, goes_by}
-use Rattle.core_promises.specs.Ruled.{situation_at}
+use Rattle.core_promises.specs.Judges.{IsRoutedFor, IsVerdictFor}
+use Rattle.core_promises.specs.Ruled.{Ruling, situation_at}
 use Rattle.core_turns.specs.declared.turn.Stop.{Stop}
 use Rattle.core_turns.specs.declared.turn.Stop.TheVariants as stops
 use Rattle.core_turns.specs.declared.turn.Turn.{Turn}
 use Rattle.core_turns.specs.declared.turn.Turn.TheVariants as turns
 use Rattle.client_seat.specs.Numbers.{AreNoted}
+
+-- Keys of texts, by their numbers; what is prepared so stands under them.
+
+abbrev pub Keys : Type 0
+Keys = (number : ℕ) → Option Key
+
+abbrev pub AreUnder : Keys → List Keyed → Type 0
+AreUnder keys keyed = All (λ (one : Keyed). keys one.number ≡ Some one.key) keyed
 
 -- a fact of the client's row, and of the message that came up there
 abbrev pub OnUp : ClientNo → Tabled → (Client → Framed → Type 0) → Type 0
@@ -36,10 +47,10 @@ abbrev pub answered_so : (anew : Bool) → ClientNo → (flag : ℕ) → (packet
 answered_so true c flag packets statements t = begins_anew c flag packets statements t
 answered_so false c flag packets statements t = client_changed c (answers flag packets statements) t
 
-pub record IsAnswered (book : Rulebook) (c : ClientNo) (row : Client) (message : Framed) (old new : Tabled) : Type 0 where
+pub record IsAnswered (ruling : Ruling) (c : ClientNo) (row : Client) (message : Framed) (old new : Tabled) : Type 0 where
   pub payloads : List (List ℕ)
-  pub own : IsAnswer book.rules c payloads
-  pub ruled : IsVerdictFor book (situation_at row.desk) c message.payload (Tells payloads)
+  pub own : IsAnswer ruling.book.rules c payloads
+  pub ruled : IsVerdictFor ruling.book (situation_at ruling.keys row.desk) c message.payload (Tells payloads)
   pub flag : ℕ
   pub packets : List ℕ
   pub statements : ClientStatements
@@ -48,20 +59,25 @@ pub record IsAnswered (book : Rulebook) (c : ClientNo) (row : Client) (message :
   pub makes : IsSame new (answered_so (is_reset message) c flag packets statements old)
 
 -- It goes to a server in this hostgroup alone, as the verdict says: a statement of it is due.
-pub record IsDueThere (hostgroup : Hostgroup) (ordinal : ℕ) (book : Rulebook) (c : ClientNo) (row : Client) (message : Framed) (old new : Tabled) : Type 0 where
+pub record IsDueThere (hostgroup : Hostgroup) (ordinal : ℕ) (ruling : Ruling) (c : ClientNo) (row : Client) (message : Framed) (old new : Tabled) : Type 0 where
   pub route : Route
+  pub keyed : List Keyed
   pub there : route.hostgroup ≡ hostgroup
   pub single : route.mirror ≡ None
-  pub ruled : IsVerdictFor book (situation_at row.desk) c message.payload (goes_by route)
+  pub under : AreUnder ruling.keys keyed
+  pub ruled : IsRoutedFor ruling.book (situation_at ruling.keys row.desk) ruling.keys c message.payload route
   pub flag : ℕ
   pub command : Command
   pub work : Work
   pub statements : ClientStatements
-  pub asked : text_in message.payload route.text ≡ Some (Says command)
-  pub request : (reads : Reads) → AreClasses reads → IsRequest reads ordinal route.key command route.multiplex work
-  pub kind : work.command ≡ Plain
+  pub asked : (setup : Setup) → AreKeyed keyed setup.keys
+      → asked_by setup route row.desk.seat message.payload ≡ Some (record { command = command; key = work.key })
+  pub request : (reads : Reads) → AreClasses reads → IsRequest reads ordinal work.key command route.multiplex work
   pub at : work.hostgroup ≡ route.hostgroup
-  pub unnumbered : route.number ≡ 0
+  pub numbered : IsNumberedAs route work row.desk.seat.statements
+  pub keyed_for : (setup : Setup) → AreKeyed keyed setup.keys → (due : Due) → due.key ≡ work.key → due.place ≡ row.desk.seat.place
+      → IsKeyedFor setup route due command
+  pub whole : AreBoundSo row.desk.seat.statements → HasArgs command
   pub noted : AreNoted false message.payload row.desk.seat.statements statements
   pub same : IsSame new (client_changed c (goes flag work statements) old)
 
@@ -75,7 +91,7 @@ abbrev pub IsStopped : Stop → Framed → (old new : Tabled) → Type 0
 IsStopped (stops.Quits flag) message old new = IsQuit message old new
 IsStopped _ message old new = ⊥
 
-abbrev pub IsTakenUp : Turn → (ordinal : ℕ) → Rulebook → ClientNo → Client → Framed → (old new : Tabled) → Type 0
-IsTakenUp (turns.Stops stop) ordinal book c row message old new = IsStopped stop message old new
-IsTakenUp turns.Answered ordinal book c row message old new = IsAnswered book c row message old new
-IsTakenUp (turns.Due hostgroup) ordinal book c row message old new = IsDueThere hostgroup ordinal book c row message old new
+abbrev pub IsTakenUp : Turn → (ordinal : ℕ) → Ruling → ClientNo → Client → Framed → (old new : Tabled) → Type 0
+IsTakenUp (turns.Stops stop) ordinal ruling c row message old new = IsStopped stop message old new
+IsTakenUp turns.Answered ordinal ruling c row message old new = IsAnswered ruling c row message old new
+IsTakenUp (turns.Due hostgroup) ordinal ruling c row message old new = IsDueThere hostgroup ordinal ruling c row message old new

@@ -5,7 +5,6 @@ use Rattle.std.specs.Option.{option_map_or}
 use Rattle.mx_base.specs.declared.names.ClientNo.{ClientNo}
 use Rattle.mx_base.specs.declared.names.Hostgroup.{Hostgroup}
 use Rattle.own_words.specs.Own.{IsAnswer}
-use Rattle.query_rules.specs.declared.rule.Rule.{Rule}
 use Rattle.client_session.specs.Setups.{Setup as Service}
 use Rattle.client_side.specs.declared.stage.Stage.TheVariants.{Commands}
 use Rattle.client_seat.specs.Seats.{is_ended}
@@ -17,9 +16,10 @@ use Rattle.core_tables.specs.Arrivals.{looked, turn}
 use Rattle.core_tables.specs.Tables.{IsSame, Tabled}
 use Rattle.core_tables.specs.Taking.{IsUpOr}
 use Rattle.core_tables.specs.declared.client.Client.{Client}
-use Rattle.core_laws.specs.clients.Turns.{Answers, Choice, ComesUp, Ends, Goes, GoesBy, Halt, IsLookedAt, IsTurn, MayLeave, Quits, Rests, RestsThere, Turns, Waits, WaitsThere, waits_at}
-use Rattle.core_promises.specs.Judges.{IsVerdictFor, Rulebook, goes_by}
-use Rattle.core_promises.specs.Ruled.{AreRuled, IsRuled, situation_up}
+use Rattle.core_laws.specs.clients.Turns.{Answers, Choice, ComesUp, Ends, Goes, GoesBy, Halt, IsLookedAt, IsTurn, Keyed, MayLeave, Quits, Rests, RestsThere, Turns, Waits, WaitsThere, waits_at}
+use Rattle.core_promises.specs.Judges.{IsRoutedFor}
+use Rattle.core_promises.specs.Ruled.{AreRuled, IsRuled, Ruling, situation_up}
+use Rattle.core_turns.specs.Taken.{AreUnder}
 use Rattle.core_turns.specs.declared.turn.Stop.{Stop}
 use Rattle.core_turns.specs.declared.turn.Stop.TheVariants as stops
 use Rattle.core_turns.specs.declared.turn.Turn.{Turn}
@@ -71,20 +71,20 @@ StopsSo Ends service default c old new = IsToEnd service default c old new
 -- Turns by these choices, which are what the verdict says of what came up, and then this end: with the leaving, and but for it.
 
 abbrev pub TurnsBy : Type 1
-TurnsBy = Rulebook → List Choice → Halt → Service → (default : List ℕ) → ClientNo → (old new : Tabled) → Type 0
+TurnsBy = Ruling → List Choice → Halt → Service → (default : List ℕ) → ClientNo → (old new : Tabled) → Type 0
 
 abbrev pub RuledTurns : TurnsBy
-RuledTurns book choices halt service default c old new =
-    (turns : Turns choices halt service default c old new) × AreRuled book choices halt service default c old new turns
+RuledTurns ruling choices halt service default c old new =
+    (turns : Turns choices halt service default c old new) × AreRuled ruling choices halt service default c old new turns
 
-abbrev pub IsRuledTurn : Rulebook → Choice → Service → (default : List ℕ) → ClientNo → (old new : Tabled) → Type 0
-IsRuledTurn book choice service default c old new =
-    (turn : IsTurn choice service default c old new) × IsRuled book choice service default c old new turn
+abbrev pub IsRuledTurn : Ruling → Choice → Service → (default : List ℕ) → ClientNo → (old new : Tabled) → Type 0
+IsRuledTurn ruling choice service default c old new =
+    (turn : IsTurn choice service default c old new) × IsRuled ruling choice service default c old new turn
 
 abbrev pub TurnsUntil : TurnsBy
-TurnsUntil book [] halt service default c old new = StopsSo halt service default c old new
-TurnsUntil book (choice ∷ others) halt service default c old new =
-    (between : Tabled) × IsRuledTurn book choice service default c old between × TurnsUntil book others halt service default c between new
+TurnsUntil ruling [] halt service default c old new = StopsSo halt service default c old new
+TurnsUntil ruling (choice ∷ others) halt service default c old new =
+    (between : Tabled) × IsRuledTurn ruling choice service default c old between × TurnsUntil ruling others halt service default c between new
 
 -- By what code says of it.
 
@@ -95,48 +95,50 @@ halt_of stops.Ends = Ends
 halt_of (stops.Quits flag) = Quits
 
 -- its statement goes to this hostgroup alone
-pub record IsDueIn (hostgroup : Hostgroup) (book : Rulebook) (service : Service) (default : List ℕ) (c : ClientNo) (old new : Tabled) : Type 0 where
+pub record IsDueIn (hostgroup : Hostgroup) (ruling : Ruling) (service : Service) (default : List ℕ) (c : ClientNo) (old new : Tabled) : Type 0 where
   pub route : Route
-  pub goes : GoesBy service default route c old new
+  pub keyed : List Keyed
+  pub goes : GoesBy service default route keyed c old new
   pub there : route.hostgroup ≡ hostgroup
   pub single : route.mirror ≡ None
-  pub ruled : IsVerdictFor book (situation_up service default goes.up.row) c goes.up.message.payload (goes_by route)
+  pub under : AreUnder ruling.keys keyed
+  pub ruled : IsRoutedFor ruling.book (situation_up ruling.keys service default goes.up.row) ruling.keys c goes.up.message.payload route
 
-abbrev pub IsTurned : Turn → Rulebook → Service → (default : List ℕ) → ClientNo → (old new : Tabled) → Type 0
-IsTurned (turns.Stops stop) book service default c old new = StopsSo (halt_of stop) service default c old new
-IsTurned turns.Answered book service default c old new =
-    (payloads : List (List ℕ)) × IsAnswer book.rules c payloads × IsRuledTurn book (Answers payloads) service default c old new
-IsTurned (turns.Due hostgroup) book service default c old new = IsDueIn hostgroup book service default c old new
+abbrev pub IsTurned : Turn → Ruling → Service → (default : List ℕ) → ClientNo → (old new : Tabled) → Type 0
+IsTurned (turns.Stops stop) ruling service default c old new = StopsSo (halt_of stop) service default c old new
+IsTurned turns.Answered ruling service default c old new =
+    (payloads : List (List ℕ)) × IsAnswer ruling.book.rules c payloads × IsRuledTurn ruling (Answers payloads) service default c old new
+IsTurned (turns.Due hostgroup) ruling service default c old new = IsDueIn hostgroup ruling service default c old new
 
 -- One turn, and all that it makes as it goes on, up to where it leaves. No copies are made of its messages, what the router answers is in its
--- own words, and what becomes of each is what the verdict says.
+-- own words, and what becomes of each is what the verdict says. What is prepared so stands under the keys that there are then.
 
-abbrev pub IsSaid : List Rule → ClientNo → Choice → Type 0
-IsSaid rules c (Goes route) = route.mirror ≡ None
-IsSaid rules c (Answers payloads) = IsAnswer rules c payloads
+abbrev pub IsSaid : Ruling → ClientNo → Choice → Type 0
+IsSaid ruling c (Goes route keyed) = (route.mirror ≡ None) × AreUnder ruling.keys keyed
+IsSaid ruling c (Answers payloads) = IsAnswer ruling.book.rules c payloads
 
-pub record HasChosen (book : Rulebook) (service : Service) (default : List ℕ) (c : ClientNo) (old new : Tabled) : Type 0 where
+pub record HasChosen (ruling : Ruling) (service : Service) (default : List ℕ) (c : ClientNo) (old new : Tabled) : Type 0 where
   pub choice : Choice
-  pub said : IsSaid book.rules c choice
-  pub turns : IsRuledTurn book choice service default c old new
+  pub said : IsSaid ruling c choice
+  pub turns : IsRuledTurn ruling choice service default c old new
 
-abbrev pub HasGoneFurther : Option Stop → Rulebook → Service → (default : List ℕ) → ClientNo → (old new : Tabled) → Type 0
-HasGoneFurther None book service default c old new = HasChosen book service default c old new
-HasGoneFurther (Some stop) book service default c old new = StopsSo (halt_of stop) service default c old new
+abbrev pub HasGoneFurther : Option Stop → Ruling → Service → (default : List ℕ) → ClientNo → (old new : Tabled) → Type 0
+HasGoneFurther None ruling service default c old new = HasChosen ruling service default c old new
+HasGoneFurther (Some stop) ruling service default c old new = StopsSo (halt_of stop) service default c old new
 
-pub record HasGone (turns : TurnsBy) (stop : Stop) (book : Rulebook) (service : Service) (default : List ℕ) (c : ClientNo) (old new : Tabled) : Type 0 where
+pub record HasGone (turns : TurnsBy) (stop : Stop) (ruling : Ruling) (service : Service) (default : List ℕ) (c : ClientNo) (old new : Tabled) : Type 0 where
   pub going : is_away (old.clients c) ≡ false
   pub choices : List Choice
-  pub said : All (IsSaid book.rules c) choices
-  pub turned : turns book choices (halt_of stop) service default c old new
+  pub said : All (IsSaid ruling c) choices
+  pub turned : turns ruling choices (halt_of stop) service default c old new
 
 pub record IsAbsent (c : ClientNo) (old new : Tabled) : Type 0 where
   pub away : is_away (old.clients c) ≡ true
   pub same : IsSame new old
 
-abbrev pub HasGoneOn : TurnsBy → Option Went → Rulebook → Service → (default : List ℕ) → ClientNo → (old new : Tabled) → Type 0
-HasGoneOn turns None book service default c old new = IsAbsent c old new
-HasGoneOn turns (Some went) book service default c old new = HasGone turns went.stop book service default c old new
+abbrev pub HasGoneOn : TurnsBy → Option Went → Ruling → Service → (default : List ℕ) → ClientNo → (old new : Tabled) → Type 0
+HasGoneOn turns None ruling service default c old new = IsAbsent c old new
+HasGoneOn turns (Some went) ruling service default c old new = HasGone turns went.stop ruling service default c old new
 
 -- what a client is by which code has it leave
 abbrev pub MayLeaveBy : Stop → Option Client → Type 0
@@ -148,6 +150,6 @@ MayLeaveIf None row = Unit {0}
 MayLeaveIf (Some went) row = MayLeaveBy went.stop row
 
 -- where somebody is there
-abbrev pub IsTurnedIf : Option Turn → Rulebook → Service → (default : List ℕ) → ClientNo → (old new : Tabled) → Type 0
-IsTurnedIf None book service default c old new = IsAbsent c old new
-IsTurnedIf (Some turn) book service default c old new = (is_away (old.clients c) ≡ false) × IsTurned turn book service default c old new
+abbrev pub IsTurnedIf : Option Turn → Ruling → Service → (default : List ℕ) → ClientNo → (old new : Tabled) → Type 0
+IsTurnedIf None ruling service default c old new = IsAbsent c old new
+IsTurnedIf (Some turn) ruling service default c old new = (is_away (old.clients c) ≡ false) × IsTurned turn ruling service default c old new

@@ -1,5 +1,5 @@
 // What becomes of a message that came up.
-ghost use Rattle.std.specs.Prelude.{◌≡◌, ℕ, false, true, is_some, nat_eq, drop, List, None, IfOk, IfSome, Option};
+ghost use Rattle.std.specs.Prelude.{◌≡◌, ◌<◌, ◌≤◌, ℕ, false, true, is_some, nat_eq, drop, length, List, None, IfOk, IfSome, OnOk, Option};
 ghost use Rattle.std.specs.Option.{option_copied};
 ghost use Rattle.log_story.specs.Plan.{com_init_db};
 ghost use Rattle.link_state.specs.Classes as link_classes;
@@ -11,37 +11,38 @@ ghost use Rattle.query_rules.specs.Effects.{is_first_flag};
 ghost use Rattle.query_rules.specs.Passing.{rules_of};
 ghost use Rattle.query_rules.specs.declared.rule.Rule.{Rule};
 ghost use Rattle.mx_base.specs.declared.names.ClientNo.{ClientNo};
+ghost use Rattle.private_model.specs.Story.{Key};
+ghost use Rattle.router_promises.specs.Statements.{are_types};
+ghost use Rattle.stmt_map.specs.Client.{next_number};
 ghost use Rattle.core_laws.specs.clients.Found.{user_in};
-ghost use Rattle.core_promises.specs.Judges.{Rulebook, is_of_statement};
-ghost use Rattle.core_promises.specs.Ruled.{book_of, situation_at};
+ghost use Rattle.core_promises.specs.Judges.{Rulebook};
+ghost use Rattle.core_promises.specs.Ruled.{book_of, known_as, situation_at};
+ghost use Rattle.core_promises.specs.Statements.{number_named};
 ghost use Rattle.core_service.specs.Serves.{home_in};
-ghost use Rattle.core_turns.specs.Judged.{IsAsPromised, IsDraftFor, IsDraftOn, IsOwnVerdict, IsSayable, IsSendable, IsUnserved, IsVerdictOn, byte_of};
+ghost use Rattle.core_texts.specs.Texts.{key_at};
+ghost use Rattle.core_texts.specs.declared.texts.Texts.{Texts};
+ghost use Rattle.core_turns.specs.Judged.{IsAsPromised, IsDraftFor, IsOwnVerdict, IsVerdictOn, byte_of, form_by, sent_by, sent_plain, sent_text};
+ghost use Rattle.core_turns.specs.Preparing.{IsHeld, IsHeldIf, IsInMemory, named_in, prepared_of, statement_named};
 
 use client_desk::{Desk, Session};
 use core_service::Service;
+use core_texts::{Kept, Texts, copy_of};
 use hostgroups::Servers;
 use link_state::{Form, use_class};
 use message_judge::{
-    Caller, ClassOf, Draft, Going, Judged, OwnError, Standing, Told, admit, judge,
+    Caller, ClassOf, Draft, Going, Judged, Prepared, Standing, Told, admit, judge,
 };
-use mx_base::{Bytes, ClientNo, Hostgroup, OutOfMemory};
+use mx_base::{Bytes, ClientNo, Hostgroup, OutOfMemory, get_u32};
 use pin_classifier::Class;
 use session_state::Place;
 use std::alloc::Global;
+use stmt_map::Statement;
 
 const COM_INIT_DB: u8 = 0x02;
 
-const COM_STMT_PREPARE: u8 = 0x16;
-
 const COM_STMT_EXECUTE: u8 = 0x17;
 
-const COM_STMT_SEND_LONG_DATA: u8 = 0x18;
-
-const COM_STMT_CLOSE: u8 = 0x19;
-
 const COM_STMT_RESET: u8 = 0x1a;
-
-const COM_STMT_FETCH: u8 = 0x1c;
 
 /// What becomes of a message.
 #[derive(Drop)]
@@ -56,6 +57,26 @@ pub(crate) enum Verdict {
         multiplex: Option<bool>,
         form: Form,
     },
+    /// This text of this class is to be prepared in this hostgroup.
+    Prepares {
+        hostgroup: Hostgroup,
+        text: Bytes,
+        multiplex: Option<bool>,
+        class: Class,
+    },
+    /// This statement is executed in this hostgroup.
+    Runs {
+        hostgroup: Hostgroup,
+        multiplex: Option<bool>,
+        named: Named,
+    },
+}
+
+/// The statement that a message names: the key of its preparation, and what is known of it.
+#[derive(Drop)]
+pub(crate) struct Named {
+    pub key: u64,
+    pub prepared: Prepared,
 }
 
 /// What becomes of a message, and the flag by which rules are tried first behind it.
@@ -115,30 +136,115 @@ fn caller_of(
     })
 }
 
-// What is answered to a command about prepared statements, which this router doesn't have: the two that have no reply get
-// none.
-fn unprepared(payload: &[u8]) -> Option<Told>
-    ensures is { IsUnserved (byte_of payload.now) result }
-    ensures own { (rules : List Rule) → IfSome result (λ told. IsOwnTold rules told) }
+// The number of the statement that an execute or a reset names.
+fn number_named(payload: &[u8]) -> Option<u32>
+    ensures { result ≡ number_named payload.now }
 {
-    let [byte, ..] = payload else {
-        return None;
-    };
-    match *byte {
-        COM_STMT_SEND_LONG_DATA | COM_STMT_CLOSE => Some(Told::Nothing),
-        COM_STMT_PREPARE | COM_STMT_EXECUTE | COM_STMT_RESET | COM_STMT_FETCH => {
-            Some(Told::Error(OwnError::UnknownCommand))
-        }
+    match payload {
+        [byte, ..] if *byte == COM_STMT_EXECUTE || *byte == COM_STMT_RESET => get_u32(payload, 1),
         _ => None,
     }
 }
 
-fn class_of(class: &ClassOf) -> Option<&Class>
-    ensures { option_copied result ≡ class_in None class.now }
+// The client's statement that a message names.
+fn statement_named<'a>(desk: &'a Desk, payload: &[u8]) -> Option<&'a Statement>
+    ensures { option_copied result ≡ statement_named desk.now.seat.statements payload.now }
+{
+    desk.seat.statements.find(number_named(payload)?)
+}
+
+// What memory bounds.
+fn measure(statement: &Statement)
+    ensures { IsHeld statement.now }
+{
+    let _params = statement.prepared.params;
+    let parts = statement.long.parts();
+    for part in parts {
+        let _size = part.bytes.as_slice().len();
+    }
+}
+
+// What memory bounds of a message, of the statement that it names, and of its client's numbers.
+fn measure_all(desk: &Desk, payload: &[u8])
+    ensures { IsInMemory desk.now.seat.statements payload.now }
+{
+    let _last = desk.seat.statements.last;
+    let _size = payload.len();
+    if let Some(statement) = statement_named(desk, payload) {
+        measure(statement);
+    }
+}
+
+fn has_types(types: &Option<Bytes>, params: u16) -> bool
+    ensures { result ≡ are_types params types.now }
+{
+    match types {
+        Some(types) => types.as_slice().len() == 2 * params as usize,
+        None => false,
+    }
+}
+
+// What is known of a statement, whose text is kept.
+fn known_of(alloc: Global, statement: &Statement, kept: &Kept) -> Result<Prepared, OutOfMemory>
+    ensures { IfOk result (λ known. known ≡ known_as kept.now statement.now) }
+{
+    let prepared = statement.prepared;
+    let place = kept.place();
+    Ok(Prepared {
+        text: Bytes::from_slice(alloc, kept.text())?,
+        place: Place {
+            schema: Bytes::from_slice(alloc, place.schema.as_slice())?,
+            settings: place.settings.copy()?,
+        },
+        params: prepared.params,
+        bound: has_types(&statement.types, prepared.params),
+        hostgroup: prepared.hostgroup,
+        multiplex: prepared.multiplex,
+        class: copy_of(alloc, kept.class())?,
+    })
+}
+
+// The statement that a message names, where its client prepared it.
+fn named_by(
+    alloc: Global,
+    texts: &Texts,
+    desk: &Desk,
+    payload: &[u8],
+) -> Result<Option<Named>, OutOfMemory>
+    ensures { IfOk result (λ named. named ≡ named_in texts.now desk.now.seat.statements payload.now) }
+{
+    let Some(statement) = statement_named(desk, payload) else {
+        return Ok(None);
+    };
+    let key = statement.prepared.key;
+    match texts.find(key) {
+        Some(kept) => Ok(Some(Named {
+            key,
+            prepared: known_of(alloc, statement, kept)?,
+        })),
+        None => Ok(None),
+    }
+}
+
+fn class_of<'a>(class: &'a ClassOf, prepared: Option<&'a Prepared>) -> Option<&'a Class>
+    ensures { option_copied result ≡ class_in (option_copied prepared.entry) class.now }
 {
     match class {
+        ClassOf::Nothing => None,
         ClassOf::Own(class) => Some(class),
-        _ => None,
+        ClassOf::Prepared => match prepared {
+            Some(prepared) => Some(&prepared.class),
+            None => None,
+        },
+    }
+}
+
+fn prepared_in(named: &Option<Named>) -> Option<&Prepared>
+    ensures { option_copied result ≡ prepared_of named.now }
+{
+    match named {
+        Some(named) => Some(&named.prepared),
+        None => None,
     }
 }
 
@@ -172,7 +278,7 @@ fn schema_form(alloc: Global, payload: &[u8]) -> Result<Form, OutOfMemory>
 
 // How what has no text stands on a link.
 fn plain_form(alloc: Global, payload: &[u8]) -> Result<Form, OutOfMemory>
-    ensures { IfOk result (λ form. IsSayable payload.now None None → IsSendable payload.now None form) }
+    ensures { IfOk result (λ form. form ≡ form_by payload.now) }
 {
     if names_schema(payload) {
         schema_form(alloc, payload)
@@ -181,14 +287,80 @@ fn plain_form(alloc: Global, payload: &[u8]) -> Result<Form, OutOfMemory>
     }
 }
 
-// How what a message asks for stands on a link.
-fn form_of(alloc: Global, payload: &[u8], class: ClassOf) -> Result<Form, OutOfMemory>
-    ensures { IfOk result (λ form. (text : Option (List ℕ)) → IsSayable payload.now (class_in None class) text
-        → IsSendable payload.now text form) }
+// A text of this class goes as a query, or to be prepared.
+fn sends_text(
+    hostgroup: Hostgroup,
+    text: Option<Bytes>,
+    multiplex: Option<bool>,
+    number: Option<u32>,
+    class: Class,
+) -> Verdict
+    ensures { result ≡ sent_text hostgroup text multiplex number class }
 {
-    match class {
-        ClassOf::Own(class) => Ok(Form::Text(class)),
-        _ => plain_form(alloc, payload),
+    match (text, number) {
+        (Some(text), Some(_)) => Verdict::Prepares {
+            hostgroup,
+            text,
+            multiplex,
+            class,
+        },
+        (Some(text), None) => Verdict::Sends {
+            hostgroup,
+            text: Some(text),
+            multiplex,
+            form: Form::Text(class),
+        },
+        (None, _) => Verdict::Sends {
+            hostgroup,
+            text: None,
+            multiplex,
+            form: Form::Text(class),
+        },
+    }
+}
+
+// What has no text.
+fn sends_plain(
+    alloc: Global,
+    hostgroup: Hostgroup,
+    multiplex: Option<bool>,
+    payload: &[u8],
+) -> Result<Verdict, OutOfMemory>
+    ensures { IfOk result (λ verdict. verdict ≡ sent_plain hostgroup multiplex payload.now) }
+{
+    Ok(Verdict::Sends {
+        hostgroup,
+        text: None,
+        multiplex,
+        form: plain_form(alloc, payload)?,
+    })
+}
+
+// As it goes to a server: of what names a statement only an execute does.
+fn goes(
+    alloc: Global,
+    payload: &[u8],
+    going: Going,
+    named: Option<Named>,
+) -> Result<Verdict, OutOfMemory>
+    ensures { IfOk result (λ verdict. verdict ≡ sent_by payload.now going named) }
+{
+    let Going {
+        hostgroup,
+        text,
+        number,
+        multiplex,
+        class,
+    } = going;
+    match (named, class) {
+        (Some(named), _) => Ok(Verdict::Runs {
+            hostgroup,
+            multiplex,
+            named,
+        }),
+        (None, ClassOf::Own(class)) => Ok(sends_text(hostgroup, text, multiplex, number, class)),
+        (None, ClassOf::Prepared) => sends_plain(alloc, hostgroup, multiplex, payload),
+        (None, ClassOf::Nothing) => sends_plain(alloc, hostgroup, multiplex, payload),
     }
 }
 
@@ -210,38 +382,27 @@ fn sent(
     desk: &Desk,
     payload: &[u8],
     going: Going,
+    named: Option<Named>,
 ) -> Result<Verdict, OutOfMemory>
-    requires says { IsSayable payload.now (class_in None going.class) going.text }
-    requires unnumbered { going.number ≡ None }
-    ensures is { IfOk result (λ verdict. IsVerdictOn payload.now verdict) }
+    ensures is { IfOk result (λ verdict. (book : Rulebook) (keys : (key : ℕ) → Option Key) (c : ClientNo)
+        → IsDraftFor book (situation_at keys desk.now) (next_number desk.now.seat.statements) c payload.now (prepared_of named) (drafts.Sends going)
+        → IsVerdictOn named payload.now verdict) }
     ensures own { IfOk result (λ verdict. (rules : List Rule) → IsOwnVerdict rules verdict) }
-    ensures promised { IfOk result (λ verdict. is_of_statement (byte_of payload.now) ≡ false → (book : Rulebook) (c : ClientNo)
-        → IsDraftFor book (situation_at desk.now) c payload.now (drafts.Sends going) → IsAsPromised book (situation_at desk.now) c payload.now verdict) }
+    ensures promised { IfOk result (λ verdict. (book : Rulebook) (keys : (key : ℕ) → Option Key) (c : ClientNo)
+        → IsDraftFor book (situation_at keys desk.now) (next_number desk.now.seat.statements) c payload.now (prepared_of named) (drafts.Sends going)
+        → IsAsPromised book (situation_at keys desk.now) (next_number desk.now.seat.statements) c payload.now verdict) }
 {
     let session = desk.session(going.hostgroup);
     let is_there = is_there(servers, session, going.hostgroup);
     if let Some(why) = admit(
-        class_of(&going.class),
+        class_of(&going.class, prepared_in(&named)),
         going.hostgroup,
         session.pin,
         is_there,
     ) {
         return Ok(Verdict::Answers(Told::Error(why)));
     }
-    let Going {
-        hostgroup,
-        text,
-        multiplex,
-        class,
-        ..
-    } = going;
-    let form = form_of(alloc, payload, class)?;
-    Ok(Verdict::Sends {
-        hostgroup,
-        text,
-        multiplex,
-        form,
-    })
+    goes(alloc, payload, going, named)
 }
 
 fn verdict_of(
@@ -250,17 +411,20 @@ fn verdict_of(
     desk: &Desk,
     payload: &[u8],
     draft: Draft,
+    named: Option<Named>,
 ) -> Result<Verdict, OutOfMemory>
-    requires { IsDraftOn payload.now draft }
-    ensures is { IfOk result (λ verdict. IsVerdictOn payload.now verdict) }
+    ensures is { IfOk result (λ verdict. (book : Rulebook) (keys : (key : ℕ) → Option Key) (c : ClientNo)
+        → IsDraftFor book (situation_at keys desk.now) (next_number desk.now.seat.statements) c payload.now (prepared_of named) draft
+        → IsVerdictOn named payload.now verdict) }
     ensures own { IfOk result (λ verdict. (rules : List Rule) → IsOwnDraft rules draft → IsOwnVerdict rules verdict) }
-    ensures promised { IfOk result (λ verdict. is_of_statement (byte_of payload.now) ≡ false → (book : Rulebook) (c : ClientNo)
-        → IsDraftFor book (situation_at desk.now) c payload.now draft → IsAsPromised book (situation_at desk.now) c payload.now verdict) }
+    ensures promised { IfOk result (λ verdict. (book : Rulebook) (keys : (key : ℕ) → Option Key) (c : ClientNo)
+        → IsDraftFor book (situation_at keys desk.now) (next_number desk.now.seat.statements) c payload.now (prepared_of named) draft
+        → IsAsPromised book (situation_at keys desk.now) (next_number desk.now.seat.statements) c payload.now verdict) }
 {
     match draft {
         Draft::Ends => Ok(Verdict::Quits),
         Draft::Answers(told) => Ok(Verdict::Answers(told)),
-        Draft::Sends(going) => sent(alloc, servers, desk, payload, going),
+        Draft::Sends(going) => sent(alloc, servers, desk, payload, going, named),
     }
 }
 
@@ -271,17 +435,26 @@ fn drafted(
     desk: &Desk,
     client: ClientNo,
     payload: &[u8],
+    named: &Option<Named>,
 ) -> Result<Judged, OutOfMemory>
-    ensures is { IfOk result (λ judged. IsDraftOn payload.now judged.draft) }
     ensures own { IfOk result (λ judged. IsOwnDraft (rules_of service.now.rules) judged.draft) }
-    ensures known { IfOk result (λ judged. IsDraftFor (book_of service.now) (situation_at desk.now) client payload.now judged.draft) }
+    ensures known { IfOk result (λ judged. (texts : Texts) → named.now ≡ named_in texts desk.now.seat.statements payload.now
+        → IsDraftFor (book_of service.now) (situation_at (key_at texts) desk.now) (next_number desk.now.seat.statements) client payload.now
+        (prepared_of named.now) judged.draft) }
 {
     let caller = caller_of(alloc, service, desk, client)?;
     let standing = Standing {
         transaction: desk.transaction(service.hostgroups.as_slice()),
-        next_number: None,
+        next_number: desk.seat.statements.next_number(),
     };
-    judge(alloc, &service.rules, &caller, standing, None, payload)
+    judge(
+        alloc,
+        &service.rules,
+        &caller,
+        standing,
+        prepared_in(named),
+        payload,
+    )
 }
 
 /// What becomes of a client's message with this payload.
@@ -289,21 +462,20 @@ pub(crate) fn judged(
     alloc: Global,
     service: &Service,
     servers: &Servers,
+    texts: &Texts,
     desk: &Desk,
     client: ClientNo,
     payload: &[u8],
 ) -> Result<Judgement, OutOfMemory>
-    ensures is { IfOk result (λ judgement. IsVerdictOn payload.now judgement.verdict) }
+    ensures is { IfOk result (λ judgement. IsVerdictOn (named_in texts.now desk.now.seat.statements payload.now) payload.now judgement.verdict) }
     ensures own { IfOk result (λ judgement. IsOwnVerdict (rules_of service.now.rules) judgement.verdict) }
-    ensures promised { IfOk result (λ judgement. IsAsPromised (book_of service.now) (situation_at desk.now) client payload.now judgement.verdict) }
+    ensures promised { IfOk result (λ judgement. IsAsPromised (book_of service.now) (situation_at (key_at texts.now) desk.now)
+        (next_number desk.now.seat.statements) client payload.now judgement.verdict) }
+    ensures memory { OnOk result (IsInMemory desk.now.seat.statements payload.now) }
 {
-    if let Some(told) = unprepared(payload) {
-        return Ok(Judgement {
-            flag: desk.seat.flag,
-            verdict: Verdict::Answers(told),
-        });
-    }
-    let Judged { draft, flag } = drafted(alloc, service, desk, client, payload)?;
-    let verdict = verdict_of(alloc, servers, desk, payload, draft)?;
+    measure_all(desk, payload);
+    let named = named_by(alloc, texts, desk, payload)?;
+    let Judged { draft, flag } = drafted(alloc, service, desk, client, payload, &named)?;
+    let verdict = verdict_of(alloc, servers, desk, payload, draft, named)?;
     Ok(Judgement { flag, verdict })
 }

@@ -1,16 +1,17 @@
 // A client leaves, or goes on and leaves.
 ghost use Rattle.std.specs.Prelude.{ℕ, IfOk, List, OnOk};
 ghost use Rattle.client_session.specs.Setups as setups;
-ghost use Rattle.core_promises.specs.Ruled.{book_of};
-ghost use Rattle.core_promises.specs.Judges.{Rulebook};
+ghost use Rattle.core_promises.specs.Ruled.{Ruling, ruling_of};
 ghost use Rattle.core_tables.specs.Tables.{Tabled, tables_of};
 ghost use Rattle.core_laws.specs.clients.Turns.{Choice};
 ghost use Rattle.marked_tables.specs.Goes.{GoesOn};
+ghost use Rattle.core_texts.specs.Texts.{AreMore, key_at};
 ghost use Rattle.core_turns.specs.Turned.{HasGoneOn, MayLeaveBy, RuledTurns, TurnsUntil, halt_of};
 
 use crate::onward::go_on;
 use crate::turn::{Stop, Went};
 use core_service::Service;
+use core_texts::Texts;
 use hostgroups::Servers;
 use marked_tables::MarkedTables;
 use mx_base::{ClientNo, OutOfMemory};
@@ -19,9 +20,9 @@ use std::alloc::Global;
 /// A client leaves behind its turns, where they stopped so that it is to.
 pub fn leave(marked: &mut MarkedTables, client: ClientNo, stop: Stop) -> Result<(), OutOfMemory>
     requires { MayLeaveBy stop ((tables_of marked.old.tables).clients client) }
-    ensures is { OnOk result ((book : Rulebook) (setup : setups.Setup) (default : List ℕ) (choices : List Choice)
-        (before : Tabled) → TurnsUntil book choices (halt_of stop) setup default client before (tables_of marked.old.tables)
-        → RuledTurns book choices (halt_of stop) setup default client before (tables_of marked.new.tables)) }
+    ensures is { OnOk result ((ruling : Ruling) (setup : setups.Setup) (default : List ℕ) (choices : List Choice)
+        (before : Tabled) → TurnsUntil ruling choices (halt_of stop) setup default client before (tables_of marked.old.tables)
+        → RuledTurns ruling choices (halt_of stop) setup default client before (tables_of marked.new.tables)) }
     ensures goes { OnOk result (GoesOn marked.old marked.new) }
 {
     match stop {
@@ -38,17 +39,19 @@ pub fn leave(marked: &mut MarkedTables, client: ClientNo, stop: Stop) -> Result<
 /// A client goes on, as by `go_on`, and leaves where it is to.
 pub fn take_turns(
     marked: &mut MarkedTables,
+    texts: &mut Texts,
     service: &Service,
     servers: &Servers,
     clock: u64,
     alloc: Global,
     client: ClientNo,
 ) -> Result<Option<Went>, OutOfMemory>
-    ensures is { IfOk result (λ went. HasGoneOn RuledTurns went (book_of service.now) service.now.setup service.now.default_schema
+    ensures is { IfOk result (λ went. HasGoneOn RuledTurns went (ruling_of service.now (key_at texts.new)) service.now.setup service.now.default_schema
         client (tables_of marked.old.tables) (tables_of marked.new.tables)) }
     ensures goes { OnOk result (GoesOn marked.old marked.new) }
+    ensures more { OnOk result (AreMore texts.old texts.new) }
 {
-    let Some(went) = go_on(marked, service, servers, clock, alloc, client)? else {
+    let Some(went) = go_on(marked, texts, service, servers, clock, alloc, client)? else {
         return Ok(None);
     };
     leave(marked, client, went.stop)?;

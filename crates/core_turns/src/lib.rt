@@ -5,6 +5,7 @@ mod judged;
 mod leaving;
 mod looking;
 mod onward;
+mod preparing;
 mod sending;
 mod taking;
 mod turn;

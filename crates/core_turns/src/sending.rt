@@ -1,5 +1,5 @@
 // What becomes of a message is done.
-ghost use Rattle.std.specs.Prelude.{◌≡◌, nat_eq, slice_index_or, IfOk, OnOk};
+ghost use Rattle.std.specs.Prelude.{◌≡◌, None, nat_eq, slice_index_or, IfOk, OnOk};
 ghost use Rattle.std.specs.Option.{option_copied};
 ghost use Rattle.log_story.specs.Plan.{com_reset};
 ghost use Rattle.packet_frame.specs.Packets.{spellings};
@@ -10,15 +10,20 @@ ghost use Rattle.marked_tables.specs.Goes.{GoesOn};
 ghost use Rattle.message_judge.specs.Told.{IsOwnTold, payloads_of};
 ghost use Rattle.query_rules.specs.Passing.{rules_of};
 ghost use Rattle.router_promises.specs.Verdicts.{Tells};
-ghost use Rattle.core_promises.specs.Judges.{IsVerdictFor, Rulebook, goes_by};
-ghost use Rattle.core_promises.specs.Ruled.{book_of, situation_at};
-ghost use Rattle.core_turns.specs.Judged.{IsAsPromised, IsOwnVerdict, IsSendable, IsVerdictOn, route_by};
+ghost use Rattle.stmt_map.specs.Client.{next_number};
+ghost use Rattle.core_promises.specs.Judges.{IsVerdictFor};
+ghost use Rattle.core_promises.specs.Ruled.{Ruling, book_of, ruling_of, situation_at};
+ghost use Rattle.core_texts.specs.Texts.{AreMore, key_at};
+ghost use Rattle.core_turns.specs.Judged.{IsAsPromised, IsOwnVerdict, IsSendable, IsVerdictOn, goes_with, route_by};
+ghost use Rattle.core_turns.specs.Preparing.{IsInMemory, named_in};
 ghost use Rattle.core_turns.specs.Taken.{IsAnswered, IsDueThere, IsTakenUp, OnUp};
 
 use crate::judged::{Judgement, Verdict, judged};
+use crate::preparing::{becomes_prepared, becomes_run};
 use crate::turn::{Stop, Turn};
 use core_service::Service;
 use core_tables::Tables;
+use core_texts::Texts;
 use hostgroups::Servers;
 use link_state::Form;
 use marked_tables::MarkedTables;
@@ -35,15 +40,18 @@ fn judged_of(
     service: &Service,
     servers: &Servers,
     tables: &Tables,
+    texts: &Texts,
     client: ClientNo,
 ) -> Result<Judgement, OutOfMemory>
     requires { IsUpOr ((tables_of tables.now).clients client) }
     ensures is { IfOk result (λ judgement. OnUp client (tables_of tables.now)
-        (λ row message. IsVerdictOn message.payload judgement.verdict)) }
+        (λ row message. IsVerdictOn (named_in texts.now row.desk.seat.statements message.payload) message.payload judgement.verdict)) }
     ensures own { IfOk result (λ judgement. OnUp client (tables_of tables.now)
         (λ row message. IsOwnVerdict (rules_of service.now.rules) judgement.verdict)) }
     ensures promised { IfOk result (λ judgement. OnUp client (tables_of tables.now)
-        (λ row message. IsAsPromised (book_of service.now) (situation_at row.desk) client message.payload judgement.verdict)) }
+        (λ row message. IsAsPromised (book_of service.now) (situation_at (key_at texts.now) row.desk) (next_number row.desk.seat.statements)
+        client message.payload judgement.verdict)) }
+    ensures memory { OnOk result (OnUp client (tables_of tables.now) (λ row message. IsInMemory row.desk.seat.statements message.payload)) }
 {
     let Some(row) = tables.clients.get(&client.0) else {
         unreachable!()
@@ -52,6 +60,7 @@ fn judged_of(
         alloc,
         service,
         servers,
+        texts,
         &row.desk,
         client,
         row.desk.seat.payload(),
@@ -108,10 +117,10 @@ fn answer(
     told: &Told,
 ) -> Result<(), OutOfMemory>
     requires { IsUpOr ((tables_of marked.old.tables).clients client) }
-    ensures is { OnOk result ((book : Rulebook) → IsOwnTold book.rules told.now
+    ensures is { OnOk result ((ruling : Ruling) → IsOwnTold ruling.book.rules told.now
         → OnUp client (tables_of marked.old.tables)
-        (λ row message. IsVerdictFor book (situation_at row.desk) client message.payload (Tells (payloads_of client.0 told.now))
-        → IsAnswered book client row message (tables_of marked.old.tables) (tables_of marked.new.tables))) }
+        (λ row message. IsVerdictFor ruling.book (situation_at ruling.keys row.desk) client message.payload (Tells (payloads_of client.0 told.now))
+        → IsAnswered ruling client row message (tables_of marked.old.tables) (tables_of marked.new.tables))) }
     ensures goes { OnOk result (GoesOn marked.old marked.new) }
 {
     let packets = packets_of(alloc, &marked.tables, client, told)?;
@@ -146,9 +155,9 @@ fn becomes_due(
     requires up { IsUpOr ((tables_of marked.old.tables).clients client) }
     requires sendable { OnUp client (tables_of marked.old.tables)
         (λ row message. IsSendable message.payload text form) }
-    ensures is { OnOk result ((book : Rulebook) → OnUp client (tables_of marked.old.tables)
-        (λ row message. IsVerdictFor book (situation_at row.desk) client message.payload (goes_by (route_by hostgroup text multiplex))
-        → IsDueThere hostgroup ordinal book client row message (tables_of marked.old.tables) (tables_of marked.new.tables))) }
+    ensures is { OnOk result ((ruling : Ruling) → OnUp client (tables_of marked.old.tables)
+        (λ row message. IsVerdictFor ruling.book (situation_at ruling.keys row.desk) client message.payload (goes_with (route_by hostgroup text multiplex) None)
+        → IsDueThere hostgroup ordinal ruling client row message (tables_of marked.old.tables) (tables_of marked.new.tables))) }
     ensures goes { OnOk result (GoesOn marked.old marked.new) }
 {
     let text = text_of(&text);
@@ -159,8 +168,10 @@ fn becomes_due(
 }
 
 /// The message that came up is taken up.
+#[tactic(auto, using(crate::proofs::Keys::same_texts))]
 pub(crate) fn take_up(
     marked: &mut MarkedTables,
+    texts: &mut Texts,
     service: &Service,
     servers: &Servers,
     clock: u64,
@@ -168,13 +179,21 @@ pub(crate) fn take_up(
     client: ClientNo,
     ordinal: u64,
 ) -> Result<Turn, OutOfMemory>
-    requires { IsUpOr ((tables_of marked.old.tables).clients client) }
+    requires up { IsUpOr ((tables_of marked.old.tables).clients client) }
     ensures is { IfOk result (λ turn. OnUp client (tables_of marked.old.tables)
-        (λ row message. IsTakenUp turn ordinal (book_of service.now) client row message
+        (λ row message. IsTakenUp turn ordinal (ruling_of service.now (key_at texts.new)) client row message
         (tables_of marked.old.tables) (tables_of marked.new.tables))) }
     ensures goes { OnOk result (GoesOn marked.old marked.new) }
+    ensures more { OnOk result (AreMore texts.old texts.new) }
 {
-    let Judgement { flag, verdict } = judged_of(alloc, service, servers, &marked.tables, client)?;
+    let Judgement { flag, verdict } = judged_of(
+        alloc,
+        service,
+        servers,
+        &marked.tables,
+        texts,
+        client,
+    )?;
     match verdict {
         Verdict::Quits => Ok(Turn::Stops(Stop::Quits { flag })),
         Verdict::Answers(told) => {
@@ -189,6 +208,28 @@ pub(crate) fn take_up(
         } => {
             becomes_due(
                 marked, client, ordinal, flag, hostgroup, text, multiplex, form, clock,
+            )?;
+            Ok(Turn::Due { hostgroup })
+        }
+        Verdict::Prepares {
+            hostgroup,
+            text,
+            multiplex,
+            class,
+        } => {
+            becomes_prepared(
+                marked, texts, alloc, client, ordinal, flag, hostgroup, &text, multiplex, class,
+                clock,
+            )?;
+            Ok(Turn::Due { hostgroup })
+        }
+        Verdict::Runs {
+            hostgroup,
+            multiplex,
+            named,
+        } => {
+            becomes_run(
+                marked, texts, alloc, client, ordinal, flag, hostgroup, multiplex, named, clock,
             )?;
             Ok(Turn::Due { hostgroup })
         }

@@ -1,6 +1,7 @@
 pub mod Fates
 pub mod Recording
 pub mod Covering
+pub mod Situated
 pub mod Judging
 pub mod Keeping
 pub mod Speaking
@@ -10,5 +11,6 @@ pub mod Gathering
 pub mod Working
 pub mod Tallying
 pub mod Router
+pub mod Learning
 pub mod Staying
 pub mod JudgedOn

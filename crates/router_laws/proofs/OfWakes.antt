@@ -1,4 +1,5 @@
 pub mod Aside
+pub mod Beginning
 pub mod Settled
 pub mod Reordered
 pub mod Later

@@ -42,10 +42,10 @@ module _ (setup : Setup) (plan : Plan) (log : Log) (e : Entry) (said x : Client)
   pub found_then : (choices : List Choice) (halt : Halt) (service : Service) (default : List ℕ) (c : ClientNo) (mid turned : Tabled)
       (turns : Turns choices halt service default c mid turned) (k : ℕ) → said.taken ≡ k → (takings : List Taking)
       → Covers setup c takings (takings_at setup plan (tale_of setup plan log) e)
-      → AreFoundAt choices halt service default c mid turned turns setup takings (messages plan said) said.taken
-      → AreFoundAt choices halt service default c mid turned turns setup (takings_at setup plan (tale_of setup plan log) e) (messages plan x) k
+      → AreFoundAt choices halt service default c mid turned turns setup plan takings (messages plan said) said.taken
+      → AreFoundAt choices halt service default c mid turned turns setup plan (takings_at setup plan (tale_of setup plan log) e) (messages plan x) k
   found_then choices halt service default c mid turned turns k taken takings covers found =
       let others : List Taking = takings_at setup plan (tale_of setup plan log) e in
-      subst (λ (ms : List Framed). AreFoundAt choices halt service default c mid turned turns setup others ms k) (sym messages_then)
-      (subst (AreFoundAt choices halt service default c mid turned turns setup others (messages plan said)) taken
-      (found_covered setup c takings others covers choices halt service default mid turned turns (messages plan said) said.taken found))
+      subst (λ (ms : List Framed). AreFoundAt choices halt service default c mid turned turns setup plan others ms k) (sym messages_then)
+      (subst (AreFoundAt choices halt service default c mid turned turns setup plan others (messages plan said)) taken
+      (found_covered setup plan c takings others covers choices halt service default mid turned turns (messages plan said) said.taken found))

@@ -196,8 +196,8 @@ module _ (service : Service) (default : List ℕ) (g : Ground) (t now : Tabled) 
     classes = classes;
     let_in = let_in;
     unrouted = ap (λ (n : ClientNo). g.plan.routes (record { client = n; ordinal = 0 })) it_number ∙ plans.unrouted;
-    chosen = subst (λ (n : ℕ). PlanHas choices halt g.plan n (name_of it (suc it.taken))) (sym now_is)
-        (subst (λ (m : MessageName). PlanHas choices halt g.plan (suc g.tale.moment) m) names plans.chosen);
+    chosen = subst (λ (n : ℕ). PlanHas choices halt g.setup.keys g.plan n (name_of it (suc it.taken))) (sym now_is)
+        (subst (λ (m : MessageName). PlanHas choices halt g.setup.keys g.plan (suc g.tale.moment) m) names plans.chosen);
     parted = subst (λ (n : ℕ). IsPartedIn parting service g it.number n) (sym now_is)
         (subst (λ (n : ClientNo). IsPartedIn parting service g n (suc g.tale.moment)) (sym it_number) plans.parted);
     ends = decided_it.ends;

@@ -280,10 +280,10 @@ module _ (service : Service) (default : List ℕ) (setup : Setup) (codes : Codes
     names : record { client = c; ordinal = ordinal } ≡ name_of said (suc said.taken)
     names = λ i. record { client = sym number i; ordinal = (so.next ∙ ap suc (arrived_there g client so.row own so.going)) i }
 
-    has_chosen : PlanHas choices halt plan freed.moment (name_of said (suc said.taken))
+    has_chosen : PlanHas choices halt setup.keys plan freed.moment (name_of said (suc said.taken))
     has_chosen =
-        subst (λ (n : ℕ). PlanHas choices halt plan n (name_of said (suc said.taken))) (sym now_moment)
-        (subst (λ (m : MessageName). PlanHas choices halt plan (suc g.tale.moment) m) names plans.chosen)
+        subst (λ (n : ℕ). PlanHas choices halt setup.keys plan n (name_of said (suc said.taken))) (sym now_moment)
+        (subst (λ (m : MessageName). PlanHas choices halt setup.keys plan (suc g.tale.moment) m) names plans.chosen)
 
   -- the tables, as it is told
   pub mid_stands : Stands service (fresher freed) so.heard → Stands service (to_look g (λ x. is_client c x || g.fresh x) freed) so.heard

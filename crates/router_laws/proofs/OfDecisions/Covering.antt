@@ -1,13 +1,18 @@
 -- What was found of a client's messages among some takings is so among others that cover these.
-use Rattle.std.specs.Prelude.{◌≡◌, ℕ, suc, Bool, length, slice_get, List, [], ◌∷◌, Option, Some, None}
-use Rattle.std.proofs.Common.{◌∙◌, subst}
+use Rattle.std.specs.Prelude.{◌≡◌, ℕ, suc, Bool, length, slice_get, take, List, [], ◌∷◌, Option, Some, None}
+use Rattle.std.proofs.Common.{refl, sym, ap, ◌∙◌, subst}
 use Rattle.mx_wire.specs.declared.entry.Entry.{Entry}
 use Rattle.packet_frame.specs.Packets.{Framed}
 use Rattle.client_session.specs.Setups.{Setup as Service}
+use Rattle.private_model.specs.Commands.{Reply}
 use Rattle.private_model.specs.Names.{ClientNo, MessageName}
 use Rattle.private_model.specs.View.{Setup}
-use Rattle.log_story.specs.Owed.{messages}
-use Rattle.log_story.specs.Plan.{Route}
+use Rattle.log_story.specs.Executes.{prepared_by}
+use Rattle.log_story.specs.Owed.{messages, name_of}
+use Rattle.log_story.specs.Plan.{Plan, Route}
+use Rattle.client_seat.specs.Numbers.{Numbered}
+use Rattle.client_seat.specs.Stands.{IsNumbered, Known}
+use Rattle.core_laws.proofs.OfPrepared.Keeping.{same_prepared}
 use Rattle.log_story.specs.Tale as tales
 use Rattle.log_story.specs.Tale.{Tale, view_of}
 use Rattle.client_desk.specs.declared.desk.Desk.{Desk}
@@ -18,49 +23,75 @@ use Rattle.core_stands.specs.Stands.{Stands}
 use Rattle.core_laws.proofs.OfClients.Finding.{seated_first}
 use Rattle.core_laws.specs.clients.Following.{IsFollowing, to_look}
 use Rattle.core_laws.specs.clients.Follows.{Parting}
-use Rattle.core_laws.specs.clients.Found.{AreFoundAt, IsFoundAt, IsFoundIn, IsLastAmong, desk_up}
+use Rattle.core_laws.specs.clients.Found.{AreFoundAt, IsFoundAt, IsFoundIn, IsLastAmong, desk_up, known_at}
 use Rattle.core_laws.specs.clients.Turns.{Answers, Choice, Ends, Goes, Halt, IsTurn, Quits, Rests, Turns, Waits}
 use Rattle.core_promises.proofs.Takings.{Covers, IsSeenAlike, entry_covers}
 use Rattle.router_promises.specs.Takings.{Taking, takings_at, takings_of}
 
-module _ (setup : Setup) (c : ClientNo) where
-  seen_in : (desk : Desk) (up : Framed) (user : List ℕ) (message : Option Framed) (old new : Tale) → IsSeenAlike setup c old new
-      → IsFoundIn c desk up user (view_of setup old) message → IsFoundIn c desk up user (view_of setup new) message
-  seen_in desk up user message old new seen found = record {
+-- What stands under a number stays so where replies are the same.
+numbered_seen : (x y : Known) (client : tales.Client) → y.plan ≡ x.plan → y.view.replies ≡ x.view.replies → (number : ℕ) (one : Numbered)
+    → IsNumbered x client (λ (key : ℕ). key) number one → IsNumbered y client (λ (key : ℕ). key) number one
+numbered_seen x y client plan replies number one is =
+    subst (λ (p : Plan). IsNumbered (record y { plan = p }) client (λ (key : ℕ). key) number one) (sym plan) (record {
+      ordinal = is.ordinal;
+      prepared =
+          same_prepared x.view y.view x.plan client client number 1 (messages x.plan client) refl
+          (λ k from below. ap (λ (r : MessageName → Option Reply). r (name_of client k)) replies)
+          ∙ is.prepared;
+      taken_up = is.taken_up;
+      bound = is.bound;
+      route = is.route;
+      went = is.went;
+      hostgroup = is.hostgroup;
+      multiplex = is.multiplex;
+      live = is.live;
+    })
+
+module _ (setup : Setup) (plan : Plan) (c : ClientNo) where
+  seen_in : (desk : Desk) (up : Framed) (message : Option Framed) (old new : Taking) → new.client ≡ old.client → IsSeenAlike setup c old.tale new.tale
+      → IsFoundIn c desk up setup plan old message → IsFoundIn c desk up setup plan new message
+  seen_in desk up message old new client seen found = record {
     message_is = found.message_is;
     login = found.login;
     place = seen.place ∙ found.place;
     held = λ h. (λ i. seen.held i (record { client = c; hostgroup = h; life = seen.life h i })) ∙ found.held h;
+    prepared = λ number one at.
+        subst (λ (x : tales.Client). IsNumbered (known_at setup plan new.tale) x (λ (key : ℕ). key) number one) (sym client)
+        (numbered_seen (known_at setup plan old.tale) (known_at setup plan new.tale) old.client refl seen.replies number one (found.prepared number one at));
+    unused = λ number greater.
+        subst (λ (x : tales.Client). prepared_by (view_of setup new.tale) plan x number 1 (take x.taken (messages plan x)) ≡ None) (sym client)
+        (same_prepared (view_of setup old.tale) (view_of setup new.tale) plan old.client old.client number 1 (take old.client.taken (messages plan old.client)) refl
+        (λ k from below. ap (λ (r : MessageName → Option Reply). r (name_of old.client k)) seen.replies)
+        ∙ found.unused number greater);
   }
 
   seen_at : (choice : Choice) (service : Service) (default : List ℕ) (before after : Tabled) (turn : IsTurn choice service default c before after)
-      (user : List ℕ) (message : Option Framed) (old new : Tale) → IsSeenAlike setup c old new
-      → IsFoundAt choice service default c before after turn user (view_of setup old) message
-      → IsFoundAt choice service default c before after turn user (view_of setup new) message
-  seen_at (Goes route) service default before after turn user message old new seen found =
-      seen_in (desk_up service default turn.up.row) turn.up.message user message old new seen found
-  seen_at (Answers payloads) service default before after turn user message old new seen found =
-      seen_in (desk_up service default turn.up.row) turn.up.message user message old new seen found
+      (message : Option Framed) (old new : Taking) → new.client ≡ old.client → IsSeenAlike setup c old.tale new.tale
+      → IsFoundAt choice service default c before after turn setup plan old message
+      → IsFoundAt choice service default c before after turn setup plan new message
+  seen_at (Goes route keyed) service default before after turn message old new client seen found =
+      seen_in (desk_up service default turn.up.row) turn.up.message message old new client seen found
+  seen_at (Answers payloads) service default before after turn message old new client seen found =
+      seen_in (desk_up service default turn.up.row) turn.up.message message old new client seen found
 
   module _ (takings others : List Taking) (covers : Covers setup c takings others) where
     last_covered : (halt : Halt) (name : MessageName) → IsLastAmong halt takings name → IsLastAmong halt others name
     last_covered Waits name last = tt
     last_covered Rests name last = tt
     last_covered Ends name last = tt
-    last_covered Quits name last = let other = covers name last.0 last.1 in (other.0, other.1.0)
+    last_covered Quits name last = let at = covers name last.0 last.1 in (at.other, at.among)
 
     pub found_covered : (choices : List Choice) (halt : Halt) (service : Service) (default : List ℕ) (before after : Tabled)
         (turns : Turns choices halt service default c before after) (said : List Framed) (k : ℕ)
-        → AreFoundAt choices halt service default c before after turns setup takings said k
-        → AreFoundAt choices halt service default c before after turns setup others said k
+        → AreFoundAt choices halt service default c before after turns setup plan takings said k
+        → AreFoundAt choices halt service default c before after turns setup plan others said k
     found_covered [] halt service default before after turns said k found = last_covered halt (message_at c (suc k)) found
     found_covered (choice ∷ rest) halt service default before after turns said k found =
-        let other = covers (message_at c (suc k)) found.0.taking found.0.among in (
+        let at = covers (message_at c (suc k)) found.0.taking found.0.among in (
           record {
-            taking = other.0;
-            among = other.1.0;
-            at = seen_at choice service default before turns.0 turns.1 (setup.accounts c).user (slice_get said k) found.0.taking.tale other.0.tale other.1.1
-                found.0.at;
+            taking = at.other;
+            among = at.among;
+            at = seen_at choice service default before turns.0 turns.1 (slice_get said k) found.0.taking at.other at.client at.seen found.0.at;
           },
           found_covered rest halt service default turns.0 after turns.2 said (suc k) found.1,
         )

@@ -3,12 +3,13 @@ use Rattle.std.specs.Prelude.{◌≡◌, ◌<◌, ◌≤◌, ◌+◌, ◌&&◌, 
 use Rattle.std.specs.Option.{option_map}
 use Rattle.std.proofs.Common.{refl, sym, ap, ◌∙◌, subst, arith}
 use Rattle.std.proofs.lemmas.Bool.{eq-eqb, eqb-false, eqb-true}
-use Rattle.std.proofs.lemmas.List.Elements.{All-head, All-tail}
-use Rattle.private_model.specs.Names.{MessageName}
+use Rattle.std.proofs.lemmas.List.Elements.{All-head, All-nil, All-tail, All-weaker}
+use Rattle.private_model.specs.Names.{ClientNo, MessageName}
+use Rattle.private_model.specs.Story.{Key}
 use Rattle.log_story.specs.Plan.{OwnAnswer, Plan, Route, own_at, word_at}
 use Rattle.core_laws.specs.clients.Chosen.{IsChosen, IsHaltIn, PlanHas}
-use Rattle.core_laws.specs.clients.Turns.{Answers, Choice, Ends, Goes, Halt, Quits, Rests, Waits}
-use Rattle.router_laws.specs.decisions.Deeds.{Fate, IsAlone, Word, ends_by, fate_in, fate_of, is_quitting, no_fate, said_at, taken_by}
+use Rattle.core_laws.specs.clients.Turns.{Answers, AreKeyed, Choice, Ends, Goes, Halt, Keyed, Quits, Rests, Waits}
+use Rattle.router_laws.specs.decisions.Deeds.{AreToldBy, Deeds, Fate, IsAlone, IsToldBy, Word, ends_by, fate_in, fate_of, is_quitting, no_fate, said_at, taken_by}
 
 pub none_some : {A B : Type 0} (x : Option A) (y : A) → x ≡ None → x ≡ Some y → B
 none_some x y isnt is = (let both : None ≡ Some y = sym isnt ∙ is in cc)
@@ -69,7 +70,7 @@ abbrev pub IsAtOnce : Fate → Type 0
 IsAtOnce fate = (answer : OwnAnswer) → fate.own ≡ Some answer → answer.from ≡ 0
 
 once_of : (choice : Choice) → IsAtOnce (fate_of choice)
-once_of (Goes route) answer is = none_some None answer refl is
+once_of (Goes route keyed) answer is = none_some None answer refl is
 once_of (Answers payloads) answer is =
     let same : record { from = 0; payloads = payloads } ≡ answer = cc in sym (ap (λ (a : OwnAnswer). a.from) same)
 
@@ -93,7 +94,7 @@ abbrev pub IsFateAlone : Fate → Type 0
 IsFateAlone fate = (route : Route) → fate.route ≡ Some route → route.mirror ≡ None
 
 alone_of : (choice : Choice) → IsAlone choice → IsFateAlone (fate_of choice)
-alone_of (Goes mine) alone route is = let same : mine ≡ route = cc in subst (λ (r : Route). r.mirror ≡ None) same alone
+alone_of (Goes mine keyed) alone route is = let same : mine ≡ route = cc in subst (λ (r : Route). r.mirror ≡ None) same alone
 alone_of (Answers payloads) alone route is = none_some None route refl is
 
 alone_if : (b : Bool) (fate : Fate) → (if b then Some no_fate else None) ≡ Some fate → IsFateAlone fate
@@ -125,10 +126,31 @@ later_is choice others halt first ordinal fate is = by (nat_eq ordinal first) re
       none_some (fate_in others halt (suc first) ordinal) fate (fate_before others halt (suc first) ordinal (omega (arith, at))) is
   by false other = is
 
-module _ (plan : Plan) (now : ℕ) (single : (m : MessageName) (route : Route) → plan.routes m ≡ Some route → route.mirror ≡ None) where
-  chosen_by : (choice : Choice) (name : MessageName) → HasFate plan now name (fate_of choice) → IsChosen choice plan now name
-  chosen_by (Goes route) name has = record { routed = has.routed; unanswered = has.own; single = single name route has.routed }
-  chosen_by (Answers payloads) name has = record { unrouted = has.routed; answered = has.own }
+-- and a story its keys
+abbrev pub IsKeyedBy : (keys : (number : ℕ) → Key) → Choice → Type 0
+IsKeyedBy keys (Goes route keyed) = AreKeyed keyed keys
+IsKeyedBy keys (Answers payloads) = Unit {0}
+
+pub told_keyed : (told : (number : ℕ) → Option Key) (keys : (number : ℕ) → Key) → ((number : ℕ) (key : Key) → told number ≡ Some key → keys number ≡ key)
+    → (choice : Choice) → IsToldBy told choice → IsKeyedBy keys choice
+told_keyed told keys fits (Goes route keyed) is =
+    All-weaker (λ (one : Keyed). told one.number ≡ Some one.key) (λ (one : Keyed). keys one.number ≡ one.key) (λ one has. fits one.number one.key has) keyed is
+told_keyed told keys fits (Answers payloads) is = tt
+
+-- of none there is nothing to tell
+pub none_told : (keys : (number : ℕ) → Option Key) (deeds : Deeds) → ((c : ClientNo) → deeds.calls c ≡ []) → AreToldBy keys deeds
+none_told keys deeds none c = subst (λ (choices : List Choice). All (IsToldBy keys) choices) (sym (none c)) (All-nil (IsToldBy keys))
+
+pub untaken_none : (choices : List Choice) (halt : Halt) → taken_by choices halt ≡ 0 → choices ≡ []
+untaken_none [] halt none = refl
+untaken_none (choice ∷ others) halt none = absurd (omega (arith, none))
+
+module _ (keys : (number : ℕ) → Key) (plan : Plan) (now : ℕ)
+    (single : (m : MessageName) (route : Route) → plan.routes m ≡ Some route → route.mirror ≡ None) where
+  chosen_by : (choice : Choice) (name : MessageName) → HasFate plan now name (fate_of choice) → IsKeyedBy keys choice → IsChosen choice keys plan now name
+  chosen_by (Goes route keyed) name has keyed_so =
+      (record { routed = has.routed; unanswered = has.own; single = single name route has.routed }, keyed_so)
+  chosen_by (Answers payloads) name has keyed_so = record { unrouted = has.routed; answered = has.own }
 
   halted_by : (halt : Halt) (name : MessageName) (later : Option (Option Word)) → word_at plan now name.client ≡ said_at now (ends_by halt later)
       → (is_quitting halt ≡ true → HasFate plan now name no_fate) → IsHaltIn halt plan now name
@@ -140,15 +162,16 @@ module _ (plan : Plan) (now : ℕ) (single : (m : MessageName) (route : Route) �
   pub plan_has : (choices : List Choice) (halt : Halt) (name : MessageName) (later : Option (Option Word))
       → word_at plan now name.client ≡ said_at now (ends_by halt later)
       → ((ordinal : ℕ) (fate : Fate) → fate_in choices halt name.ordinal ordinal ≡ Some fate → HasFate plan now (record name { ordinal = ordinal }) fate)
-      → PlanHas choices halt plan now name
-  plan_has [] halt name later says has =
+      → All (IsKeyedBy keys) choices → PlanHas choices halt keys plan now name
+  plan_has [] halt name later says has keyed =
       halted_by halt name later says
       (λ quits. has name.ordinal no_fate
       (λ i. if quits i && eq-eqb name.ordinal name.ordinal refl i then Some no_fate else None))
-  plan_has (choice ∷ others) halt name later says has = (
+  plan_has (choice ∷ others) halt name later says has keyed = (
     chosen_by choice name
         (has name.ordinal (fate_of choice)
-        (ap (λ (b : Bool). if b then Some (fate_of choice) else fate_in others halt (suc name.ordinal) name.ordinal) (eq-eqb name.ordinal name.ordinal refl))),
+        (ap (λ (b : Bool). if b then Some (fate_of choice) else fate_in others halt (suc name.ordinal) name.ordinal) (eq-eqb name.ordinal name.ordinal refl)))
+        (All-head (IsKeyedBy keys) choice others keyed),
     plan_has others halt (record name { ordinal = suc name.ordinal }) later says
-        (λ ordinal fate is. has ordinal fate (later_is choice others halt name.ordinal ordinal fate is)),
+        (λ ordinal fate is. has ordinal fate (later_is choice others halt name.ordinal ordinal fate is)) (All-tail (IsKeyedBy keys) choice others keyed),
   )

@@ -11,7 +11,7 @@ use Rattle.mx_wire.specs.declared.entry.Entry.TheVariants.{Opened}
 use Rattle.server_side.specs.Account.{Account as Login}
 use Rattle.private_model.specs.Commands.{Reply}
 use Rattle.private_model.specs.Names.{ClientNo, LinkId}
-use Rattle.private_model.specs.Story.{is_link_id}
+use Rattle.private_model.specs.Story.{Key, is_link_id}
 use Rattle.private_model.specs.View.{Setup}
 use Rattle.link_laws.specs.Stands.{Codes}
 use Rattle.log_story.specs.Headline.{tale_of}
@@ -28,12 +28,12 @@ use Rattle.core_laws.specs.entry.Cores.{with_entry}
 use Rattle.core_laws.specs.entry.Dues.{AreSilent}
 use Rattle.core_laws.specs.entry.Kinds.{IsStill, IsUneventful}
 use Rattle.core_laws.specs.entry.Tells.{Fits, IsOf, ground}
-use Rattle.router_laws.proofs.OfDecisions.Fates.{false_true}
+use Rattle.router_laws.proofs.OfDecisions.Fates.{IsKeyedBy, false_true, told_keyed}
 use Rattle.router_laws.proofs.OfDecisions.Keeping.{begun_among, login_among, more_known}
 use Rattle.router_laws.proofs.OfDecisions.Listing.{counted_below, is_tale_of, opened_new}
 use Rattle.router_laws.proofs.OfDecisions.Planning.{chosen_so, ends_so, given_so, login_so, nowhere_so, over_so, own_so, says_so, step_so, word_none, word_so, word_stays}
 use Rattle.router_laws.proofs.OfDecisions.Recording.{one_more}
-use Rattle.router_laws.specs.decisions.Deeds.{Counts, Deeds, Word, among, decided_by, decided_with, ends_by, ends_in, is_opened, known_with, login_at, said_at, word_of}
+use Rattle.router_laws.specs.decisions.Deeds.{AreToldBy, Counts, Deeds, IsToldBy, Word, among, decided_by, decided_with, ends_by, ends_in, is_opened, known_with, login_at, said_at, word_of}
 use Rattle.router_laws.specs.decisions.Plans.{AreUngiven, AreUnreplied, EndsNone, HasDeeds, KeepsAnswers, HasNewcomer, PlansSo}
 use Rattle.router_laws.specs.decisions.Records.{AreCountsOf, IsRecorded, IsStranger}
 
@@ -55,7 +55,7 @@ login_new log e deeds l login fits is = let both : None ≡ Some login = is in a
 module _ (default : List ℕ) (d : Decided) (n : Counts) (log : Log) (e : Entry) (all : Deeds) (setup : Setup) (codes : Codes) (plan : Plan)
     (recorded : IsRecorded d n log) (may : MayFollow log e) (of : IsOf (decided_with all n log e d) (length (with_entry log e)) plan)
     (fits : Fits d.keys setup codes plan default (tale_of setup plan log)) (counts : AreCountsOf n (tale_of setup plan log))
-    (ungiven : AreUngiven (ground setup codes plan d log) (λ c. is_some (all.given c))) where
+    (told : AreToldBy d.keys all) (ungiven : AreUngiven (ground setup codes plan d log) (λ c. is_some (all.given c))) where
   abbrev g : Ground
   g = ground setup codes plan d log
 
@@ -136,14 +136,19 @@ module _ (default : List ℕ) (d : Decided) (n : Counts) (log : Log) (e : Entry)
     gives_by None gives some = false_true false refl some
     gives_by (Some payload) gives some = (given_by payload gives).1
 
-    chosen_by : is_some (d.ends c) ≡ false → PlanHas (all.calls c) (all.halts c) plan now (name_of client (suc client.taken))
+    has_keys : All (IsKeyedBy setup.keys) (deeds.calls c)
+    has_keys =
+        subst (λ (choices : List Choice). All (IsKeyedBy setup.keys) choices) (sym (same_calls c came))
+        (All-weaker (IsToldBy d.keys) (IsKeyedBy setup.keys) (told_keyed d.keys setup.keys fits.keyed) (all.calls c) (told c))
+
+    chosen_by : is_some (d.ends c) ≡ false → PlanHas (all.calls c) (all.halts c) setup.keys plan now (name_of client (suc client.taken))
     chosen_by going =
-        let has : PlanHas (deeds.calls c) (deeds.halts c) plan now (record { client = c; ordinal = suc (n.taken c) }) =
-        chosen_so d n log e deeds moment plan recorded before of_now c fits.single (going_is (d.ends c) going) in
-        let had : PlanHas (all.calls c) (all.halts c) plan now (record { client = c; ordinal = suc (n.taken c) }) =
-        subst (λ (halt : Halt). PlanHas (all.calls c) halt plan now (record { client = c; ordinal = suc (n.taken c) })) (same_halts c came)
-        (subst (λ (choices : List Choice). PlanHas choices (deeds.halts c) plan now (record { client = c; ordinal = suc (n.taken c) })) (same_calls c came) has) in
-        subst (λ (k : ℕ). PlanHas (all.calls c) (all.halts c) plan now (record { client = c; ordinal = suc k })) (sym taken) had
+        let has : PlanHas (deeds.calls c) (deeds.halts c) setup.keys plan now (record { client = c; ordinal = suc (n.taken c) }) =
+        chosen_so d n log e deeds moment plan recorded before of_now setup.keys c fits.single has_keys (going_is (d.ends c) going) in
+        let had : PlanHas (all.calls c) (all.halts c) setup.keys plan now (record { client = c; ordinal = suc (n.taken c) }) =
+        subst (λ (halt : Halt). PlanHas (all.calls c) halt setup.keys plan now (record { client = c; ordinal = suc (n.taken c) })) (same_halts c came)
+        (subst (λ (choices : List Choice). PlanHas choices (deeds.halts c) setup.keys plan now (record { client = c; ordinal = suc (n.taken c) })) (same_calls c came) has) in
+        subst (λ (k : ℕ). PlanHas (all.calls c) (all.halts c) setup.keys plan now (record { client = c; ordinal = suc k })) (sym taken) had
 
     within_by : (ordinal : ℕ) → ordinal ≤ client.taken → ordinal ≤ n.taken c
     within_by ordinal within = omega (arith, within, taken)

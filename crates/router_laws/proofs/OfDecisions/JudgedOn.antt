@@ -20,33 +20,33 @@ use Rattle.core_laws.specs.clients.Following.{IsFollowing, to_look}
 use Rattle.core_laws.specs.clients.Follows.{Parting}
 use Rattle.core_laws.specs.clients.Turns.{Choice, Halt, Turns}
 use Rattle.core_promises.proofs.Takings.{Covers}
-use Rattle.core_promises.specs.Judges.{IsVerdictFor, Rulebook, situation_of}
-use Rattle.core_promises.specs.Ruled.{AreRuled}
+use Rattle.core_promises.specs.Judges.{Rulebook, situation_of}
+use Rattle.core_promises.specs.Ruled.{AreRuled, IsChoiceFor, Ruling}
 use Rattle.router_laws.specs.clients.Continues.{IsContinued, is_read_on}
 use Rattle.router_promises.specs.Takings.{Taking, takings_at, takings_of}
 use Rattle.router_laws.proofs.OfDecisions.Covering.{follow_covers, found_covered}
 use Rattle.router_laws.proofs.OfDecisions.Judging.{judged_by}
-use Rattle.router_laws.specs.decisions.Judges.{JudgedFrom, verdict_of}
+use Rattle.router_laws.specs.decisions.Judges.{HasKeys, JudgedFrom, all_keys}
 
 -- What is judged by turns that are ruled, of a client before them, among takings that cover its own.
 abbrev pub TurnsJudge : Type 0
 TurnsJudge =
-    (book : Rulebook) (service : Service) (default : List ℕ) (first client : tales.Client) (from : Tale) (g : Ground) (t now : Tabled)
+    (ruling : Ruling) (service : Service) (default : List ℕ) (first client : tales.Client) (from : Tale) (g : Ground) (t now : Tabled)
     (choices : List Choice) (halt : Halt) (c : ClientNo) → client.number ≡ c → IsTurning service default first from g t client
-    → PlanHas choices halt g.plan g.tale.moment (name_of client (suc client.taken)) → (turns : Turns choices halt service default c t now)
-    → AreRuled book choices halt service default c t now turns → (takings : List Taking)
+    → PlanHas choices halt g.setup.keys g.plan g.tale.moment (name_of client (suc client.taken)) → (turns : Turns choices halt service default c t now)
+    → AreRuled ruling choices halt service default c t now turns → HasKeys ruling.keys g.setup → (takings : List Taking)
     → Covers g.setup c (takings_of (length (messages g.plan client)) g.setup g.plan client g.tale) takings
-    → JudgedFrom book g.setup g.plan client takings client.taken choices halt
+    → JudgedFrom ruling.book g.setup g.plan client takings client.taken choices halt
 
 -- and by what follows for it, among all that is taken up at the entry
 abbrev pub FollowsJudge : Type 0
 FollowsJudge =
-    (book : Rulebook) (service : Service) (default : List ℕ) (g : Ground) (mid now : Tabled) (fresh : ClientNo → Bool) (e : Entry)
+    (ruling : Ruling) (service : Service) (default : List ℕ) (g : Ground) (mid now : Tabled) (fresh : ClientNo → Bool) (e : Entry)
     (client : tales.Client) (freed : Tale) (choices : List Choice) (halt : Halt) (parting : Parting) (c : ClientNo) → client.number ≡ c
     → IsFollowing service default g e client freed choices halt parting → Stands service (to_look g fresh freed) mid
     → ((m : MessageName) (route : Route) → g.plan.routes m ≡ Some route → route.mirror ≡ None)
-    → (turns : Turns choices halt service default c mid now) → AreRuled book choices halt service default c mid now turns
-    → JudgedFrom book g.setup g.plan client (takings_at g.setup g.plan g.tale e) client.taken choices halt
+    → (turns : Turns choices halt service default c mid now) → AreRuled ruling choices halt service default c mid now turns
+    → HasKeys ruling.keys g.setup → JudgedFrom ruling.book g.setup g.plan client (takings_at g.setup g.plan g.tale e) client.taken choices halt
 
 -- By the laws of what turns took up.
 
@@ -54,15 +54,15 @@ abbrev pub TurnsFind : Type 0
 TurnsFind =
     (service : Service) (default : List ℕ) (first client : tales.Client) (from : Tale) (g : Ground) (t now : Tabled)
     (choices : List Choice) (halt : Halt) (c : ClientNo) → client.number ≡ c → IsTurning service default first from g t client
-    → PlanHas choices halt g.plan g.tale.moment (name_of client (suc client.taken)) → (turns : Turns choices halt service default c t now)
+    → PlanHas choices halt g.setup.keys g.plan g.tale.moment (name_of client (suc client.taken)) → (turns : Turns choices halt service default c t now)
     → (most : ℕ) → length (messages g.plan client) ≤ most + client.taken
-    → AreFoundAt choices halt service default c t now turns g.setup (takings_of most g.setup g.plan client g.tale) (messages g.plan client)
+    → AreFoundAt choices halt service default c t now turns g.setup g.plan (takings_of most g.setup g.plan client g.tale) (messages g.plan client)
     client.taken
 
 pub turns_judge : TurnsFind → TurnsJudge
-turns_judge find book service default first client from g t now choices halt c number turning has turns ruled takings covers =
-    judged_by book g.setup g.plan client takings client.taken choices halt service default c number t now turns
-    (found_covered g.setup c (takings_of (length (messages g.plan client)) g.setup g.plan client g.tale) takings covers choices halt service default t now turns
+turns_judge find ruling service default first client from g t now choices halt c number turning has turns ruled keyed takings covers =
+    judged_by ruling g.setup g.plan client keyed takings client.taken choices halt service default c number t now turns
+    (found_covered g.setup g.plan c (takings_of (length (messages g.plan client)) g.setup g.plan client g.tale) takings covers choices halt service default t now turns
     (messages g.plan client) client.taken
     (find service default first client from g t now choices halt c number turning has turns (length (messages g.plan client)) (omega arith))) ruled
 
@@ -72,13 +72,13 @@ FollowsFind =
     (freed : Tale) (choices : List Choice) (halt : Halt) (parting : Parting) (c : ClientNo) → client.number ≡ c
     → IsFollowing service default g e client freed choices halt parting → Stands service (to_look g fresh freed) mid
     → (turns : Turns choices halt service default c mid now)
-    → AreFoundAt choices halt service default c mid now turns g.setup (takings_of (length (messages g.plan client)) g.setup g.plan client freed)
+    → AreFoundAt choices halt service default c mid now turns g.setup g.plan (takings_of (length (messages g.plan client)) g.setup g.plan client freed)
     (messages g.plan client) client.taken
 
 pub follows_judge : FollowsFind → FollowsJudge
-follows_judge find book service default g mid now fresh e client freed choices halt parting c number following stands single turns ruled =
-    judged_by book g.setup g.plan client (takings_at g.setup g.plan g.tale e) client.taken choices halt service default c number mid now turns
-    (found_covered g.setup c (takings_of (length (messages g.plan client)) g.setup g.plan client freed) (takings_at g.setup g.plan g.tale e)
+follows_judge find ruling service default g mid now fresh e client freed choices halt parting c number following stands single turns ruled keyed =
+    judged_by ruling g.setup g.plan client keyed (takings_at g.setup g.plan g.tale e) client.taken choices halt service default c number mid now turns
+    (found_covered g.setup g.plan c (takings_of (length (messages g.plan client)) g.setup g.plan client freed) (takings_at g.setup g.plan g.tale e)
     (follow_covers service default g mid fresh e client freed choices halt parting following stands single c number) choices halt service default mid now turns
     (messages g.plan client) client.taken
     (find service default g mid now fresh e client freed choices halt parting c number following stands turns)) ruled
@@ -98,7 +98,7 @@ judged_alike book setup plan takings was now number same k (choice ∷ others) h
     taking = judged.0.taking;
     among = subst (λ (c : ClientNo). IsAmong takings (record { client = c; ordinal = suc k }) judged.0.taking) (sym number) judged.0.among;
     is = λ message at.
-        subst (λ (c : ClientNo). IsVerdictFor book (situation_of setup judged.0.taking.tale c) c message.payload (verdict_of choice)) (sym number)
+        subst (λ (c : ClientNo). IsChoiceFor choice book (situation_of setup plan judged.0.taking) (all_keys setup) c message.payload) (sym number)
         (judged.0.is message (subst (λ (ms : List Framed). slice_get ms k ≡ Some message) same at));
   },
   judged_alike book setup plan takings was now number same (suc k) others halt judged.1,

@@ -11,12 +11,13 @@ use Rattle.packet_frame.specs.Packets.{Framed}
 use Rattle.client_session.specs.Setups.{Setup as Serving}
 use Rattle.private_model.specs.Names.{ClientNo, MessageName}
 use Rattle.private_model.proofs.Maps.{client_of}
+use Rattle.private_model.specs.Story.{Key}
 use Rattle.private_model.specs.View.{Setup}
 use Rattle.link_laws.specs.Stands.{Codes}
 use Rattle.log_story.specs.Headline.{tale_of}
 use Rattle.log_story.specs.Owed.{messages, name_of, talk_of}
 use Rattle.log_story.specs.Plan.{OwnAnswer, Plan, Route, own_at}
-use Rattle.log_story.specs.Tale.{Client, Tale, first_tale, view_of}
+use Rattle.log_story.specs.Tale.{Client, Tale, first_tale}
 use Rattle.client_desk.specs.declared.desk.Desk.{Desk}
 use Rattle.desk_laws.specs.Stands.{message_at}
 use Rattle.log_story.specs.Telling.{tale_step}
@@ -33,10 +34,11 @@ use Rattle.core_laws.specs.clients.Turns.{Answers, Choice, Ends, Goes, Halt, IsT
 use Rattle.core_laws.specs.entry.Cores.{with_entry}
 use Rattle.core_laws.specs.entry.Tells.{Fits, IsOf}
 use Rattle.core_promises.proofs.Takings.{taken_before, taken_now}
-use Rattle.core_promises.specs.Judges.{AreJudged, IsJudged, IsVerdictFor, Rulebook, Situation, goes_by, situation_of}
-use Rattle.core_promises.specs.Ruled.{AreRuled, IsRuled, book_of, situation_at}
+use Rattle.core_promises.proofs.Knowing.{KnowsMore, routed_within, verdict_within}
+use Rattle.core_promises.specs.Judges.{AreJudged, IsJudged, IsRoutedFor, IsVerdictFor, Rulebook, Situation, situation_of}
+use Rattle.core_promises.specs.Ruled.{AreRuled, IsChoiceFor, IsRuled, Ruling, book_of, situation_at}
 use Rattle.router_promises.specs.Takings.{Taking, takings_at}
-use Rattle.router_promises.specs.Verdicts.{Tells, Verdict}
+use Rattle.router_promises.specs.Verdicts.{Tells}
 use Rattle.shared_router.proofs.Furthering.{IsWithin, within_step}
 use Rattle.shared_router.proofs.Looked.{Each, each-all}
 use Rattle.shared_router.proofs.Numbered.{AreNumbered}
@@ -47,32 +49,37 @@ use Rattle.router_laws.proofs.OfDecisions.Listing.{is_tale_of}
 use Rattle.router_laws.proofs.OfDecisions.Planning.{fate_so, own_so}
 use Rattle.router_laws.proofs.OfDecisions.Recording.{one_more}
 use Rattle.router_laws.specs.clients.Continues.{HasCome, WasThere}
-use Rattle.router_laws.specs.decisions.Judges.{AreSent, IsJudgedAs, IsJudgedThen, JudgedFrom, JudgesThen}
+use Rattle.router_laws.proofs.OfDecisions.Situated.{situated}
+use Rattle.router_laws.specs.decisions.Judges.{AreSent, HasKeys, IsJudgedAs, IsJudgedThen, JudgedFrom, JudgesThen, all_keys}
 use Rattle.router_laws.specs.decisions.Deeds.{Counts, Deeds, Fate, Word, among, counts_with, decided_by, decided_with, fate_at, fate_in, fate_of, is_quitting, known_with, no_deeds, no_fate, parting, taken_by, taking}
 use Rattle.router_laws.specs.decisions.Records.{AreCountsOf, IsRecorded}
 
 -- Of a client's messages that came up at its turns, where these are by the verdict.
 
-module _ (book : Rulebook) (setup : Setup) (plan : Plan) (client : Client) where
-  -- as it was found to stand
-  stood_as : (c : ClientNo) (desk : Desk) (up : Framed) (tale : Tale) (found : Option Framed)
-      → IsFoundIn c desk up (setup.accounts c).user (view_of setup tale) found → situation_at desk ≡ situation_of setup tale c
-  stood_as c desk up tale found at = λ i. record {
-    user = at.login i;
-    place = sym at.place i;
-    pins = λ h. (sym (at.held h) i).pin;
-    homes = λ h. (sym (at.held h) i).home;
-  }
+-- whose client is that of the name
+taken_of : (takings : List Taking) (name : MessageName) (taking : Taking) → IsAmong takings name taking → taking.client.number ≡ name.client
+taken_of takings name taking among = ap (λ (m : MessageName). m.client) among.named
 
-  judged_as : (c : ClientNo) → client.number ≡ c → (desk : Desk) (up : Framed) (tale : Tale) (found : Option Framed)
-      → IsFoundIn c desk up (setup.accounts c).user (view_of setup tale) found → (message : Framed) → found ≡ Some message → (verdict : Verdict)
-      → IsVerdictFor book (situation_at desk) c up.payload verdict
-      → IsVerdictFor book (situation_of setup tale client.number) client.number message.payload verdict
-  judged_as c number desk up tale found at message is verdict ruled =
-      subst (λ (m : Framed). IsVerdictFor book (situation_of setup tale client.number) client.number m.payload verdict)
+-- by more keys, and of more that is so
+choice_within : (book : Rulebook) (one other : Situation) → KnowsMore one other → (keys : (key : ℕ) → Option Key) (setup : Setup) → HasKeys keys setup
+    → (c : ClientNo) (payload : List ℕ) (choice : Choice) → IsChoiceFor choice book one keys c payload
+    → IsChoiceFor choice book other (all_keys setup) c payload
+choice_within book one other within keys setup has c payload (Goes route keyed) for =
+    routed_within book one other within keys (all_keys setup) (λ k key is. ap (λ (x : Key). Some x) (has k key is)) c payload route for
+choice_within book one other within keys setup has c payload (Answers payloads) for =
+    verdict_within book one other within c payload (Tells payloads) for
+
+module _ (ruling : Ruling) (setup : Setup) (plan : Plan) (client : Client) (has : HasKeys ruling.keys setup) where
+  judged_as : (c : ClientNo) → client.number ≡ c → (desk : Desk) (up : Framed) (taking : Taking) → taking.client.number ≡ c → (found : Option Framed)
+      → IsFoundIn c desk up setup plan taking found → (message : Framed) → found ≡ Some message → (choice : Choice)
+      → IsChoiceFor choice ruling.book (situation_at ruling.keys desk) ruling.keys c up.payload
+      → IsChoiceFor choice ruling.book (situation_of setup plan taking) (all_keys setup) client.number message.payload
+  judged_as c number desk up taking of found at message is choice ruled =
+      subst (λ (m : Framed). IsChoiceFor choice ruling.book (situation_of setup plan taking) (all_keys setup) client.number m.payload)
       (same_Some up message (sym at.message_is ∙ is))
-      (subst (λ (x : ClientNo). IsVerdictFor book (situation_of setup tale x) x up.payload verdict) (sym number)
-      (subst (λ (s : Situation). IsVerdictFor book s c up.payload verdict) (stood_as c desk up tale found at) ruled))
+      (subst (λ (x : ClientNo). IsChoiceFor choice ruling.book (situation_of setup plan taking) (all_keys setup) x up.payload) (sym number)
+      (choice_within ruling.book (situation_at ruling.keys desk) (situation_of setup plan taking)
+      (situated setup plan taking ruling.keys has c of desk up found at) ruling.keys setup has c up.payload choice ruled))
 
   its_name : (takings : List Taking) (c : ClientNo) → client.number ≡ c → (k : ℕ) (taking : Taking) → IsAmong takings (message_at c (suc k)) taking
       → IsAmong takings (name_of client (suc k)) taking
@@ -80,27 +87,27 @@ module _ (book : Rulebook) (setup : Setup) (plan : Plan) (client : Client) where
 
   judged_one : (choice : Choice) (service : Serving) (default : List ℕ) (c : ClientNo) → client.number ≡ c → (old new : Tabled)
       (turn : IsTurn choice service default c old new) (takings : List Taking) (k : ℕ)
-      → IsFound choice service default c old new turn setup takings (slice_get (messages plan client) k) k
-      → IsRuled book choice service default c old new turn → IsJudgedAs book setup plan client takings k choice
-  judged_one (Goes route) service default c number old new turn takings k found ruled = record {
+      → IsFound choice service default c old new turn setup plan takings (slice_get (messages plan client) k) k
+      → IsRuled ruling choice service default c old new turn → IsJudgedAs ruling.book setup plan client takings k choice
+  judged_one (Goes route keyed) service default c number old new turn takings k found ruled = record {
     taking = found.taking;
     among = its_name takings c number k found.taking found.among;
     is = λ message at.
-        judged_as c number (desk_up service default turn.up.row) turn.up.message found.taking.tale (slice_get (messages plan client) k) found.at message at
-        (goes_by route) ruled;
+        judged_as c number (desk_up service default turn.up.row) turn.up.message found.taking
+        (taken_of takings (message_at c (suc k)) found.taking found.among) (slice_get (messages plan client) k) found.at message at (Goes route keyed) ruled;
   }
   judged_one (Answers payloads) service default c number old new turn takings k found ruled = record {
     taking = found.taking;
     among = its_name takings c number k found.taking found.among;
     is = λ message at.
-        judged_as c number (desk_up service default turn.up.row) turn.up.message found.taking.tale (slice_get (messages plan client) k) found.at message at
-        (Tells payloads) ruled;
+        judged_as c number (desk_up service default turn.up.row) turn.up.message found.taking
+        (taken_of takings (message_at c (suc k)) found.taking found.among) (slice_get (messages plan client) k) found.at message at (Answers payloads) ruled;
   }
 
   pub judged_by : (takings : List Taking) (k : ℕ) (choices : List Choice) (halt : Halt) (service : Serving) (default : List ℕ) (c : ClientNo)
       → client.number ≡ c → (old new : Tabled) (turns : Turns choices halt service default c old new)
-      → AreFoundAt choices halt service default c old new turns setup takings (messages plan client) k
-      → AreRuled book choices halt service default c old new turns → JudgedFrom book setup plan client takings k choices halt
+      → AreFoundAt choices halt service default c old new turns setup plan takings (messages plan client) k
+      → AreRuled ruling choices halt service default c old new turns → JudgedFrom ruling.book setup plan client takings k choices halt
   judged_by takings k [] halt service default c number old new turns found ruled =
       subst (λ (n : ClientNo). IsLastAmong halt takings (message_at n (suc k))) (sym number) found
   judged_by takings k (choice ∷ others) halt service default c number old new turns found ruled = (
@@ -108,25 +115,25 @@ module _ (book : Rulebook) (setup : Setup) (plan : Plan) (client : Client) where
     judged_by takings (suc k) others halt service default c number turns.0 new turns.2 found.1 ruled.1,
   )
 
-  -- so what is decided of each is
-
+-- So what is decided of each is.
+module _ (book : Rulebook) (setup : Setup) (plan : Plan) (client : Client) where
   pub record IsFated (takings : List Taking) (k : ℕ) (fate : Fate) : Type 0 where
     pub taking : Taking
     pub among : IsAmong takings (name_of client (suc k)) taking
     pub goes : (message : Framed) (route : Route) → slice_get (messages plan client) k ≡ Some message → fate.route ≡ Some route
-        → IsVerdictFor book (situation_of setup taking.tale client.number) client.number message.payload (goes_by route)
+        → IsRoutedFor book (situation_of setup plan taking) (all_keys setup) client.number message.payload route
     pub tells : (message : Framed) (payloads : List (List ℕ)) → slice_get (messages plan client) k ≡ Some message
         → option_map (λ (answer : OwnAnswer). answer.payloads) fate.own ≡ Some payloads
-        → IsVerdictFor book (situation_of setup taking.tale client.number) client.number message.payload (Tells payloads)
+        → IsVerdictFor book (situation_of setup plan taking) client.number message.payload (Tells payloads)
 
   module _ (takings : List Taking) where
     judged_first : (k : ℕ) (choice : Choice) → IsJudgedAs book setup plan client takings k choice → IsFated takings k (fate_of choice)
-    judged_first k (Goes mine) judged = record {
+    judged_first k (Goes mine keyed) judged = record {
       taking = judged.taking;
       among = judged.among;
       goes = λ message route at is.
-          subst (λ (r : Route). IsVerdictFor book (situation_of setup judged.taking.tale client.number) client.number message.payload (goes_by r))
-          (same_Some mine route is) (judged.is message at);
+          subst (IsRoutedFor book (situation_of setup plan judged.taking) (all_keys setup) client.number message.payload) (same_Some mine route is)
+          (judged.is message at);
       tells = λ message payloads at is. none_some None payloads refl is;
     }
     judged_first k (Answers mine) judged = record {
@@ -134,7 +141,7 @@ module _ (book : Rulebook) (setup : Setup) (plan : Plan) (client : Client) where
       among = judged.among;
       goes = λ message route at is. none_some None route refl is;
       tells = λ message payloads at is.
-          subst (λ (p : List (List ℕ)). IsVerdictFor book (situation_of setup judged.taking.tale client.number) client.number message.payload (Tells p))
+          subst (λ (p : List (List ℕ)). IsVerdictFor book (situation_of setup plan judged.taking) client.number message.payload (Tells p))
           (same_Some mine payloads is) (judged.is message at);
     }
 

@@ -1,18 +1,19 @@
 -- What each plan has that has what is decided at an entry.
-use Rattle.std.specs.Prelude.{◌≡◌, ◌<◌, ◌≤◌, ◌&&◌, ℕ, suc, Bool, true, false, is_some, nat_eq, nat_le, if◌then◌else◌, length, List, [], ◌∷◌, Option, Some, None}
+use Rattle.std.specs.Prelude.{◌≡◌, ◌<◌, ◌≤◌, ◌&&◌, ℕ, suc, Bool, true, false, All, is_some, nat_eq, nat_le, if◌then◌else◌, length, List, [], ◌∷◌, Option, Some, None}
 use Rattle.std.specs.Option.{option_and_then, option_map, option_map_or, option_or}
 use Rattle.std.proofs.Common.{refl, sym, ap, ◌∙◌, subst, arith}
 use Rattle.std.proofs.lemmas.Bool.{eq-eqb}
 use Rattle.mx_wire.specs.Log.{Log}
 use Rattle.mx_wire.specs.declared.entry.Entry.{Entry}
 use Rattle.private_model.specs.Names.{ClientNo, LinkId, MessageName}
+use Rattle.private_model.specs.Story.{Key}
 use Rattle.server_side.specs.Account.{Account as Login}
 use Rattle.log_story.specs.Plan.{LastWord, OwnAnswer, Plan, Route, StepText, gives_up, own_at, word_at}
 use Rattle.step_laws.specs.Steps.{ends_now}
 use Rattle.tale_world.specs.Decided.{Decided}
 use Rattle.core_laws.specs.clients.Chosen.{PlanHas}
 use Rattle.core_laws.specs.entry.Tells.{IsOf}
-use Rattle.router_laws.proofs.OfDecisions.Fates.{HasFate, false_true, fate_before, fates_at_once, none_some, plan_has}
+use Rattle.router_laws.proofs.OfDecisions.Fates.{HasFate, IsKeyedBy, false_true, fate_before, fates_at_once, none_some, plan_has}
 use Rattle.router_laws.proofs.OfDecisions.Recording.{or_new, or_stays, own_given, own_new, own_open, own_stays, up_with}
 use Rattle.router_laws.specs.decisions.Deeds.{Counts, Deeds, Fate, Word, begun_at, decided_by, ends_in, fate_at, login_at, said_at, step_with, word_of, word_with}
 use Rattle.router_laws.specs.decisions.Records.{IsRecorded, IsUndecided}
@@ -229,11 +230,11 @@ module _ (d : Decided) (n : Counts) (log : Log) (e : Entry) (deeds : Deeds) (mom
         (of.told c (record { from = now; place = word.place; payloads = word.payloads }) (new_words c going ∙ ap (said_at now) is)) (omega arith)
 
   -- Its turns.
-  pub chosen_so : (c : ClientNo) → ((m : MessageName) (route : Route) → plan.routes m ≡ Some route → route.mirror ≡ None) → d.ends c ≡ None
-      → PlanHas (deeds.calls c) (deeds.halts c) plan now (record { client = c; ordinal = suc (n.taken c) })
-  chosen_so c single going =
-      plan_has plan now single (deeds.calls c) (deeds.halts c) (record { client = c; ordinal = suc (n.taken c) }) (deeds.ends c) (word_so c going)
-      (λ ordinal fate is. fate_here (record { client = c; ordinal = ordinal }) fate is)
+  pub chosen_so : (keys : (number : ℕ) → Key) (c : ClientNo) → ((m : MessageName) (route : Route) → plan.routes m ≡ Some route → route.mirror ≡ None)
+      → All (IsKeyedBy keys) (deeds.calls c) → d.ends c ≡ None → PlanHas (deeds.calls c) (deeds.halts c) keys plan now (record { client = c; ordinal = suc (n.taken c) })
+  chosen_so keys c single keyed going =
+      plan_has keys plan now single (deeds.calls c) (deeds.halts c) (record { client = c; ordinal = suc (n.taken c) }) (deeds.ends c) (word_so c going)
+      (λ ordinal fate is. fate_here (record { client = c; ordinal = ordinal }) fate is) keyed
 
   pub nowhere_so : (c : ClientNo) → plan.routes (record { client = c; ordinal = 0 }) ≡ None
   nowhere_so c =

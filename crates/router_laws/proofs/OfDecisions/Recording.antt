@@ -141,7 +141,7 @@ module _ (d : Decided) (n : Counts) (log : Log) (e : Entry) (deeds : Deeds) (now
     logins = λ l login is. or_stays (d.logins l) (login_at e deeds l) login is;
     routes = λ m route is. or_stays (d.routes m) (option_map (λ (fate : Fate). fate.route) (fate_at deeds n m)) route is;
     steps = λ l k step is. step_stays (begun_at log e deeds l) (n.begun l) k (d.steps l k) step is;
-    keys = λ k key is. or_stays (d.keys k) (deeds.keys k) key is;
+    keys = λ k key is. is;
     answered = λ m answer is. own_stays deeds n now m (d.own m) answer is;
     unanswered = unanswered_then;
     ended = λ c at is. or_stays (d.ends c) (option_map (λ (end : Option Word). now) (ends_in deeds c)) at is;

@@ -7,6 +7,8 @@ use Rattle.mx_wire.specs.Moments.{lawful-more}
 use Rattle.mx_wire.specs.Tells.{MayFollow}
 use Rattle.mx_wire.specs.declared.entry.Entry.{Entry}
 use Rattle.core_service.specs.declared.service.Service.{Service}
+use Rattle.core_texts.specs.Texts.{key_at}
+use Rattle.core_texts.specs.declared.texts.Texts.{Texts}
 use Rattle.client_session.specs.Setups.{Setup as Serving}
 use Rattle.private_model.specs.Names.{ClientNo}
 use Rattle.private_model.specs.View.{Setup}
@@ -25,7 +27,7 @@ use Rattle.core_laws.specs.entry.Grows.{IsHeardMore, IsMoreBy}
 use Rattle.core_laws.specs.entry.Safe.{IsSafe}
 use Rattle.core_laws.specs.entry.Tells.{Fits, IsOf, ground}
 use Rattle.router_laws.proofs.OfDecisions.Judging.{judged_then}
-use Rattle.router_laws.proofs.OfDecisions.Fates.{false_true}
+use Rattle.router_laws.proofs.OfDecisions.Fates.{false_true, none_some}
 use Rattle.router_laws.proofs.OfDecisions.Gathering.{plans_so}
 use Rattle.router_laws.proofs.OfDecisions.Keeping.{first_so, recorded_then}
 use Rattle.router_laws.proofs.OfDecisions.Recording.{is_more, one_more}
@@ -65,8 +67,8 @@ fits_before d n log e deeds setup codes plan default recorded heard fits = recor
   single = fits.single;
 }
 
-module _ (service : Service) (log : Log) (e : Entry) (deeds : Deeds) (t now : Tabled) (roomy room : ClientNo → Bool)
-    (router : IsRouter service log t roomy) (may : MayFollow log e) (ours : AreOurs (rules_of service.rules) deeds)
+module _ {texts : Texts} (service : Service) (log : Log) (e : Entry) (deeds : Deeds) (t now : Tabled) (roomy room : ClientNo → Bool)
+    (router : IsRouter service texts log t roomy) (may : MayFollow log e) (ours : AreOurs (rules_of service.rules) texts deeds)
     (waits : WaitsThen service log e router.core.decided) (judges : JudgesThen service log e router.core.decided router.counts deeds)
     (goes : GoesSoBy service.setup service.default_schema log e router.core.decided router.counts deeds t now roomy room) where
   abbrev new : Decided
@@ -112,21 +114,22 @@ module _ (service : Service) (log : Log) (e : Entry) (deeds : Deeds) (t now : Ta
       judged_then service log e router.core.decided router.counts deeds router.recorded setup plan of (router.counted setup codes plan then fitted)
       (counts_now setup codes plan of fits) (router.judged setup codes plan then fitted) (judges setup codes plan of fits)
 
-  pub router_goes_on : AreOpenJust (with_entry log e) now → IsRouter service (with_entry log e) now room
+  pub router_goes_on : AreOpenJust (with_entry log e) now → IsRouter service texts (with_entry log e) now room
   router_goes_on open_just = record {
     core = record { decided = new; rests = rests_now; safe = safe_now; written = written_now; opened = λ l there. sym (open_just l) ∙ there };
     counts = counts_with deeds router.counts log e;
-    recorded = recorded_then router.core.decided router.counts log e deeds router.recorded (ours_alone (rules_of service.rules) deeds ours);
+    recorded = recorded_then router.core.decided router.counts log e deeds router.recorded (ours_alone (rules_of service.rules) texts deeds ours);
     counted = counts_now;
+    known = record { told = router.known.told; later = router.known.later };
     lawful = lawful-more MayFollow log e router.lawful may;
     open_just = open_just;
-    spoken = spoken_then (rules_of service.rules) router.core.decided router.counts log e deeds router.spoken ours;
+    spoken = spoken_then (rules_of service.rules) texts router.core.decided router.counts log e deeds router.spoken ours;
     waited = waited_now;
     judged = judged_now;
   }
 
-module _ (service : Service) (log : Log) (e : Entry) (t : Tabled) (roomy : ClientNo → Bool) (deeds : Deeds) (setup : Setup)
-    (codes : Codes) (plan : Plan) (router : IsRouter service log t roomy) (may : MayFollow log e)
+module _ {texts : Texts} (service : Service) (log : Log) (e : Entry) (t : Tabled) (roomy : ClientNo → Bool) (deeds : Deeds) (setup : Setup)
+    (codes : Codes) (plan : Plan) (router : IsRouter service texts log t roomy) (may : MayFollow log e)
     (of : IsOf (decided_with deeds router.counts log e router.core.decided) (length (with_entry log e)) plan)
     (fits : Fits (decided_with deeds router.counts log e router.core.decided).keys setup codes plan service.default_schema (tale_of setup plan (with_entry log e)))
     (heard : All (λ (client : Client). IsHeardMore (tale_of setup plan (with_entry log e)) client) (tale_of setup plan log).clients) where
@@ -136,7 +139,7 @@ module _ (service : Service) (log : Log) (e : Entry) (t : Tabled) (roomy : Clien
   fits_old : Fits router.core.decided.keys setup codes plan service.default_schema (tale_of setup plan log)
   fits_old = fits_before router.core.decided router.counts log e deeds setup codes plan service.default_schema router.recorded heard fits
 
-  pub stood_before : IsBefore service log e t roomy router deeds setup codes plan
+  pub stood_before : IsBefore service texts log e t roomy router deeds setup codes plan
   stood_before = record {
     of = of_old;
     fits = fits_old;
@@ -148,9 +151,9 @@ module _ (service : Service) (log : Log) (e : Entry) (t : Tabled) (roomy : Clien
         (router.counted setup codes plan of_old fits_old);
   }
 
-pub changed : (service : Service) (log : Log) (t now : Tabled) (roomy room : ClientNo → Bool)
-    → IsRouter service log t roomy → ((g : Ground) → Rests service.setup g t roomy → Rests service.setup g now room) → AreOpenJust log now
-    → IsRouter service log now room
+pub changed : {texts : Texts} (service : Service) (log : Log) (t now : Tabled) (roomy room : ClientNo → Bool)
+    → IsRouter service texts log t roomy → ((g : Ground) → Rests service.setup g t roomy → Rests service.setup g now room) → AreOpenJust log now
+    → IsRouter service texts log now room
 changed service log t now roomy room router rests open_just = record {
   core = record {
     decided = router.core.decided;
@@ -163,6 +166,7 @@ changed service log t now roomy room router rests open_just = record {
   counts = router.counts;
   recorded = router.recorded;
   counted = router.counted;
+  known = router.known;
   lawful = router.lawful;
   open_just = open_just;
   spoken = router.spoken;
@@ -184,8 +188,8 @@ roomier service g t roomy room more rests = record {
   by c full true is = false_true (room c) full (more c is)
   by c full false is = is
 
-pub grows_roomier : (service : Service) (log : Log) (t : Tabled) (roomy room : ClientNo → Bool)
-    → IsRouter service log t roomy → ((c : ClientNo) → roomy c ≡ true → room c ≡ true) → IsRouter service log t room
+pub grows_roomier : {texts : Texts} (service : Service) (log : Log) (t : Tabled) (roomy room : ClientNo → Bool)
+    → IsRouter service texts log t roomy → ((c : ClientNo) → roomy c ≡ true → room c ≡ true) → IsRouter service texts log t room
 grows_roomier service log t roomy room router more =
     changed service log t t roomy room router (λ g rests. roomier service.setup g t roomy room more rests) router.open_just
 
@@ -211,11 +215,11 @@ not_by_now : (at : Option ℕ) → ((n : ℕ) → at ≡ Some n → 0 < n) → i
 not_by_now None later = refl
 not_by_now (Some n) later = let more : 0 < n = later n refl in grind arith
 
-pub router_of_none : (service : Service) (roomy : ClientNo → Bool)
+pub router_of_none : (service : Service) (texts : Texts) (roomy : ClientNo → Bool) → ((number : ℕ) → key_at texts number ≡ None)
     → ((setup : Setup) (codes : Codes) (plan : Plan) → plan.service ≡ service.setup → plan.room ≡ 1048576
     → ((c : ClientNo) → is_by_now 0 (plan.ends c) ≡ false) → Rests service.setup (first_ground setup codes plan) no_tables roomy)
-    → IsRouter service [] no_tables roomy
-router_of_none service roomy stands = record {
+    → IsRouter service texts [] no_tables roomy
+router_of_none service texts roomy none stands = record {
   core = record {
     decided = first_deciding service.setup;
     rests = λ setup codes plan of fits.
@@ -228,6 +232,7 @@ router_of_none service roomy stands = record {
   recorded = first_so service.setup;
   counted = λ setup codes plan of fits.
       record { taken = All-nil (λ (client : Client). client.taken ≡ 0); begun = λ l. refl };
+  known = record { told = λ number key is. none_some (key_at texts number) key (none number) is; later = λ number beyond. refl };
   lawful = tt;
   open_just = λ l. refl;
   spoken = first_spoken (rules_of service.rules) service.setup;

@@ -11,40 +11,57 @@ use Rattle.client_session.specs.Setups.{Setup as Service}
 use Rattle.query_rules.specs.declared.rule.Rule.{Rule}
 use Rattle.private_model.proofs.Maps.{client_of}
 use Rattle.private_model.specs.Names.{ClientNo, MessageName}
+use Rattle.private_model.specs.Story.{Key}
 use Rattle.log_story.specs.Plan.{LastWord, OwnAnswer, StepText}
+use Rattle.core_texts.specs.Texts.{key_at}
+use Rattle.core_texts.specs.declared.texts.Texts.{Texts}
 use Rattle.own_words.specs.Own.{Answers as AnswersOwn, Fails, GivesUp, IsFailure, IsLastWord, IsOwn}
 use Rattle.tale_world.specs.Decided.{Decided}
 use Rattle.core_laws.specs.entry.Cores.{with_entry}
 use Rattle.core_laws.specs.clients.Follows.{Leaves, Parting, Stays, Tells}
 use Rattle.core_laws.specs.clients.Going.{GivenUp, Going, told_to}
-use Rattle.core_laws.specs.clients.Turns.{Answers, Choice, Ends, Goes, Halt, Quits, Rests, Waits}
+use Rattle.core_laws.specs.clients.Turns.{Answers, Choice, Ends, Goes, Halt, Keyed, Quits, Rests, Waits}
 use Rattle.router_laws.proofs.OfDecisions.Fates.{none_some}
 use Rattle.router_laws.proofs.OfDecisions.Recording.{own_given, own_new, own_open, own_stays, up_with}
-use Rattle.router_laws.specs.decisions.Deeds.{AreAlone, Counts, Deeds, Fate, IsAlone, Word, among, decided_by, decided_with, ends_by, ends_in, fate_at, fate_in, fate_of, is_quitting, known_with, no_deeds, no_fate, own_with, parting, said_at, taking, word_with}
+use Rattle.router_laws.specs.decisions.Deeds.{AreAlone, AreToldBy, Counts, Deeds, Fate, IsAlone, IsToldBy, Word, among, decided_by, decided_with, ends_by, ends_in, fate_at, fate_in, fate_of, is_quitting, known_with, no_deeds, no_fate, own_with, parting, said_at, taking, word_with}
 use Rattle.router_laws.specs.decisions.Goings.{deeds_of, end_of}
 use Rattle.router_laws.specs.decisions.Records.{first_deciding}
+use Rattle.router_laws.specs.decisions.Routers.{AreKnown}
 use Rattle.router_laws.specs.decisions.Speaks.{AreGivenOurs, AreGoingOurs, AreOurs, DecidesOwn, IsEndOurs, IsOurs, IsPartingOurs}
+use Rattle.private_model.specs.View.{Setup}
+use Rattle.router_laws.specs.decisions.Judges.{HasKeys}
 
 -- No copies are made.
 
-alone_of : (rules : List Rule) (c : ClientNo) (choice : Choice) → IsOurs rules c choice → IsAlone choice
-alone_of rules c (Goes route) ours = ours
-alone_of rules c (Answers payloads) ours = tt
+alone_of : (rules : List Rule) (texts : Texts) (c : ClientNo) (choice : Choice) → IsOurs rules texts c choice → IsAlone choice
+alone_of rules texts c (Goes route keyed) ours = ours.0
+alone_of rules texts c (Answers payloads) ours = tt
 
-pub choices_alone : (rules : List Rule) (c : ClientNo) (choices : List Choice) → All (IsOurs rules c) choices → All IsAlone choices
-choices_alone rules c choices ours = All-weaker (IsOurs rules c) IsAlone (alone_of rules c) choices ours
+pub ours_alone : (rules : List Rule) (texts : Texts) (deeds : Deeds) → AreOurs rules texts deeds → AreAlone deeds
+ours_alone rules texts deeds ours c = All-weaker (IsOurs rules texts c) IsAlone (alone_of rules texts c) (deeds.calls c) (ours.calls c)
 
-pub ours_alone : (rules : List Rule) (deeds : Deeds) → AreOurs rules deeds → AreAlone deeds
-ours_alone rules deeds ours c = choices_alone rules c (deeds.calls c) (ours.calls c)
+-- Texts are as they were decided.
+
+told_of : (keys : (number : ℕ) → Option Key) (rules : List Rule) (texts : Texts) → AreKnown texts keys → (c : ClientNo) (choice : Choice)
+    → IsOurs rules texts c choice → IsToldBy keys choice
+told_of keys rules texts known c (Goes route keyed) ours =
+    All-weaker (λ (one : Keyed). key_at texts one.number ≡ Some one.key) (λ (one : Keyed). keys one.number ≡ Some one.key)
+    (λ one is. known.told one.number one.key is) keyed ours.1
+told_of keys rules texts known c (Answers payloads) ours = tt
+
+pub ours_told : (keys : (number : ℕ) → Option Key) (rules : List Rule) (texts : Texts) (deeds : Deeds) → AreKnown texts keys → AreOurs rules texts deeds
+    → AreToldBy keys deeds
+ours_told keys rules texts deeds known ours c =
+    All-weaker (IsOurs rules texts c) (IsToldBy keys) (told_of keys rules texts known c) (deeds.calls c) (ours.calls c)
 
 -- What a message is answered as it is taken up.
 
 abbrev pub IsFateOurs : List Rule → ClientNo → Fate → Type 0
 IsFateOurs rules c fate = (answer : OwnAnswer) → fate.own ≡ Some answer → IsOwn rules c answer.payloads
 
-fate_ours : (rules : List Rule) (c : ClientNo) (choice : Choice) → IsOurs rules c choice → IsFateOurs rules c (fate_of choice)
-fate_ours rules c (Goes route) ours answer is = none_some None answer refl is
-fate_ours rules c (Answers payloads) ours answer is =
+fate_ours : (rules : List Rule) (texts : Texts) (c : ClientNo) (choice : Choice) → IsOurs rules texts c choice → IsFateOurs rules c (fate_of choice)
+fate_ours rules texts c (Goes route keyed) ours answer is = none_some None answer refl is
+fate_ours rules texts c (Answers payloads) ours answer is =
     let same : record { from = 0; payloads = payloads } ≡ answer = cc in
     subst (λ (a : OwnAnswer). IsOwn rules c a.payloads) same (AnswersOwn payloads ours)
 
@@ -53,16 +70,16 @@ quits_ours rules c true fate is =
     let same : no_fate ≡ fate = cc in subst (IsFateOurs rules c) same (λ answer has. none_some None answer refl has)
 quits_ours rules c false fate is = none_some None fate refl is
 
-pub fates_ours : (rules : List Rule) (c : ClientNo) (choices : List Choice) (halt : Halt) (first ordinal : ℕ) (fate : Fate) → All (IsOurs rules c) choices
+pub fates_ours : (rules : List Rule) (texts : Texts) (c : ClientNo) (choices : List Choice) (halt : Halt) (first ordinal : ℕ) (fate : Fate) → All (IsOurs rules texts c) choices
     → fate_in choices halt first ordinal ≡ Some fate → IsFateOurs rules c fate
-fates_ours rules c [] halt first ordinal fate ours is = quits_ours rules c (is_quitting halt && nat_eq ordinal first) fate is
-fates_ours rules c (choice ∷ others) halt first ordinal fate ours is =
-    by (nat_eq ordinal first) (fates_ours rules c others halt (suc first) ordinal fate (All-tail (IsOurs rules c) choice others ours)) is where
+fates_ours rules texts c [] halt first ordinal fate ours is = quits_ours rules c (is_quitting halt && nat_eq ordinal first) fate is
+fates_ours rules texts c (choice ∷ others) halt first ordinal fate ours is =
+    by (nat_eq ordinal first) (fates_ours rules texts c others halt (suc first) ordinal fate (All-tail (IsOurs rules texts c) choice others ours)) is where
       by : (b : Bool) → (fate_in others halt (suc first) ordinal ≡ Some fate → IsFateOurs rules c fate)
           → (if b then Some (fate_of choice) else fate_in others halt (suc first) ordinal) ≡ Some fate → IsFateOurs rules c fate
       by true later has =
           let same : fate_of choice ≡ fate = cc in
-          subst (IsFateOurs rules c) same (fate_ours rules c choice (All-head (IsOurs rules c) choice others ours))
+          subst (IsFateOurs rules c) same (fate_ours rules texts c choice (All-head (IsOurs rules texts c) choice others ours))
       by false later has = later has
 
 -- A last word.
@@ -88,8 +105,8 @@ word_ours now None None end word old ours is = said_ours now end word ours is
 
 -- By the deeds of an entry.
 
-module _ (rules : List Rule) (d : Decided) (n : Counts) (log : Log) (e : Entry) (deeds : Deeds) (now : ℕ) (spoken : DecidesOwn rules d)
-    (ours : AreOurs rules deeds) where
+module _ (rules : List Rule) (texts : Texts) (d : Decided) (n : Counts) (log : Log) (e : Entry) (deeds : Deeds) (now : ℕ) (spoken : DecidesOwn rules d)
+    (ours : AreOurs rules texts deeds) where
   abbrev new : Decided
   new = decided_by deeds n log e now d
 
@@ -98,7 +115,7 @@ module _ (rules : List Rule) (d : Decided) (n : Counts) (log : Log) (e : Entry) 
   taken_own m answer None is has = none_some None (Some answer) refl has
   taken_own m answer (Some fate) is has =
       let same : fate.own ≡ Some answer = cc in
-      fates_ours rules m.client (deeds.calls m.client) (deeds.halts m.client) (suc (n.taken m.client)) m.ordinal fate (ours.calls m.client) is answer same
+      fates_ours rules texts m.client (deeds.calls m.client) (deeds.halts m.client) (suc (n.taken m.client)) m.ordinal fate (ours.calls m.client) is answer same
 
   open_own : (m : MessageName) (answer : OwnAnswer) → new.own m ≡ Some (Some answer) → new.own m ≡ Some None → IsOwn rules m.client answer.payloads
   open_own m answer is still = none_some None answer refl (let both : Some None ≡ Some (Some answer) = sym still ∙ is in cc)
@@ -133,15 +150,15 @@ module _ (rules : List Rule) (d : Decided) (n : Counts) (log : Log) (e : Entry) 
 
 -- of those that came
 
-among_ours : (rules : List Rule) (known : ℕ) (deeds : Deeds) → AreOurs rules deeds → AreOurs rules (among known deeds)
-among_ours rules known deeds ours = record {
+among_ours : (rules : List Rule) (texts : Texts) (known : ℕ) (deeds : Deeds) → AreOurs rules texts deeds → AreOurs rules texts (among known deeds)
+among_ours rules texts known deeds ours = record {
   calls = λ c. calls_by c (nat_le c.0 known);
   given = λ c payload is. given_by c payload (nat_le c.0 known) is;
   ends = λ c. end_by c (nat_le c.0 known);
 } where
-  calls_by : (c : ClientNo) (b : Bool) → All (IsOurs rules c) (if b then deeds.calls c else [])
+  calls_by : (c : ClientNo) (b : Bool) → All (IsOurs rules texts c) (if b then deeds.calls c else [])
   calls_by c true = ours.calls c
-  calls_by c false = All-nil (IsOurs rules c)
+  calls_by c false = All-nil (IsOurs rules texts c)
 
   given_by : (c : ClientNo) (payload : List ℕ) (b : Bool) → (if b then deeds.given c else None) ≡ Some payload → IsFailure payload
   given_by c payload true is = ours.given c payload is
@@ -151,10 +168,10 @@ among_ours rules known deeds ours = record {
   end_by c true = ours.ends c
   end_by c false = tt
 
-pub spoken_then : (rules : List Rule) (d : Decided) (n : Counts) (log : Log) (e : Entry) (deeds : Deeds) → DecidesOwn rules d → AreOurs rules deeds
+pub spoken_then : (rules : List Rule) (texts : Texts) (d : Decided) (n : Counts) (log : Log) (e : Entry) (deeds : Deeds) → DecidesOwn rules d → AreOurs rules texts deeds
     → DecidesOwn rules (decided_with deeds n log e d)
-spoken_then rules d n log e deeds spoken ours =
-    spoken_by rules d n log e (among (known_with log e) deeds) (length (with_entry log e)) spoken (among_ours rules (known_with log e) deeds ours)
+spoken_then rules texts d n log e deeds spoken ours =
+    spoken_by rules texts d n log e (among (known_with log e) deeds) (length (with_entry log e)) spoken (among_ours rules texts (known_with log e) deeds ours)
 
 -- By no entries.
 
@@ -170,16 +187,16 @@ first_spoken rules service = record { own = first_own rules service; words = λ 
 
 -- Deeds of a link alone, and none.
 
-pub ours_of_link : (rules : List Rule) (login : Option Login) (begun : Option (Option StepText))
-    → AreOurs rules (record no_deeds { login = login; begun = begun })
-ours_of_link rules login begun = record {
-  calls = λ c. All-nil (IsOurs rules c);
+pub ours_of_link : (rules : List Rule) (texts : Texts) (login : Option Login) (begun : Option (Option StepText))
+    → AreOurs rules texts (record no_deeds { login = login; begun = begun })
+ours_of_link rules texts login begun = record {
+  calls = λ c. All-nil (IsOurs rules texts c);
   given = λ c payload is. none_some None payload refl is;
   ends = λ c. tt;
 }
 
-pub ours_of_none : (rules : List Rule) → AreOurs rules no_deeds
-ours_of_none rules = ours_of_link rules None None
+pub ours_of_none : (rules : List Rule) (texts : Texts) → AreOurs rules texts no_deeds
+ours_of_none rules texts = ours_of_link rules texts None None
 
 -- Of one client.
 
@@ -188,16 +205,16 @@ end_ours Stays ours = tt
 end_ours Leaves ours = tt
 end_ours (Tells payload) ours = Fails payload ours
 
-pub ours_of_one : (rules : List Rule) (c : ClientNo) (choices : List Choice) (halt : Halt) (last : Option (Option Word)) → All (IsOurs rules c) choices
-    → IsEndOurs last → AreOurs rules (parting c last (taking c choices halt no_deeds))
-ours_of_one rules c choices halt last ours ends = record {
+pub ours_of_one : (rules : List Rule) (texts : Texts) (c : ClientNo) (choices : List Choice) (halt : Halt) (last : Option (Option Word)) → All (IsOurs rules texts c) choices
+    → IsEndOurs last → AreOurs rules texts (parting c last (taking c choices halt no_deeds))
+ours_of_one rules texts c choices halt last ours ends = record {
   calls = λ x. calls_by x (nat_eq c.0 x.0) refl;
   given = λ x payload is. none_some None payload refl is;
   ends = λ x. end_by (nat_eq c.0 x.0);
 } where
-  calls_by : (x : ClientNo) (b : Bool) → nat_eq c.0 x.0 ≡ b → All (IsOurs rules x) (if b then choices else [])
-  calls_by x true is = subst (λ (k : ClientNo). All (IsOurs rules k) choices) (client_of c x is) ours
-  calls_by x false is = All-nil (IsOurs rules x)
+  calls_by : (x : ClientNo) (b : Bool) → nat_eq c.0 x.0 ≡ b → All (IsOurs rules texts x) (if b then choices else [])
+  calls_by x true is = subst (λ (k : ClientNo). All (IsOurs rules texts k) choices) (client_of c x is) ours
+  calls_by x false is = All-nil (IsOurs rules texts x)
 
   end_by : (b : Bool) → IsEndOurs (if b then last else None)
   end_by true = ends
@@ -212,14 +229,24 @@ given_ours (Some up) ours c payload is = by (nat_eq up.client.0 c.0) is where
   by true has = let same : up.payload ≡ payload = cc in subst IsFailure same ours
   by false has = none_some None payload refl has
 
-pub ours_of_going : (rules : List Rule) (given : Option GivenUp) (going : Option Going) → AreGivenOurs given → AreGoingOurs rules going
-    → AreOurs rules (deeds_of given going)
-ours_of_going rules given None up ours = record {
-  calls = λ c. All-nil (IsOurs rules c);
+pub ours_of_going : (rules : List Rule) (texts : Texts) (given : Option GivenUp) (going : Option Going) → AreGivenOurs given → AreGoingOurs rules texts going
+    → AreOurs rules texts (deeds_of given going)
+ours_of_going rules texts given None up ours = record {
+  calls = λ c. All-nil (IsOurs rules texts c);
   given = given_ours given up;
   ends = λ c. tt;
 }
-ours_of_going rules given (Some going) up ours =
-    let one : AreOurs rules (parting going.client (end_of going.parting) (taking going.client going.choices going.halt no_deeds)) =
-    ours_of_one rules going.client going.choices going.halt (end_of going.parting) ours.choices (end_ours going.parting ours.parting) in
+ours_of_going rules texts given (Some going) up ours =
+    let one : AreOurs rules texts (parting going.client (end_of going.parting) (taking going.client going.choices going.halt no_deeds)) =
+    ours_of_one rules texts going.client going.choices going.halt (end_of going.parting) ours.choices (end_ours going.parting ours.parting) in
     record { calls = one.calls; given = given_ours given up; ends = one.ends }
+
+pub going_told : (keys : (number : ℕ) → Option Key) (rules : List Rule) (texts : Texts) (given : Option GivenUp) (going : Option Going)
+    → AreKnown texts keys → AreGoingOurs rules texts going → AreToldBy keys (deeds_of given going)
+going_told keys rules texts given going known ours =
+    ours_told keys rules texts (deeds_of None going) known (ours_of_going rules texts None going tt ours)
+
+-- and a setup that fits what was decided has them
+pub known_keys : (texts : Texts) (keys : (number : ℕ) → Option Key) → AreKnown texts keys → (setup : Setup)
+    → ((number : ℕ) (key : Key) → keys number ≡ Some key → setup.keys number ≡ key) → HasKeys (key_at texts) setup
+known_keys texts keys known setup fits number key is = fits number key (known.told number key is)

@@ -10,6 +10,7 @@ use Rattle.mx_wire.specs.Tells.{MayFollow}
 use Rattle.mx_wire.specs.declared.entry.Entry.{Entry}
 use Rattle.mx_wire.specs.declared.entry.Entry.TheVariants.{Accepted}
 use Rattle.core_service.specs.declared.service.Service.{Service}
+use Rattle.core_texts.specs.declared.texts.Texts.{Texts}
 use Rattle.private_model.proofs.Maps.{same_number}
 use Rattle.private_model.specs.Names.{ClientNo}
 use Rattle.private_model.specs.View.{Setup}
@@ -48,17 +49,17 @@ pub away_ours : (port : Port) → IsEndOurs (away port)
 away_ours Traffic = TurnedAway Traffic
 away_ours Admin = TurnedAway Admin
 
-module _ (service : Service) (log : Log) (t now : Tabled) (roomy : ClientNo → Bool) (port : Port) (link : LinkId) (salt : List ℕ)
-    (c : ClientNo) (router : IsRouter service log t roomy) (may : MayFollow log (Accepted port link salt))
+module _ {texts : Texts} (service : Service) (log : Log) (t now : Tabled) (roomy : ClientNo → Bool) (port : Port) (link : LinkId) (salt : List ℕ)
+    (c : ClientNo) (router : IsRouter service texts log t roomy) (may : MayFollow log (Accepted port link salt))
     (count : c.0 ≡ length (accepted_links log) + 1) (last : Option (Option Word)) (said_ours : IsEndOurs last) where
   abbrev e : Entry
   e = Accepted port link salt
 
   abbrev deeds : ds.Deeds
-  deeds = deciding.deeds service log e t now roomy roomy router may c [] Resting last (All-nil (IsOurs (rules_of service.rules) c)) said_ours
+  deeds = deciding.deeds service log e t now roomy roomy router may c [] Resting last (All-nil (IsOurs (rules_of service.rules) texts c)) said_ours
 
   abbrev pub new : Decided
-  new = deciding.new service log e t now roomy roomy router may c [] Resting last (All-nil (IsOurs (rules_of service.rules) c)) said_ours
+  new = deciding.new service log e t now roomy roomy router may c [] Resting last (All-nil (IsOurs (rules_of service.rules) texts c)) said_ours
 
   nothing : (q : Bool) → taken_by (if q then [] else []) (if q then Resting else Resting) ≡ 0
   nothing true = refl
@@ -76,20 +77,20 @@ module _ (service : Service) (log : Log) (t now : Tabled) (roomy : ClientNo → 
 
     newcomer : HasNewcomer g deeds c
     newcomer =
-        (deciding.so service log e t now roomy roomy router may c [] Resting last (All-nil (IsOurs (rules_of service.rules) c)) said_ours setup codes plan of fits).newcomer c
+        (deciding.so service log e t now roomy roomy router may c [] Resting last (All-nil (IsOurs (rules_of service.rules) texts c)) said_ours setup codes plan of fits).newcomer c
         (omega (arith, count)) came
 
     pub coming : PlansComing g c (ends_of c (is_some last)) (over_by new)
     coming = record {
-      decided = deciding.decided service log e t now roomy roomy router may c [] Resting last (All-nil (IsOurs (rules_of service.rules) c)) said_ours setup codes plan of fits came newcomer.going;
-      unrouted = (deciding.so service log e t now roomy roomy router may c [] Resting last (All-nil (IsOurs (rules_of service.rules) c)) said_ours setup codes plan of fits).nowhere c;
+      decided = deciding.decided service log e t now roomy roomy router may c [] Resting last (All-nil (IsOurs (rules_of service.rules) texts c)) said_ours setup codes plan of fits came newcomer.going;
+      unrouted = (deciding.so service log e t now roomy roomy router may c [] Resting last (All-nil (IsOurs (rules_of service.rules) texts c)) said_ours setup codes plan of fits).nowhere c;
       kept = newcomer.keeps refl;
       going = newcomer.going;
     }
 
     pub coming_on : last ≡ None → PlansComing g c nobody (over_by new)
     coming_on none = record {
-      decided = deciding.decided_none service log e t now roomy roomy router may c [] Resting last (All-nil (IsOurs (rules_of service.rules) c)) said_ours setup codes plan of fits none refl;
+      decided = deciding.decided_none service log e t now roomy roomy router may c [] Resting last (All-nil (IsOurs (rules_of service.rules) texts c)) said_ours setup codes plan of fits none refl;
       unrouted = coming.unrouted;
       kept = coming.kept;
       going = coming.going;
@@ -110,16 +111,16 @@ module _ (service : Service) (log : Log) (t now : Tabled) (roomy : ClientNo → 
       (setup : Setup) (codes : Codes) (plan : Plan) (of : IsOf new (length (with_entry log e)) plan) (fits : FitsThen new.keys setup codes plan service.default_schema log e)
       → GoesOn service.setup setup codes plan log e router.core.decided new t now roomy roomy
 
-  pub comes_routed : GoesBy → AreOpenJust (with_entry log e) now → IsRouter service (with_entry log e) now roomy
+  pub comes_routed : GoesBy → AreOpenJust (with_entry log e) now → IsRouter service texts (with_entry log e) now roomy
   comes_routed goes =
       router_goes_on service log e deeds t now roomy roomy router may
-      (deciding.ours service log e t now roomy roomy router may c [] Resting last (All-nil (IsOurs (rules_of service.rules) c)) said_ours) (λ terms codes of fits. tt)
+      (deciding.ours service log e t now roomy roomy router may c [] Resting last (All-nil (IsOurs (rules_of service.rules) texts c)) said_ours) (λ terms codes of fits. tt)
       (judges_of_none service log e router.core.decided router.counts c last) goes_so where
         goes_so : (setup : Setup) (codes : Codes) (plan : Plan) → IsOf new (length (with_entry log e)) plan → FitsThen new.keys setup codes plan service.default_schema log e
             → GoesSo service.setup setup codes plan log e router.core.decided router.counts deeds t now roomy roomy
         goes_so setup codes plan of fits =
-            let was : IsBefore service log e t roomy router deeds setup codes plan =
-            deciding.before service log e t now roomy roomy router may c [] Resting last (All-nil (IsOurs (rules_of service.rules) c)) said_ours setup codes plan of fits in
+            let was : IsBefore service texts log e t roomy router deeds setup codes plan =
+            deciding.before service log e t now roomy roomy router may c [] Resting last (All-nil (IsOurs (rules_of service.rules) texts c)) said_ours setup codes plan of fits in
             record {
               goes = goes setup codes plan of fits;
               counts = counts_kept setup plan router.core.decided router.counts log e deeds router.recorded may of was.counts refl none_called tt;

@@ -8,6 +8,7 @@ use Rattle.mx_wire.specs.Log.{Log, accepted_links}
 use Rattle.mx_wire.specs.Tells.{MayFollow}
 use Rattle.mx_wire.specs.declared.entry.Entry.{Entry}
 use Rattle.core_service.specs.declared.service.Service.{Service}
+use Rattle.core_texts.specs.declared.texts.Texts.{Texts}
 use Rattle.client_session.specs.Setups.{Setup as Serving}
 use Rattle.private_model.specs.Names.{ClientNo, MessageName}
 use Rattle.private_model.specs.Story.{is_client}
@@ -50,8 +51,8 @@ use Rattle.router_laws.proofs.OfDecisions.Router.{router_goes_on, stood_before}
 use Rattle.router_laws.proofs.OfDecisions.Tallying.{counts_then}
 use Rattle.router_laws.proofs.OfDecisions.Working.{none_given}
 use Rattle.query_rules.specs.Passing.{rules_of}
-use Rattle.router_laws.proofs.OfDecisions.Speaking.{ours_alone, ours_of_one}
-use Rattle.core_promises.specs.Ruled.{AreRuled, book_of}
+use Rattle.router_laws.proofs.OfDecisions.Speaking.{ours_alone, ours_of_one, ours_told}
+use Rattle.core_promises.specs.Ruled.{AreRuled, book_of, ruling_of}
 use Rattle.router_laws.specs.decisions.Judges.{JudgedFrom, JudgesThen}
 use Rattle.router_laws.specs.decisions.Speaks.{AreOurs, IsEndOurs, IsOurs}
 use Rattle.router_laws.specs.decisions.Counting.{BeginsSo, TakesSo}
@@ -60,6 +61,8 @@ use Rattle.router_laws.specs.decisions.Deeds.{AreAlone, Deeds, Word, counts_with
 use Rattle.router_laws.specs.decisions.Goings.{end_of}
 use Rattle.router_laws.specs.decisions.Plans.{HasDeeds, PlansSo}
 use Rattle.router_laws.specs.decisions.Routers.{AreOpenJust, GoesSo, IsBefore, IsRouter, WaitsThen}
+use Rattle.core_texts.specs.Texts.{key_at}
+use Rattle.router_laws.proofs.OfDecisions.Speaking.{known_keys}
 
 -- By its last word one stands as it is told.
 abbrev pub Told : Type 0
@@ -111,9 +114,9 @@ and_none : (a : Bool) → (a && false) ≡ false
 and_none true = refl
 and_none false = refl
 
-module _ (service : Service) (log : Log) (e : Entry) (t now : Tabled) (roomy room : ClientNo → Bool)
-    (router : IsRouter service log t roomy) (may : MayFollow log e) (c : ClientNo) (choices : List Choice) (halt : Halt)
-    (last : Option (Option Word)) (all_ours : All (IsOurs (rules_of service.rules) c) choices) (end_ours : IsEndOurs last) where
+module _ {texts : Texts} (service : Service) (log : Log) (e : Entry) (t now : Tabled) (roomy room : ClientNo → Bool)
+    (router : IsRouter service texts log t roomy) (may : MayFollow log e) (c : ClientNo) (choices : List Choice) (halt : Halt)
+    (last : Option (Option Word)) (all_ours : All (IsOurs (rules_of service.rules) texts c) choices) (end_ours : IsEndOurs last) where
   abbrev pub deeds : Deeds
   deeds = parting c last (taking c choices halt no_deeds)
 
@@ -129,21 +132,21 @@ module _ (service : Service) (log : Log) (e : Entry) (t now : Tabled) (roomy roo
   abbrev pub ends : Bool
   ends = is_some (ds.ends_by halt last)
 
-  pub ours : AreOurs (rules_of service.rules) deeds
-  ours = ours_of_one (rules_of service.rules) c choices halt last all_ours end_ours
+  pub ours : AreOurs (rules_of service.rules) texts deeds
+  ours = ours_of_one (rules_of service.rules) texts c choices halt last all_ours end_ours
 
   alone : AreAlone deeds
-  alone = ours_alone (rules_of service.rules) deeds ours
+  alone = ours_alone (rules_of service.rules) texts deeds ours
 
   module _ (setup : Setup) (codes : Codes) (plan : Plan) (of : IsOf new (length (with_entry log e)) plan) (fits : FitsThen new.keys setup codes plan service.default_schema log e) where
     abbrev pub g : Ground
     g = ground setup codes plan d log
 
-    pub before : IsBefore service log e t roomy router deeds setup codes plan
+    pub before : IsBefore service texts log e t roomy router deeds setup codes plan
     before = stood_before service log e t roomy deeds setup codes plan router may of fits (heard_always setup plan log e)
 
     pub so : PlansSo g log e deeds
-    so = before.so (none_given g (λ x. None) (λ x. refl))
+    so = before.so (ours_told d.keys (rules_of service.rules) texts deeds router.known ours) (none_given g (λ x. None) (λ x. refl))
 
     -- it alone ends, if it does
     module _ (came : c.0 ≤ known) (going : g.over c ≡ false) where
@@ -228,9 +231,9 @@ module _ (service : Service) (log : Log) (e : Entry) (t now : Tabled) (roomy roo
       counted_so =
           seated_of (λ (y : tales.Client). y.taken ≡ router.counts.taken y.number) g.tale client seated before.counts.taken ∙ ap router.counts.taken number
 
-      pub chosen : PlanHas choices halt plan (suc g.tale.moment) (name_of client (suc client.taken))
+      pub chosen : PlanHas choices halt setup.keys plan (suc g.tale.moment) (name_of client (suc client.taken))
       chosen =
-          subst (λ (q : Bool). PlanHas (if q then choices else []) (if q then halt else Resting) plan (suc g.tale.moment) (name_of client (suc client.taken)))
+          subst (λ (q : Bool). PlanHas (if q then choices else []) (if q then halt else Resting) setup.keys plan (suc g.tale.moment) (name_of client (suc client.taken)))
           named (has.chosen still_going)
 
       pub word : word_at plan (suc g.tale.moment) c ≡ ds.said_at (suc g.tale.moment) (ds.ends_by halt last)
@@ -252,7 +255,7 @@ module _ (service : Service) (log : Log) (e : Entry) (t now : Tabled) (roomy roo
         decided = subst (λ (b : Bool). IsDecided g (ends_of c b) (over_by new))
             (ap (λ (x : Option (Option Word)). is_some (ds.ends_by halt x)) same ∙ ends_alike halt by) (decided came_so going);
         unrouted = so.nowhere c;
-        chosen = subst (λ (m : MessageName). PlanHas choices halt plan (suc g.tale.moment) m)
+        chosen = subst (λ (m : MessageName). PlanHas choices halt setup.keys plan (suc g.tale.moment) m)
             (λ i. record { client = number i; ordinal = sym next i }) chosen;
         parted = parted by same once;
         said = λ what at. placed_by halt by (suc g.tale.moment) what (sym (word_by by same) ∙ at);
@@ -310,13 +313,13 @@ module _ (service : Service) (log : Log) (e : Entry) (t now : Tabled) (roomy roo
       → GoesTaking service.setup setup codes plan log e d new t now roomy room c (taken_by choices halt)
 
   pub goes_router : WaitsThen service log e router.core.decided → JudgesThen service log e router.core.decided router.counts deeds → GoesBy → ((tale : Tale) (x : tales.Client) → HasCome tale e x → ⊥) → ((setup : Setup) (tale : Tale) → BeginsSo setup tale e deeds)
-      → AreOpenJust (with_entry log e) now → IsRouter service (with_entry log e) now room
+      → AreOpenJust (with_entry log e) now → IsRouter service texts (with_entry log e) now room
   goes_router waits judges goes uncome begins = router_goes_on service log e deeds t now roomy room router may ours waits judges goes_so where
     goes_so : (setup : Setup) (codes : Codes) (plan : Plan) → IsOf new (length (with_entry log e)) plan → FitsThen new.keys setup codes plan service.default_schema log e
         → GoesSo service.setup setup codes plan log e d router.counts deeds t now roomy room
     goes_so setup codes plan of fits =
         let taking_it : GoesTaking service.setup setup codes plan log e d new t now roomy room c (taken_by choices halt) = goes setup codes plan of fits in
-        let was : IsBefore service log e t roomy router deeds setup codes plan = before setup codes plan of fits in
+        let was : IsBefore service texts log e t roomy router deeds setup codes plan = before setup codes plan of fits in
         record {
           goes = taking_it.goes;
           counts = counts_then setup plan d router.counts log e deeds router.recorded was.counts may
@@ -326,7 +329,7 @@ module _ (service : Service) (log : Log) (e : Entry) (t now : Tabled) (roomy roo
   -- and what it takes up is ruled
 
   module _ (ordinal : ℕ) (mid turned : Tabled) (turns : Turns choices halt service.setup service.default_schema c mid turned)
-      (ruled : AreRuled (book_of service) choices halt service.setup service.default_schema c mid turned turns) where
+      (ruled : AreRuled (ruling_of service (key_at texts)) choices halt service.setup service.default_schema c mid turned turns) where
     pub record Finds (setup : Setup) (codes : Codes) (plan : Plan) : Type 0 where
       pub so : GoesFinding service.setup service.default_schema setup codes plan log e d new t now roomy room c ordinal choices halt mid turned turns
       pub next : ordinal ≡ suc (router.counts.taken c)
@@ -337,7 +340,7 @@ module _ (service : Service) (log : Log) (e : Entry) (t now : Tabled) (roomy roo
         (fits : FitsThen new.keys setup codes plan service.default_schema log e) → Finds setup codes plan
 
     pub finds_router : WaitsThen service log e router.core.decided → FindsBy → ((tale : Tale) (x : tales.Client) → HasCome tale e x → ⊥)
-        → ((setup : Setup) (tale : Tale) → BeginsSo setup tale e deeds) → AreOpenJust (with_entry log e) now → IsRouter service (with_entry log e) now room
+        → ((setup : Setup) (tale : Tale) → BeginsSo setup tale e deeds) → AreOpenJust (with_entry log e) now → IsRouter service texts (with_entry log e) now room
     finds_router waits finds = goes_router waits (judges_taking service log e d router.counts c choices halt last judged) goes where
       goes : GoesBy
       goes setup codes plan of fits =
@@ -348,7 +351,7 @@ module _ (service : Service) (log : Log) (e : Entry) (t now : Tabled) (roomy roo
           → (client : tales.Client) → IsSeated (tale_of setup plan (with_entry log e)) client → client.number ≡ c
           → JudgedFrom (book_of service) setup plan client (takings_at setup plan (tale_of setup plan log) e) (router.counts.taken c) choices halt
       judged setup codes plan of fits client seated number =
-          judged_by (book_of service) setup plan client (takings_at setup plan (tale_of setup plan log) e) (router.counts.taken c) choices halt service.setup
+          judged_by (ruling_of service (key_at texts)) setup plan client (known_keys texts d.keys router.known setup fits.keyed) (takings_at setup plan (tale_of setup plan log) e) (router.counts.taken c) choices halt service.setup
           service.default_schema c number mid turned turns
           ((finds setup codes plan of fits).so.finds (before setup codes plan of fits).rests (router.counts.taken c) (finds setup codes plan of fits).next
           client seated number) ruled

@@ -29,7 +29,7 @@ use Rattle.query_rules.specs.Passing.{rules_of}
 use Rattle.router_laws.proofs.OfDecisions.Judging.{judges_of_none}
 use Rattle.router_laws.proofs.OfDecisions.Speaking.{end_ours}
 use Rattle.router_laws.proofs.OfWaits.Then.{loss_waits}
-use Rattle.core_promises.specs.Ruled.{AreRuled, book_of}
+use Rattle.core_promises.specs.Ruled.{AreRuled, ruling_of}
 use Rattle.router_laws.specs.decisions.Speaks.{IsOurs, IsPartingOurs}
 use Rattle.router_laws.specs.decisions.Goings.{end_of}
 use Rattle.router_laws.specs.decisions.Routers.{IsBefore, IsRouter}
@@ -50,6 +50,8 @@ use Rattle.router_laws.proofs.OfEntering.Deciding as deciding
 use Rattle.router_laws.proofs.OfEntering.Deciding.{Told}
 use Rattle.router_laws.proofs.OfEntering.Opening.{again_keeps, at_once_keeps, going_keeps, loss_opens, opens_kept}
 use Rattle.router_laws.specs.entering.Rooms.{OthersLack}
+use Rattle.core_texts.specs.declared.texts.Texts.{Texts}
+use Rattle.core_texts.specs.Texts.{key_at}
 
 -- The laws by which it goes.
 
@@ -86,28 +88,28 @@ serves phase.LoggingIn b is = refl
 serves (phase.Serving account) b is = refl
 serves phase.Ended b is = absurd (false≢true is)
 
-pub again_routed : Again → (service : Service) (log : Log) (e : Entry) (t now : Tabled) (roomy : ClientNo → Bool) (link : LinkId) (c : ClientNo)
-    → IsRouter service log t roomy → MayFollow log e → IsLossOf link e → LeavesAgain link c t now
-    → IsRouter service (with_entry log e) now roomy
-again_routed law service log e t now roomy link c router may lost so =
-    deciding.goes_router service log e t now roomy roomy router may c [] Resting None (All-nil (IsOurs (rules_of service.rules) c)) tt (loss_waits service log e link router.core.decided lost)
+pub again_routed : Again → (service : Service) (texts : Texts) (log : Log) (e : Entry) (t now : Tabled) (roomy : ClientNo → Bool) (link : LinkId) (c : ClientNo)
+    → IsRouter service texts log t roomy → MayFollow log e → IsLossOf link e → LeavesAgain link c t now
+    → IsRouter service texts (with_entry log e) now roomy
+again_routed law service texts log e t now roomy link c router may lost so =
+    deciding.goes_router service log e t now roomy roomy router may c [] Resting None (All-nil (IsOurs (rules_of service.rules) texts c)) tt (loss_waits service log e link router.core.decided lost)
     (judges_of_none service log e router.core.decided router.counts c None)
     (λ setup codes plan of fits.
-    let was = deciding.before service log e t now roomy roomy router may c [] Resting None (All-nil (IsOurs (rules_of service.rules) c)) tt setup codes plan of fits in
+    let was = deciding.before service log e t now roomy roomy router may c [] Resting None (All-nil (IsOurs (rules_of service.rules) texts c)) tt setup codes plan of fits in
     law service.setup service.default_schema setup codes plan log e router.core.decided
-    (deciding.new service log e t now roomy roomy router may c [] Resting None (All-nil (IsOurs (rules_of service.rules) c)) tt) t now roomy link c fits lost was.safe
-    (deciding.decided_none service log e t now roomy roomy router may c [] Resting None (All-nil (IsOurs (rules_of service.rules) c)) tt setup codes plan of fits refl refl) so)
+    (deciding.new service log e t now roomy roomy router may c [] Resting None (All-nil (IsOurs (rules_of service.rules) texts c)) tt) t now roomy link c fits lost was.safe
+    (deciding.decided_none service log e t now roomy roomy router may c [] Resting None (All-nil (IsOurs (rules_of service.rules) texts c)) tt setup codes plan of fits refl refl) so)
     ((loss_of link e lost).none_comes) (loss_begins link e lost _)
     (opens_kept log e t now (loss_opens link e lost) (again_keeps link c t now so) router.open_just)
 
-pub at_once_routed : AtOnce → (service : Service) (log : Log) (e : Entry) (t now : Tabled) (roomy room : ClientNo → Bool) (link : LinkId)
-    (c : ClientNo) (links : List LinkId) → IsRouter service log t roomy → MayFollow log e → IsLossOf link e
-    → LeavesAtOnce link links c roomy t now → OthersLack c roomy room → IsRouter service (with_entry log e) now room
-at_once_routed law service log e t now roomy room link c links router may lost so others =
-    deciding.goes_router service log e t now roomy room router may c [] Resting (Some None) (All-nil (IsOurs (rules_of service.rules) c)) tt (loss_waits service log e link router.core.decided lost)
+pub at_once_routed : AtOnce → (service : Service) (texts : Texts) (log : Log) (e : Entry) (t now : Tabled) (roomy room : ClientNo → Bool) (link : LinkId)
+    (c : ClientNo) (links : List LinkId) → IsRouter service texts log t roomy → MayFollow log e → IsLossOf link e
+    → LeavesAtOnce link links c roomy t now → OthersLack c roomy room → IsRouter service texts (with_entry log e) now room
+at_once_routed law service texts log e t now roomy room link c links router may lost so others =
+    deciding.goes_router service log e t now roomy room router may c [] Resting (Some None) (All-nil (IsOurs (rules_of service.rules) texts c)) tt (loss_waits service log e link router.core.decided lost)
     (judges_of_none service log e router.core.decided router.counts c (Some None))
     (λ setup codes plan of fits.
-    let was = deciding.before service log e t now roomy room router may c [] Resting (Some None) (All-nil (IsOurs (rules_of service.rules) c)) tt setup codes plan of fits in
+    let was = deciding.before service log e t now roomy room router may c [] Resting (Some None) (All-nil (IsOurs (rules_of service.rules) texts c)) tt setup codes plan of fits in
     let g : Ground = ground setup codes plan router.core.decided log in
     let client : tales.Client = client_there service.setup g t link c so.row was.rests.stands so.its in
     let is : IsKnown g c client = known service.setup g t link c so.row was.rests.stands so.its in
@@ -115,21 +117,21 @@ at_once_routed law service log e t now roomy room link c links router may lost s
     let going : g.over client.number ≡ false = goes_there g client so.row own so.going in
     let still : g.over c ≡ false = ap g.over (sym is.number) ∙ going in
     law service.setup service.default_schema setup codes plan log e router.core.decided
-    (deciding.new service log e t now roomy room router may c [] Resting (Some None) (All-nil (IsOurs (rules_of service.rules) c)) tt) t now roomy room link c links fits lost was.safe
-    (deciding.end_of_it service log e t now roomy room router may c [] Resting (Some None) (All-nil (IsOurs (rules_of service.rules) c)) tt setup codes plan of fits client is.seated
+    (deciding.new service log e t now roomy room router may c [] Resting (Some None) (All-nil (IsOurs (rules_of service.rules) texts c)) tt) t now roomy room link c links fits lost was.safe
+    (deciding.end_of_it service log e t now roomy room router may c [] Resting (Some None) (All-nil (IsOurs (rules_of service.rules) texts c)) tt setup codes plan of fits client is.seated
     is.number still refl refl) so others)
     ((loss_of link e lost).none_comes) (loss_begins link e lost _)
     (opens_kept log e t now (loss_opens link e lost) (at_once_keeps link links c roomy t now so) router.open_just)
 
-pub going_routed : Going → Told → (service : Service) (log : Log) (e : Entry) (t now : Tabled) (roomy room : ClientNo → Bool) (link : LinkId)
+pub going_routed : Going → Told → (service : Service) (texts : Texts) (log : Log) (e : Entry) (t now : Tabled) (roomy room : ClientNo → Bool) (link : LinkId)
     (c : ClientNo) (links : List LinkId) (ordinal : ℕ) (choices : List Choice) (halt : Halt) (parting : Parting)
-    → IsRouter service log t roomy → MayFollow log e → IsLossOf link e
+    → IsRouter service texts log t roomy → MayFollow log e → IsLossOf link e
     → (so : LeavesGoing service.setup service.default_schema link links ordinal choices halt parting c t now)
-    → All (IsOurs (rules_of service.rules) c) choices → IsPartingOurs parting
+    → All (IsOurs (rules_of service.rules) texts c) choices → IsPartingOurs parting
     → OthersLack c roomy room
-    → AreRuled (book_of service) choices halt service.setup service.default_schema c so.between so.follows.turned so.follows.turns
-    → IsRouter service (with_entry log e) now room
-going_routed law told service log e t now roomy room link c links ordinal choices halt parting router may lost so ours told_ours others ruled =
+    → AreRuled (ruling_of service (key_at texts)) choices halt service.setup service.default_schema c so.between so.follows.turned so.follows.turns
+    → IsRouter service texts (with_entry log e) now room
+going_routed law told service texts log e t now roomy room link c links ordinal choices halt parting router may lost so ours told_ours others ruled =
     deciding.finds_router service log e t now roomy room router may c choices halt (end_of parting) ours (end_ours parting told_ours) ordinal so.between
     so.follows.turned so.follows.turns ruled (loss_waits service log e link router.core.decided lost)
     (λ setup codes plan of fits.

@@ -5,6 +5,7 @@ use Rattle.mx_wire.specs.Log.{Log}
 use Rattle.mx_wire.specs.Tells.{MayFollow}
 use Rattle.mx_wire.specs.declared.entry.Entry.{Entry}
 use Rattle.core_service.specs.declared.service.Service.{Service}
+use Rattle.core_texts.specs.declared.texts.Texts.{Texts}
 use Rattle.private_model.specs.Names.{ClientNo}
 use Rattle.private_model.specs.View.{Setup}
 use Rattle.link_laws.specs.Stands.{Codes}
@@ -22,6 +23,7 @@ use Rattle.core_laws.specs.entry.Kinds.{IsUneventful}
 use Rattle.core_laws.specs.entry.Tells.{Fits, IsOf, ground}
 use Rattle.router_laws.proofs.OfClients.Entering.{heard_always}
 use Rattle.router_laws.specs.clients.Plans.{IsDecided, nobody, over_by}
+use Rattle.router_laws.proofs.OfDecisions.Fates.{none_told, untaken_none}
 use Rattle.router_laws.proofs.OfDecisions.Gathering.{over_then, silent_at, uneventful}
 use Rattle.router_laws.proofs.OfDecisions.Keeping.{recorded_then}
 use Rattle.router_laws.proofs.OfDecisions.Listing.{is_tale_of}
@@ -41,12 +43,12 @@ use Rattle.router_laws.specs.decisions.Routers.{AreOpenJust, GoesSo, IsBefore, I
 -- nobody has anything to take up by these
 pub record IsIdleBy (deeds : Deeds) : Type 0 where
   pub alone : AreAlone deeds
-  pub ours : (rules : List Rule) → AreOurs rules deeds
+  pub ours : (rules : List Rule) (texts : Texts) → AreOurs rules texts deeds
   pub none : EndsNone deeds
   pub takes : (c : ClientNo) → taken_by (deeds.calls c) (deeds.halts c) ≡ 0
 
-module _ (service : Service) (log : Log) (e : Entry) (deeds : Deeds) (t now : Tabled) (roomy room : ClientNo → Bool)
-    (router : IsRouter service log t roomy) (may : MayFollow log e) (idle : IsIdleBy deeds)
+module _ {texts : Texts} (service : Service) (log : Log) (e : Entry) (deeds : Deeds) (t now : Tabled) (roomy room : ClientNo → Bool)
+    (router : IsRouter service texts log t roomy) (may : MayFollow log e) (idle : IsIdleBy deeds)
     (waits : WaitsThen service log e router.core.decided) where
   abbrev d : Decided
   d = router.core.decided
@@ -56,7 +58,7 @@ module _ (service : Service) (log : Log) (e : Entry) (deeds : Deeds) (t now : Ta
 
   -- what there is by one setup and plan
   pub record IsKnown (setup : Setup) (codes : Codes) (plan : Plan) : Type 0 where
-    pub stood : IsBefore service log e t roomy router deeds setup codes plan
+    pub stood : IsBefore service texts log e t roomy router deeds setup codes plan
     pub so : PlansSo (ground setup codes plan d log) log e deeds
     pub decided : IsDecided (ground setup codes plan d log) nobody (over_by new)
 
@@ -71,11 +73,11 @@ module _ (service : Service) (log : Log) (e : Entry) (deeds : Deeds) (t now : Ta
     abbrev g : Ground
     g = ground setup codes plan d log
 
-    stood_so : IsBefore service log e t roomy router deeds setup codes plan
+    stood_so : IsBefore service texts log e t roomy router deeds setup codes plan
     stood_so = stood_before service log e t roomy deeds setup codes plan router may of fits (heard_always setup plan log e)
 
     plans : PlansSo g log e deeds
-    plans = stood_so.so (none_given g deeds.given idle.none.given)
+    plans = stood_so.so (none_told d.keys deeds (λ c. untaken_none (deeds.calls c) (deeds.halts c) (idle.takes c))) (none_given g deeds.given idle.none.given)
 
     calm : IsUneventful g
     calm = uneventful g log e deeds plans idle.none
@@ -111,8 +113,8 @@ module _ (service : Service) (log : Log) (e : Entry) (deeds : Deeds) (t now : Ta
       }
 
   pub calm_router : ((setup : Setup) (codes : Codes) (plan : Plan) → IsKnown setup codes plan → GoesCalm setup codes plan) → AreOpenJust (with_entry log e) now
-      → IsRouter service (with_entry log e) now room
+      → IsRouter service texts (with_entry log e) now room
   calm_router makes rows =
-      router_goes_on service log e deeds t now roomy room router may (idle.ours (rules_of service.rules)) waits
+      router_goes_on service log e deeds t now roomy room router may (idle.ours (rules_of service.rules) texts) waits
       (judges_none service log e d router.counts deeds idle.takes idle.none.given)
       (λ setup codes plan of fits. goes_so setup codes plan of fits (makes setup codes plan (known setup codes plan of fits))) rows

@@ -8,6 +8,7 @@ use Rattle.mx_wire.specs.Log.{Log}
 use Rattle.mx_wire.specs.Tells.{MayFollow}
 use Rattle.mx_wire.specs.declared.entry.Entry.{Entry}
 use Rattle.core_service.specs.declared.service.Service.{Service}
+use Rattle.core_texts.specs.declared.texts.Texts.{Texts}
 use Rattle.private_model.specs.Names.{ClientNo}
 use Rattle.log_story.specs.Plan.{word_at}
 use Rattle.log_story.specs.Tale as tales
@@ -58,18 +59,18 @@ works_going : (g : Ground) (client : tales.Client) (row : Client) (work : Work) 
 works_going g client row work works true is = absurd (none-some work (sym is.idle ∙ works))
 works_going g client row work works false is = is.going
 
-module _ (laws : Laws) (service : Service) (log : Log) (t now : Tabled) (roomy : ClientNo → Bool) (l : LinkId) (how : Break)
-    (c : ClientNo) (links : List LinkId) (router : IsRouter service log t roomy) (may : MayFollow log (entry_by how l))
+module _ {texts : Texts} (laws : Laws) (service : Service) (log : Log) (t now : Tabled) (roomy : ClientNo → Bool) (l : LinkId) (how : Break)
+    (c : ClientNo) (links : List LinkId) (router : IsRouter service texts log t roomy) (may : MayFollow log (entry_by how l))
     (so : LosesEnded l c links t now) where
   abbrev e : Entry
   e = entry_by how l
 
   abbrev new : Decided
-  new = deciding.new service log e t now roomy roomy router may c [] Resting (Some None) (All-nil (IsOurs (rules_of service.rules) c)) tt
+  new = deciding.new service log e t now roomy roomy router may c [] Resting (Some None) (All-nil (IsOurs (rules_of service.rules) texts c)) tt
 
-  goes : deciding.GoesBy service log e t now roomy roomy router may c [] Resting (Some None) (All-nil (IsOurs (rules_of service.rules) c)) tt
+  goes : deciding.GoesBy service log e t now roomy roomy router may c [] Resting (Some None) (All-nil (IsOurs (rules_of service.rules) texts c)) tt
   goes setup codes plan of fits =
-      let was = deciding.before service log e t now roomy roomy router may c [] Resting (Some None) (All-nil (IsOurs (rules_of service.rules) c)) tt setup codes plan of fits in
+      let was = deciding.before service log e t now roomy roomy router may c [] Resting (Some None) (All-nil (IsOurs (rules_of service.rules) texts c)) tt setup codes plan of fits in
       let g : Ground = ground setup codes plan router.core.decided log in
       let found = known_so service.setup g t c so.row was.rests.stands so.at_work.there in
       let client : tales.Client = found.0 in
@@ -77,7 +78,7 @@ module _ (laws : Laws) (service : Service) (log : Log) (t now : Tabled) (roomy :
       let row : IsClient g client so.row = found.2 in
       let going : g.over client.number ≡ false = works_going g client so.row so.work so.at_work.in_work (is_ended so.row.desk.seat.phase) row.phase in
       let ends : PlansEnd g log c (over_by new) =
-      deciding.end_of_it service log e t now roomy roomy router may c [] Resting (Some None) (All-nil (IsOurs (rules_of service.rules) c)) tt setup codes plan of fits client is.seated
+      deciding.end_of_it service log e t now roomy roomy router may c [] Resting (Some None) (All-nil (IsOurs (rules_of service.rules) texts c)) tt setup codes plan of fits client is.seated
       is.number (ap g.over (sym is.number) ∙ going) refl refl in
       subst (λ (n : ClientNo). GoesTaking service.setup setup codes plan log e router.core.decided new t now roomy roomy n 0) is.number
       (ended_goes laws service.setup setup codes plan log l how router.core.decided new t now roomy client links was.rests is.seated
@@ -86,9 +87,9 @@ module _ (laws : Laws) (service : Service) (log : Log) (t now : Tabled) (roomy :
       (ap (word_at plan (suc g.tale.moment)) is.number ∙ ends.wordless_now) (λ m route its routed. fits.single m route routed)
       (subst (λ (ks : List LinkId). Ascend (λ k. k.0) ks) (sym (log_links setup plan log first_tale)) ends.rising))
 
-  pub ended_routed : IsRouter service (with_entry log e) now roomy
+  pub ended_routed : IsRouter service texts (with_entry log e) now roomy
   ended_routed =
-      deciding.goes_router service log e t now roomy roomy router may c [] Resting (Some None) (All-nil (IsOurs (rules_of service.rules) c)) tt (break_waits service log how l router.core.decided)
+      deciding.goes_router service log e t now roomy roomy router may c [] Resting (Some None) (All-nil (IsOurs (rules_of service.rules) texts c)) tt (break_waits service log how l router.core.decided)
       (judges_of_none service log e router.core.decided router.counts c (Some None)) goes
       (λ tale x come. (lost_plain tale how l).comes x come) (λ setup tale. lost_begins setup tale how l _)
       (loses_open log t now how l router.open_just (ended_keeps l c links t now so))

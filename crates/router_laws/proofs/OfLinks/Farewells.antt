@@ -11,6 +11,7 @@ use Rattle.mx_wire.specs.Tells.{MayFollow}
 use Rattle.mx_wire.specs.declared.entry.Entry.{Entry}
 use Rattle.mx_wire.specs.declared.entry.Entry.TheVariants as entry
 use Rattle.core_service.specs.declared.service.Service.{Service}
+use Rattle.core_texts.specs.declared.texts.Texts.{Texts}
 use Rattle.private_model.specs.Names.{ClientNo, LinkId}
 use Rattle.session_state.specs.declared.names.SessionName.{SessionName}
 use Rattle.core_tables.specs.Parting.{given_row, given_up_in, lost_in, name_in, unlinked}
@@ -18,7 +19,7 @@ use Rattle.core_tables.specs.declared.client.Client.{Client}
 use Rattle.core_tables.specs.Tables.{IsSame, Tabled}
 use Rattle.core_tables.specs.Writing.{wrote_on}
 use Rattle.query_rules.specs.Passing.{rules_of}
-use Rattle.core_promises.specs.Ruled.{book_of}
+use Rattle.core_promises.specs.Ruled.{ruling_of}
 use Rattle.router_laws.specs.decisions.Rulings.{IsRuledOn}
 use Rattle.router_laws.specs.decisions.Speaks.{AreGivenOurs, AreGoingOurs}
 use Rattle.router_laws.specs.decisions.Routers.{IsRouter}
@@ -31,24 +32,25 @@ use Rattle.router_laws.specs.links.Closes.{ClosesSo, IsLentThere, MayClose, MayS
 use Rattle.router_laws.specs.links.Loses.{Break, LosesSo, WriteFails, entry_by}
 use Rattle.router_laws.specs.links.Writes.{WritesSo}
 use Rattle.router_laws.specs.waits.Drained.{IsDrainedAt}
+use Rattle.core_texts.specs.Texts.{key_at}
 
 -- The laws by which it goes.
 pub record Laws : Type 0 where
-  pub marks : (service : Service) (log marks : Log) (t : Tabled) (roomy : ClientNo → Bool) → IsRouter service log t roomy
-      → AreMarks marks → length (log ++ marks) < 281474976710656 → IsRouter service (log ++ marks) t roomy
-  pub quiet : (service : Service) (log : Log) (e : Entry) (t : Tabled) (roomy : ClientNo → Bool)
-      → IsRouter service log t roomy → MayFollow log e → is_quiet e ≡ true → IsDrainedAt t log e → IsRouter service (with_entry log e) t roomy
-  pub writes : (service : Service) (log : Log) (t now : Tabled) (roomy : ClientNo → Bool) (l : LinkId) (offer : Sent) (count : ℕ)
-      → IsRouter service log t roomy → MayFollow log (entry.Wrote l offer.tag (take count offer.bytes)) → WritesSo l offer count t now
-      → IsRouter service (with_entry log (entry.Wrote l offer.tag (take count offer.bytes))) now roomy
-  pub loses : (service : Service) (log : Log) (t now : Tabled) (roomy : ClientNo → Bool) (l : LinkId) (how : Break)
-      (given : Option GivenUp) (going : Option Going) → IsRouter service log t roomy → MayFollow log (entry_by how l)
-      → AreGivenOurs given → AreGoingOurs (rules_of service.rules) going → (so : LosesSo service.setup service.default_schema l given going t now)
-      → IsRuledOn (book_of service) going service.setup service.default_schema so.lost now so.goes
-      → IsRouter service (with_entry log (entry_by how l)) now roomy
-  pub closes : (service : Service) (log : Log) (t now : Tabled) (roomy room : ClientNo → Bool) (l : LinkId)
-      → IsRouter service log t roomy → MayFollow log (entry.Closed l) → ((c : ClientNo) → room c ≡ false → roomy c ≡ false)
-      → ClosesSo l room t now → IsRouter service (with_entry log (entry.Closed l)) now room
+  pub marks : (service : Service) (texts : Texts) (log marks : Log) (t : Tabled) (roomy : ClientNo → Bool) → IsRouter service texts log t roomy
+      → AreMarks marks → length (log ++ marks) < 281474976710656 → IsRouter service texts (log ++ marks) t roomy
+  pub quiet : (service : Service) (texts : Texts) (log : Log) (e : Entry) (t : Tabled) (roomy : ClientNo → Bool)
+      → IsRouter service texts log t roomy → MayFollow log e → is_quiet e ≡ true → IsDrainedAt t log e → IsRouter service texts (with_entry log e) t roomy
+  pub writes : (service : Service) (texts : Texts) (log : Log) (t now : Tabled) (roomy : ClientNo → Bool) (l : LinkId) (offer : Sent) (count : ℕ)
+      → IsRouter service texts log t roomy → MayFollow log (entry.Wrote l offer.tag (take count offer.bytes)) → WritesSo l offer count t now
+      → IsRouter service texts (with_entry log (entry.Wrote l offer.tag (take count offer.bytes))) now roomy
+  pub loses : (service : Service) (texts : Texts) (log : Log) (t now : Tabled) (roomy : ClientNo → Bool) (l : LinkId) (how : Break)
+      (given : Option GivenUp) (going : Option Going) → IsRouter service texts log t roomy → MayFollow log (entry_by how l)
+      → AreGivenOurs given → AreGoingOurs (rules_of service.rules) texts going → (so : LosesSo service.setup service.default_schema l given going t now)
+      → IsRuledOn (ruling_of service (key_at texts)) going service.setup service.default_schema so.lost now so.goes
+      → IsRouter service texts (with_entry log (entry_by how l)) now roomy
+  pub closes : (service : Service) (texts : Texts) (log : Log) (t now : Tabled) (roomy room : ClientNo → Bool) (l : LinkId)
+      → IsRouter service texts log t roomy → MayFollow log (entry.Closed l) → ((c : ClientNo) → room c ≡ false → roomy c ≡ false)
+      → ClosesSo l room t now → IsRouter service texts (with_entry log (entry.Closed l)) now room
 
 -- No more is taken than there is.
 
@@ -76,8 +78,8 @@ is_not : (b : Bool) → not b ≡ true → b ≡ false
 is_not false is = refl
 is_not true is = absurd (false≢true is)
 
-module _ (laws : Laws) (service : Service) (log marks : Log) (t : Tabled) (roomy room : ClientNo → Bool) (l : LinkId)
-    (lent : Option Sent) (router : IsRouter service log t roomy) (only : AreMarks marks)
+module _ {texts : Texts} (laws : Laws) (service : Service) (log marks : Log) (t : Tabled) (roomy room : ClientNo → Bool) (l : LinkId)
+    (lent : Option Sent) (router : IsRouter service texts log t roomy) (only : AreMarks marks)
     (rooms : (c : ClientNo) → room c ≡ false → roomy c ≡ false) (may : MayClose l room t)
     (says : MaySayFarewell l (λ (c : ClientNo). not (is_going (t.clients c))) t) (lends : IsLentThere l lent t) where
   abbrev now : Tabled
@@ -86,15 +88,15 @@ module _ (laws : Laws) (service : Service) (log marks : Log) (t : Tabled) (roomy
   abbrev Goes : Entry → Type 0
   Goes e =
       MayFollow log e → MayFollow (log ++ e ∷ [] ++ marks) (entry.Closed l)
-      → IsRouter service (log ++ e ∷ [] ++ marks ++ entry.Closed l ∷ []) now room
+      → IsRouter service texts (log ++ e ∷ [] ++ marks ++ entry.Closed l ∷ []) now room
 
   -- behind the write
-  behind : (e : Entry) (x : Tabled) → MayFollow (log ++ e ∷ [] ++ marks) (entry.Closed l) → IsRouter service (with_entry log e) x roomy
-      → ClosesSo l room x now → IsRouter service (log ++ e ∷ [] ++ marks ++ entry.Closed l ∷ []) now room
+  behind : (e : Entry) (x : Tabled) → MayFollow (log ++ e ∷ [] ++ marks) (entry.Closed l) → IsRouter service texts (with_entry log e) x roomy
+      → ClosesSo l room x now → IsRouter service texts (log ++ e ∷ [] ++ marks ++ entry.Closed l ∷ []) now room
   behind e x follow stood so =
       let size : length (log ++ e ∷ [] ++ marks) + 1 < 281474976710656 = follow.bounded in
-      laws.closes service (log ++ e ∷ [] ++ marks) x now roomy room l
-      (laws.marks service (with_entry log e) marks x roomy stood only (less (length (log ++ e ∷ [] ++ marks)) size)) follow rooms so
+      laws.closes service texts (log ++ e ∷ [] ++ marks) x now roomy room l
+      (laws.marks service texts (with_entry log e) marks x roomy stood only (less (length (log ++ e ∷ [] ++ marks)) size)) follow rooms so
     where
       less : (n : ℕ) → n + 1 < 281474976710656 → n < 281474976710656
       less n is = omega (arith, is)
@@ -102,7 +104,7 @@ module _ (laws : Laws) (service : Service) (log marks : Log) (t : Tabled) (roomy
   -- nothing was written
   nothing : Goes (entry.WriteNothing l)
   nothing follow last =
-      behind (entry.WriteNothing l) t last (laws.quiet service log (entry.WriteNothing l) t roomy router follow refl tt)
+      behind (entry.WriteNothing l) t last (laws.quiet service texts log (entry.WriteNothing l) t roomy router follow refl tt)
       (record { may = may; same = same_itself now })
 
   -- so much was
@@ -112,7 +114,7 @@ module _ (laws : Laws) (service : Service) (log marks : Log) (t : Tabled) (roomy
       let x : Tabled = wrote_on l count 0 t in
       let some : 0 < count = subst (λ (xs : List ℕ). 0 < length xs) (least_taken n sent.bytes) follow.fits.some in
       behind (entry.Wrote l sent.tag (take count sent.bytes)) x last
-      (laws.writes service log t x roomy l sent count router follow (record {
+      (laws.writes service texts log t x roomy l sent count router follow (record {
         server = says.server;
         there = says.there;
         lent = lends.lends sent is;
@@ -136,7 +138,7 @@ module _ (laws : Laws) (service : Service) (log marks : Log) (t : Tabled) (roomy
   failed follow last =
       let x : Tabled = lost_in l t in
       behind (entry.WriteFailed l) x last
-      (laws.loses service log t x roomy l WriteFails None None router follow tt tt (record {
+      (laws.loses service texts log t x roomy l WriteFails None None router follow tt tt (record {
         server = says.server;
         there = says.there;
         may = tt;

@@ -5,7 +5,8 @@ use Rattle.mx_wire.specs.Log.{Log}
 use Rattle.mx_wire.specs.Tells.{MayFollow}
 use Rattle.mx_wire.specs.declared.entry.Entry.{Entry}
 use Rattle.core_service.specs.declared.service.Service.{Service}
-use Rattle.core_promises.specs.Ruled.{book_of}
+use Rattle.core_texts.specs.declared.texts.Texts.{Texts}
+use Rattle.core_promises.specs.Ruled.{Ruling, book_of, ruling_of}
 use Rattle.core_promises.specs.Judges.{Rulebook}
 use Rattle.private_model.specs.Names.{ClientNo, LinkId}
 use Rattle.private_model.specs.View.{Setup}
@@ -41,17 +42,25 @@ use Rattle.router_laws.proofs.OfLinks.Losses as losses
 use Rattle.router_laws.proofs.OfLinks.Losses.{IsLoss}
 use Rattle.router_laws.proofs.OfLinks.OneLoses as somebody
 use Rattle.router_laws.specs.links.Loses.{Break, LosesSo, entry_by}
+use Rattle.query_rules.specs.Passing.{rules_of}
+use Rattle.router_laws.specs.decisions.Speaks.{AreGoingOurs}
+use Rattle.core_texts.specs.Texts.{key_at}
+use Rattle.router_laws.proofs.OfDecisions.Speaking.{known_keys}
 
-module _ (laws : Laws) (judges : FollowsJudge) (service : Service) (log : Log) (t now : Tabled) (roomy : ClientNo → Bool) (l : LinkId) (how : Break)
-    (given : Option GivenUp) (router : IsRouter service log t roomy) (follow : MayFollow log (entry_by how l)) where
+module _ {texts : Texts} (laws : Laws) (judges : FollowsJudge) (service : Service) (log : Log) (t now : Tabled) (roomy : ClientNo → Bool) (l : LinkId) (how : Break)
+    (given : Option GivenUp) (router : IsRouter service texts log t roomy) (follow : MayFollow log (entry_by how l)) where
   abbrev e : Entry
   e = entry_by how l
 
   abbrev book : Rulebook
   book = book_of service
 
-  module _ (it : Going) (so : LosesSo service.setup service.default_schema l given (Some it) t now) (tells : TellsSo (Some it) service.setup)
-      (ruled : IsRuledOn book (Some it) service.setup service.default_schema so.lost now so.goes) (setup : Setup) (codes : Codes) (plan : Plan)
+  abbrev ruling : Ruling
+  ruling = ruling_of service (key_at texts)
+
+  module _ (it : Going) (so : LosesSo service.setup service.default_schema l given (Some it) t now)
+      (ours : AreGoingOurs (rules_of service.rules) texts (Some it)) (tells : TellsSo (Some it) service.setup)
+      (ruled : IsRuledOn ruling (Some it) service.setup service.default_schema so.lost now so.goes) (setup : Setup) (codes : Codes) (plan : Plan)
       (of : IsOf (decided_with (deeds_of given (Some it)) router.counts log e router.core.decided) (length (with_entry log e)) plan)
       (fits : Fits (decided_with (deeds_of given (Some it)) router.counts log e router.core.decided).keys setup codes plan service.default_schema (tale_of setup plan (with_entry log e))) where
     abbrev g : Ground
@@ -60,11 +69,11 @@ module _ (laws : Laws) (judges : FollowsJudge) (service : Service) (log : Log) (
     abbrev last : Tale
     last = tale_step setup plan g.tale e
 
-    before : IsBefore service log e t roomy router (deeds_of given (Some it)) setup codes plan
-    before = onward.before laws service log t now roomy l how given (Some it) router follow so tells setup codes plan of fits
+    before : IsBefore service texts log e t roomy router (deeds_of given (Some it)) setup codes plan
+    before = onward.before laws service log t now roomy l how given (Some it) router follow so ours tells setup codes plan of fits
 
     is : IsLoss service.setup service.default_schema g log e given (Some it)
-    is = onward.is laws service log t now roomy l how given (Some it) router follow so tells setup codes plan of fits
+    is = onward.is laws service log t now roomy l how given (Some it) router follow so ours tells setup codes plan of fits
 
     abbrev x : tales.Client
     x = (somebody.found laws.losses service.setup service.default_schema g log t now roomy l how given it before.rests is so).0
@@ -77,12 +86,12 @@ module _ (laws : Laws) (judges : FollowsJudge) (service : Service) (log : Log) (
 
     judged : JudgedFrom book setup plan x takings x.taken it.choices it.halt
     judged =
-        judges book service.setup service.default_schema g so.lost so.goes.turned g.fresh e x
+        judges ruling service.setup service.default_schema g so.lost so.goes.turned g.fresh e x
         (losses.later laws.losses service.setup service.default_schema g log t now roomy l how given (Some it) before.rests is so)
         it.choices it.halt it.parting it.client number
         (somebody.following laws.losses service.setup service.default_schema g log t now roomy l how given it before.rests is so)
         (losses.lost_stands laws.losses service.setup service.default_schema g log t now roomy l how given (Some it) before.rests is so)
-        fits.single so.goes.turns ruled
+        fits.single so.goes.turns ruled (known_keys texts router.core.decided.keys router.known setup fits.keyed)
 
     plain : IsPlain g.tale e
     plain = lost_plain g.tale how l
@@ -103,16 +112,17 @@ module _ (laws : Laws) (judges : FollowsJudge) (service : Service) (log : Log) (
         by_was y
         (seated_of (λ (z : tales.Client). WasThere plan g.tale e z ⊎ HasCome g.tale e z) last y
         (subst (λ (tale : Tale). IsSeated tale y) (tale_more setup plan log e) seated)
-        (onward.were laws service log t now roomy l how given (Some it) router follow so tells setup codes plan of fits))
+        (onward.were laws service log t now roomy l how given (Some it) router follow so ours tells setup codes plan of fits))
 
-  pub loses_judge : (going : Option Going) (so : LosesSo service.setup service.default_schema l given going t now) → TellsSo going service.setup
-      → IsRuledOn book going service.setup service.default_schema so.lost now so.goes
+  pub loses_judge : (going : Option Going) (so : LosesSo service.setup service.default_schema l given going t now)
+      → AreGoingOurs (rules_of service.rules) texts going → TellsSo going service.setup
+      → IsRuledOn ruling going service.setup service.default_schema so.lost now so.goes
       → JudgesThen service log e router.core.decided router.counts (deeds_of given going)
-  loses_judge None so tells ruled = λ setup codes plan of fits. record {
+  loses_judge None so ours tells ruled = λ setup codes plan of fits. record {
     takes = λ y seated. tt;
-    gives = onward.sent laws service log t now roomy l how given None router follow so tells setup codes plan of fits;
+    gives = onward.sent laws service log t now roomy l how given None router follow so ours tells setup codes plan of fits;
   }
-  loses_judge (Some it) so tells ruled = λ setup codes plan of fits. record {
-    takes = λ y seated. one_judges it so tells ruled setup codes plan of fits y seated;
-    gives = onward.sent laws service log t now roomy l how given (Some it) router follow so tells setup codes plan of fits;
+  loses_judge (Some it) so ours tells ruled = λ setup codes plan of fits. record {
+    takes = λ y seated. one_judges it so ours tells ruled setup codes plan of fits y seated;
+    gives = onward.sent laws service log t now roomy l how given (Some it) router follow so ours tells setup codes plan of fits;
   }

@@ -11,6 +11,7 @@ use Rattle.mx_wire.specs.Tells.{MayFollow}
 use Rattle.mx_wire.specs.declared.entry.Entry.{Entry}
 use Rattle.mx_wire.specs.Log as logs
 use Rattle.core_service.specs.declared.service.Service.{Service}
+use Rattle.core_texts.specs.declared.texts.Texts.{Texts}
 use Rattle.client_session.specs.Setups.{Setup as Serving}
 use Rattle.private_model.proofs.Maps.{link_of}
 use Rattle.private_model.specs.Names.{ClientNo, LinkId}
@@ -77,6 +78,9 @@ use Rattle.router_laws.proofs.OfLinks.Losses as losses
 use Rattle.router_laws.proofs.OfLinks.Losses.{AreLost, IsLoss}
 use Rattle.router_laws.proofs.OfLinks.Routing.{has_row, open_one}
 use Rattle.router_laws.specs.links.Loses.{Break, LosesSo, ReadEnds, ReadFails, WriteFails, entry_by}
+use Rattle.query_rules.specs.Passing.{rules_of}
+use Rattle.router_laws.proofs.OfDecisions.Speaking.{going_told}
+use Rattle.router_laws.specs.decisions.Speaks.{AreGoingOurs}
 
 -- The laws by which it goes.
 pub record Laws : Type 0 where
@@ -95,12 +99,12 @@ pub record Laws : Type 0 where
       → AreCountsOf n (tale_of setup plan log) → TakesSo n deeds (tale_step setup plan (tale_of setup plan log) e)
       → BeginsSo setup (tale_of setup plan log) e deeds
       → AreCountsOf (counts_with deeds n log e) (tale_of setup plan (with_entry log e))
-  pub stood : (service : Service) (log : Log) (e : Entry) (t : Tabled) (roomy : ClientNo → Bool) (deeds : Deeds)
-      (setup : Setup) (codes : Codes) (plan : Plan) → (router : IsRouter service log t roomy) → MayFollow log e
+  pub stood : (service : Service) (texts : Texts) (log : Log) (e : Entry) (t : Tabled) (roomy : ClientNo → Bool) (deeds : Deeds)
+      (setup : Setup) (codes : Codes) (plan : Plan) → (router : IsRouter service texts log t roomy) → MayFollow log e
       → IsOf (decided_with deeds router.counts log e router.core.decided) (length (with_entry log e)) plan
       → Fits (decided_with deeds router.counts log e router.core.decided).keys setup codes plan service.default_schema (tale_of setup plan (with_entry log e))
       → All (λ (client : tales.Client). IsHeardMore (tale_of setup plan (with_entry log e)) client) (tale_of setup plan log).clients
-      → IsBefore service log e t roomy router deeds setup codes plan
+      → IsBefore service texts log e t roomy router deeds setup codes plan
   pub rise : (setup : Setup) (plan : Plan) (log : Log) → AllLawful MayFollow log → Ascend (λ l. l.0) (tale_of setup plan log).links
 
 -- What a loss is for the rest.
@@ -155,9 +159,10 @@ loses_open log t now how l rows keeps =
     let same : (k : LinkId) → has_row now k ≡ has_row t k = λ k. λ i. keeps.links k i || is_some (keeps.numbers k i) in
     open_one log t now rows (entry_by how l) l (lost_link how l) (lost_open how l (is_open l log) ∙ rows l ∙ sym (same l)) (λ k apart. same k)
 
-module _ (laws : Laws) (service : Service) (log : Log) (t now : Tabled) (roomy : ClientNo → Bool) (l : LinkId) (how : Break)
-    (given : Option GivenUp) (going : Option Going) (router : IsRouter service log t roomy) (follow : MayFollow log (entry_by how l))
-    (so : LosesSo service.setup service.default_schema l given going t now) (tells : TellsSo going service.setup) (setup : Setup) (codes : Codes) (plan : Plan)
+module _ {texts : Texts} (laws : Laws) (service : Service) (log : Log) (t now : Tabled) (roomy : ClientNo → Bool) (l : LinkId) (how : Break)
+    (given : Option GivenUp) (going : Option Going) (router : IsRouter service texts log t roomy) (follow : MayFollow log (entry_by how l))
+    (so : LosesSo service.setup service.default_schema l given going t now) (ours : AreGoingOurs (rules_of service.rules) texts going)
+    (tells : TellsSo going service.setup) (setup : Setup) (codes : Codes) (plan : Plan)
     (of : IsOf (decided_with (deeds_of given going) router.counts log (entry_by how l) router.core.decided) (length (with_entry log (entry_by how l))) plan)
     (fits : Fits (decided_with (deeds_of given going) router.counts log (entry_by how l) router.core.decided).keys setup codes plan service.default_schema (tale_of setup plan (with_entry log (entry_by how l)))) where
   abbrev e : Entry
@@ -181,8 +186,8 @@ module _ (laws : Laws) (service : Service) (log : Log) (t now : Tabled) (roomy :
   abbrev over : ClientNo → Bool
   over = over_by later
 
-  pub before : IsBefore service log e t roomy router its_deeds setup codes plan
-  before = laws.stood service log e t roomy its_deeds setup codes plan router follow of fits (heard_always setup plan log e)
+  pub before : IsBefore service texts log e t roomy router its_deeds setup codes plan
+  before = laws.stood service texts log e t roomy its_deeds setup codes plan router follow of fits (heard_always setup plan log e)
 
   gives : AreGivenUp (told_to given) (λ (other : LinkId). is_link_id other l) t
   gives = given_up_with service.setup g t l given before.rests.stands so.may
@@ -190,7 +195,8 @@ module _ (laws : Laws) (service : Service) (log : Log) (t now : Tabled) (roomy :
   -- what is given up wasn't answered before
 
   plans : PlansSo g log e its_deeds
-  plans = before.so (laws.ungiven service.setup g t (told_to given) (λ (other : LinkId). is_link_id other l) before.rests.stands gives)
+  plans = before.so (going_told d.keys (rules_of service.rules) texts given going router.known ours)
+      (laws.ungiven service.setup g t (told_to given) (λ (other : LinkId). is_link_id other l) before.rests.stands gives)
 
   unreplied : AreUnreplied g (λ (c : ClientNo). is_some (told_to given c))
   unreplied = laws.unreplied service.setup g t (told_to given) (λ (other : LinkId). is_link_id other l) before.rests.stands gives

@@ -224,10 +224,10 @@ module _ (laws : Laws) (service : Service) (default : List ℕ) (g : Ground) (lo
   ends_are : deeds.ends_in decided x.number ≡ deeds.ends_by it.halt (end_of it.parting)
   ends_are = λ i. deeds.ends_by (halts_are i) (for_same it.client x.number (end_of it.parting) None its i)
 
-  chosen : PlanHas it.choices it.halt g.plan moment (name_of x (suc x.taken))
+  chosen : PlanHas it.choices it.halt g.setup.keys g.plan moment (name_of x (suc x.taken))
   chosen =
-      subst (λ (halt : Halt). PlanHas it.choices halt g.plan moment (name_of x (suc x.taken))) halts_are
-      (subst (λ (choices : List Choice). PlanHas choices (decided.halts x.number) g.plan moment (name_of x (suc x.taken))) calls_are
+      subst (λ (halt : Halt). PlanHas it.choices halt g.setup.keys g.plan moment (name_of x (suc x.taken))) halts_are
+      (subst (λ (choices : List Choice). PlanHas choices (decided.halts x.number) g.setup.keys g.plan moment (name_of x (suc x.taken))) calls_are
       (has.chosen who.going))
 
   none_of : (over : Bool) → (not over && false) ≡ false

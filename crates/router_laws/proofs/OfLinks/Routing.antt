@@ -55,7 +55,7 @@ writing begun = record no_deeds { begun = begun }
 pub opening_idle : (login : Login) → IsIdleBy (opening login)
 opening_idle login = record {
   alone = λ c. All-nil IsAlone;
-  ours = λ rules. ours_of_link rules (Some login) None;
+  ours = λ rules texts. ours_of_link rules texts (Some login) None;
   none = record { given = λ c. refl; ends = λ c. refl };
   takes = λ c. refl;
 }
@@ -63,7 +63,7 @@ opening_idle login = record {
 pub writing_idle : (begun : Option (Option StepText)) → IsIdleBy (writing begun)
 writing_idle begun = record {
   alone = λ c. All-nil IsAlone;
-  ours = λ rules. ours_of_link rules None begun;
+  ours = λ rules texts. ours_of_link rules texts None begun;
   none = record { given = λ c. refl; ends = λ c. refl };
   takes = λ c. refl;
 }
@@ -71,7 +71,7 @@ writing_idle begun = record {
 pub none_idle : IsIdleBy no_deeds
 none_idle = record {
   alone = λ c. All-nil IsAlone;
-  ours = λ rules. ours_of_none rules;
+  ours = λ rules texts. ours_of_none rules texts;
   none = record { given = λ c. refl; ends = λ c. refl };
   takes = λ c. refl;
 }

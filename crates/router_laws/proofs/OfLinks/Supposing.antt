@@ -86,7 +86,9 @@ module _ (g : Ground) (own : MessageName → Option OwnAnswer) where
     working_alike row (Some work) is = record {
       last = is.last;
       went = is.went;
-      command = is.command;
+      number = is.number;
+      only = is.only;
+      prepares = is.prepares;
       first = is.first;
       unsent = is.unsent;
       there = is.there;
@@ -155,8 +157,8 @@ module _ (g : Ground) (own : MessageName → Option OwnAnswer) where
       next_for asking (purposes.Statement n ordinal key) is = record {
         said = is.said;
         first = is.first;
-        text = is.text;
-        plain = is.plain;
+        asked = is.asked;
+        number = is.number;
         taken_up = taken_alike n ordinal is.taken_up;
       }
       next_for asking (purposes.Prep n ordinal key) is = record { said = is.said; told = is.told; taken_up = taken_alike n ordinal is.taken_up }
@@ -181,7 +183,7 @@ module _ (g : Ground) (own : MessageName → Option OwnAnswer) where
         last = is.last;
         sent = is.sent;
         hostgroup = is.hostgroup;
-        plain = is.plain;
+        number = is.number;
         first = is.first;
         coming = is.coming;
       }
@@ -262,7 +264,7 @@ module _ (g : Ground) (own : MessageName → Option OwnAnswer) where
   duly_alike : AreDuly g.setup g.plan g.tale.story → AreDuly g.setup supposed.plan g.tale.story
   duly_alike =
       became_so g.setup (IsDuly g.setup g.plan) (IsDuly g.setup supposed.plan)
-      (λ n due is. record { route = is.route; routed = is.routed; keyed = is.keyed; whole = is.whole }) g.tale.story
+      (λ n due is. record { route = is.route; routed = is.routed; hostgroup = is.hostgroup; multiplex = is.multiplex; keyed = is.keyed; whole = is.whole }) g.tale.story
 
   -- All of it, where each client stands alike.
   module _ (service : Service) (t : Tabled) (stands : Stands service g t)

@@ -7,6 +7,7 @@ use Rattle.mx_wire.specs.Tells.{MayFollow}
 use Rattle.mx_wire.specs.declared.entry.Entry.{Entry}
 use Rattle.mx_wire.specs.declared.entry.Entry.TheVariants as entry
 use Rattle.core_service.specs.declared.service.Service.{Service}
+use Rattle.core_texts.specs.declared.texts.Texts.{Texts}
 use Rattle.client_session.specs.Setups.{Setup as Serving}
 use Rattle.private_model.specs.Names.{ClientNo, LinkId}
 use Rattle.private_model.specs.View.{Setup}
@@ -30,7 +31,7 @@ use Rattle.core_laws.specs.entry.Tells.{Fits, IsOf, ground}
 use Rattle.router_laws.proofs.OfClients.Entering.{entered_goes_on, heard_always}
 use Rattle.router_laws.specs.clients.Behind.{IsDueBehind, IsEntered}
 use Rattle.router_laws.specs.clients.Plans.{IsDecided, nobody, over_by}
-use Rattle.router_laws.proofs.OfDecisions.Fates.{false_true}
+use Rattle.router_laws.proofs.OfDecisions.Fates.{false_true, none_told}
 use Rattle.router_laws.proofs.OfDecisions.Gathering.{over_then, silent_at, uneventful}
 use Rattle.router_laws.proofs.OfDecisions.Keeping.{recorded_then}
 use Rattle.router_laws.proofs.OfDecisions.Listing.{is_tale_of, open_with}
@@ -59,8 +60,8 @@ pub record Knows (service : Serving) : Type 0 where
 none_end : EndsNone no_deeds
 none_end = record { given = λ c. refl; ends = λ c. refl }
 
-module _ (service : Service) (knows : Knows service.setup) (log : Log) (e : Entry) (t : Tabled) (roomy : ClientNo → Bool)
-    (router : IsRouter service log t roomy) (may : MayFollow log e) (quiet : is_quiet e ≡ true)
+module _ {texts : Texts} (service : Service) (knows : Knows service.setup) (log : Log) (e : Entry) (t : Tabled) (roomy : ClientNo → Bool)
+    (router : IsRouter service texts log t roomy) (may : MayFollow log e) (quiet : is_quiet e ≡ true)
     (waits : WaitsThen service log e router.core.decided) where
   abbrev d : Decided
   d = router.core.decided
@@ -73,11 +74,11 @@ module _ (service : Service) (knows : Knows service.setup) (log : Log) (e : Entr
     abbrev g : Ground
     g = ground setup codes plan d log
 
-    stood : IsBefore service log e t roomy router no_deeds setup codes plan
+    stood : IsBefore service texts log e t roomy router no_deeds setup codes plan
     stood = stood_before service log e t roomy no_deeds setup codes plan router may of fits (heard_always setup plan log e)
 
     so : PlansSo g log e no_deeds
-    so = stood.so (none_given g (λ c. None) (λ c. refl))
+    so = stood.so (none_told d.keys no_deeds (λ c. refl)) (none_given g (λ c. None) (λ c. refl))
 
     calm : IsUneventful g
     calm = uneventful g log e no_deeds so none_end
@@ -157,8 +158,8 @@ module _ (service : Service) (knows : Knows service.setup) (log : Log) (e : Entr
   open_same : AreOpenJust (with_entry log e) t
   open_same l = open_with log e l ∙ open_by l (is_link l (link_of e)) ∙ router.open_just l
 
-  pub quiet_router : IsRouter service (with_entry log e) t roomy
-  quiet_router = router_goes_on service log e no_deeds t t roomy roomy router may (ours_of_none (rules_of service.rules)) waits
+  pub quiet_router : IsRouter service texts (with_entry log e) t roomy
+  quiet_router = router_goes_on service log e no_deeds t t roomy roomy router may (ours_of_none (rules_of service.rules) texts) waits
       (judges_none service log e d router.counts no_deeds (λ c. refl) (λ c. refl)) goes_so open_same
 
 -- As many marks as a log may have.
@@ -178,17 +179,17 @@ mark_drained t log (entry.Exec link) mark = tt
 mark_drained t log (entry.Drop link) mark = tt
 mark_drained t log _ mark = absurd mark
 
-pub with_marks : (service : Service) (t : Tabled) (roomy : ClientNo → Bool)
-    → ((log : Log) (e : Entry) → IsRouter service log t roomy → MayFollow log e → is_quiet e ≡ true → IsDrainedAt t log e
-    → IsRouter service (with_entry log e) t roomy)
-    → (log marks : Log) → IsRouter service log t roomy → AreMarks marks → length (log ++ marks) < 281474976710656
-    → IsRouter service (log ++ marks) t roomy
-with_marks service t roomy quiets log [] router are few =
-    subst (λ (all : Log). IsRouter service all t roomy) (sym (append-nil log)) router
-with_marks service t roomy quiets log (e ∷ marks) router are few =
+pub with_marks : (service : Service) (texts : Texts) (t : Tabled) (roomy : ClientNo → Bool)
+    → ((log : Log) (e : Entry) → IsRouter service texts log t roomy → MayFollow log e → is_quiet e ≡ true → IsDrainedAt t log e
+    → IsRouter service texts (with_entry log e) t roomy)
+    → (log marks : Log) → IsRouter service texts log t roomy → AreMarks marks → length (log ++ marks) < 281474976710656
+    → IsRouter service texts (log ++ marks) t roomy
+with_marks service texts t roomy quiets log [] router are few =
+    subst (λ (all : Log). IsRouter service texts all t roomy) (sym (append-nil log)) router
+with_marks service texts t roomy quiets log (e ∷ marks) router are few =
     let size : length (log ++ e ∷ marks) ≡ length log + length (e ∷ marks) = length-append log (e ∷ marks) in
-    let next : IsRouter service (with_entry log e) t roomy =
+    let next : IsRouter service texts (with_entry log e) t roomy =
     quiets log e router (mark_may log e are.0 (omega (arith, size, few))) (mark_quiet e are.0) (mark_drained t log e are.0) in
     let same : (log ++ e ∷ []) ++ marks ≡ log ++ e ∷ marks = append_assoc log (e ∷ []) marks in
-    subst (λ (all : Log). IsRouter service all t roomy) same
-    (with_marks service t roomy quiets (with_entry log e) marks next are.1 (subst (λ (all : Log). length all < 281474976710656) (sym same) few))
+    subst (λ (all : Log). IsRouter service texts all t roomy) same
+    (with_marks service texts t roomy quiets (with_entry log e) marks next are.1 (subst (λ (all : Log). length all < 281474976710656) (sym same) few))

@@ -20,7 +20,6 @@ use Rattle.log_story.specs.Servers.{freed_if_done}
 use Rattle.log_story.specs.Tale as tales
 use Rattle.log_story.specs.Tale.{Tale, counted, is_to_server, link_in}
 use Rattle.log_story.specs.Telling.{told}
-use Rattle.link_laws.specs.Stands.{AreApart}
 use Rattle.step_laws.proofs.Giving.{kept_in}
 use Rattle.step_laws.specs.Freed.{NoneDoneBut}
 use Rattle.step_laws.specs.Seats.{IsSeated, is_its}
@@ -28,12 +27,13 @@ use Rattle.step_laws.specs.Steps.{told_then}
 use Rattle.step_laws.specs.Taken.{GivesUpNone}
 use Rattle.core_tables.specs.Hearing.{IsHeardOn}
 use Rattle.core_tables.specs.Parting.{freed_in, given_to, given_up_in, name_in}
+use Rattle.core_tables.specs.Preparing.{IsKeptFor}
 use Rattle.core_tables.specs.Tables.{IsSame, Tabled}
 use Rattle.core_tables.specs.declared.said.Said.{Said}
 use Rattle.client_desk.specs.declared.work.Work.{Work}
 use Rattle.core_tables.specs.declared.client.Client.{Client}
 use Rattle.core_tables.specs.declared.server.Server.{Server}
-use Rattle.core_stands.specs.Grounds.{Ground, on, view_on}
+use Rattle.core_stands.specs.Grounds.{AreNamed, Ground, on, view_on}
 use Rattle.core_stands.specs.Stands.{Rests, Stands}
 use Rattle.core_laws.proofs.OfParting.Named.{row_carries}
 use Rattle.core_laws.proofs.OfParting.Forgetting.{server_there}
@@ -55,10 +55,10 @@ use Rattle.router_laws.specs.reading.Hears.{HearsSo}
 
 -- The laws by which it goes.
 pub record Laws : Type 0 where
-  pub hears : (service : Service) (g : Ground) (t new : Tabled) (l : LinkId) (server : Server) (bytes : List ℕ) (now : ℕ) (result : Said)
+  pub hears : (service : Service) (g : Ground) (t mid new : Tabled) (l : LinkId) (server : Server) (bytes : List ℕ) (now : ℕ) (result : Said)
       → Stands service g t → is_to_server g.tale l ≡ true → t.links l ≡ Some server → server.row.lost ≡ false
-      → server.row.link.spoilt ≡ false → AreApart g.codes → AreBytes bytes → 0 < length bytes
-      → IsHeardOn server l bytes now result new t → IsLawful g.setup (told g.setup g.plan g.tale (entry.Got l bytes)).story
+      → server.row.link.spoilt ≡ false → AreNamed g.codes → AreBytes bytes → 0 < length bytes
+      → IsHeardOn server l bytes now result mid t → IsKeptFor result l mid new → IsLawful g.setup (told g.setup g.plan g.tale (entry.Got l bytes)).story
       → Stands service (on g (told g.setup g.plan g.tale (entry.Got l bytes))) new
   pub counts : (service : Service) (g : Ground) (t : Tabled) (given : ClientNo → Option (List ℕ)) → Stands service g t
       → AreGivenUp given (λ l. false) t → AreCounted g given → Stands service (on g (counted g.tale)) (given_up_in given t)
@@ -103,15 +103,15 @@ module _ (l : LinkId) (t : Tabled) (given : Option GivenUp) (may : MayGiveUp l g
 
 -- Bytes are read, whatever the plan.
 module _ (laws : Laws) (service : Service) (default : List ℕ) (g : Ground) (t now : Tabled) (roomy : ClientNo → Bool) (l : LinkId) (bytes : List ℕ)
-    (clock : ℕ) (given : Option GivenUp) (going : Option Going) (rests : Rests service g t roomy) (apart : AreApart g.codes) (bytes_are : AreBytes bytes)
+    (clock : ℕ) (given : Option GivenUp) (going : Option Going) (rests : Rests service g t roomy) (named : AreNamed g.codes) (bytes_are : AreBytes bytes)
     (some : 0 < length bytes) (so : HearsSo service default l bytes clock given going t now) where
   pub read_there : is_to_server g.tale l ≡ true
   read_there = server_by g t l (is_to_server g.tale l) (t.links l) (rests.stands.servers l) (ap is_some so.there)
 
   pub read_stands : Stands service (on g (told g.setup g.plan g.tale (entry.Got l bytes))) so.heard
   read_stands =
-      laws.hears service g t so.heard l so.server bytes clock so.said rests.stands read_there so.there so.whole so.sound apart bytes_are some
-      so.hears (told_lawful service g t l so.server bytes rests.stands read_there so.there)
+      laws.hears service g t so.read so.heard l so.server bytes clock so.said rests.stands read_there so.there so.whole so.sound named bytes_are some
+      so.hears so.keeps (told_lawful service g t l so.server bytes rests.stands read_there so.there)
 
   pub read_gives : AreGivenUp (told_to given) (λ (other : LinkId). false) so.heard
   read_gives =
@@ -131,7 +131,7 @@ module _ (laws : Laws) (service : Service) (default : List ℕ) (g : Ground) (lo
   freed = freed_if_done g.setup g.plan heard l
 
   pub there : is_to_server g.tale l ≡ true
-  there = read_there laws service default g t now roomy l bytes clock given going rests is.apart is.bytes_are is.some so
+  there = read_there laws service default g t now roomy l bytes clock given going rests is.named is.bytes_are is.some so
 
   pub homes : AreHomed (view_on g).links (view_on g).held
   homes = laws.homed g.setup g.tale.story rests.stands.lawful
@@ -153,10 +153,10 @@ module _ (laws : Laws) (service : Service) (default : List ℕ) (g : Ground) (lo
   moment_same = reads.said_moment service g t roomy rests l bytes (λ c. true) there (λ n is. refl) homes
 
   pub said_stands : Stands service (on g said) so.heard
-  said_stands = read_stands laws service default g t now roomy l bytes clock given going rests is.apart is.bytes_are is.some so
+  said_stands = read_stands laws service default g t now roomy l bytes clock given going rests is.named is.bytes_are is.some so
 
   gives : AreGivenUp (told_to given) (λ (other : LinkId). false) so.heard
-  gives = read_gives laws service default g t now roomy l bytes clock given going rests is.apart is.bytes_are is.some so
+  gives = read_gives laws service default g t now roomy l bytes clock given going rests is.named is.bytes_are is.some so
 
   -- the plan has it
 

@@ -7,7 +7,8 @@ use Rattle.mx_wire.specs.Tells.{MayFollow}
 use Rattle.mx_wire.specs.declared.entry.Entry.{Entry}
 use Rattle.mx_wire.specs.declared.entry.Entry.TheVariants as entry
 use Rattle.core_service.specs.declared.service.Service.{Service}
-use Rattle.core_promises.specs.Ruled.{book_of}
+use Rattle.core_texts.specs.declared.texts.Texts.{Texts}
+use Rattle.core_promises.specs.Ruled.{Ruling, book_of, ruling_of}
 use Rattle.core_promises.specs.Judges.{Rulebook}
 use Rattle.private_model.proofs.Maps.{client_of}
 use Rattle.private_model.specs.Names.{ClientNo, LinkId}
@@ -43,6 +44,10 @@ use Rattle.router_laws.proofs.OfReading.Somebody as somebody
 use Rattle.router_laws.proofs.OfReading.Somebody.{for_other, for_same}
 use Rattle.router_laws.specs.reading.Hearing.{IsHearing}
 use Rattle.router_laws.specs.reading.Hears.{HearsSo}
+use Rattle.query_rules.specs.Passing.{rules_of}
+use Rattle.router_laws.specs.decisions.Speaks.{AreGoingOurs}
+use Rattle.core_texts.specs.Texts.{key_at}
+use Rattle.router_laws.proofs.OfDecisions.Speaking.{known_keys}
 
 -- who stands alone with a number is one
 pub one_seated : (x was : tales.Client) (xs : List tales.Client) → x ∷ [] ≡ xs → xs ≡ was ∷ [] → x ≡ was
@@ -74,8 +79,8 @@ module _ (book : Rulebook) (setup : Setup) (plan : Plan) (tale : Tale) (e : Entr
       → Judged y ((deeds_of given (Some it)).calls y.number) ((deeds_of given (Some it)).halts y.number)
   one_judged y was seated_was on unread = one_by y was seated_was on unread (is_client it.client y.number) refl
 
-module _ (laws : Laws) (judges : FollowsJudge) (service : Service) (log : Log) (t now : Tabled) (roomy : ClientNo → Bool) (l : LinkId) (bytes : List ℕ)
-    (clock : ℕ) (given : Option GivenUp) (router : IsRouter service log t roomy) (follow : MayFollow log (entry.Got l bytes))
+module _ {texts : Texts} (laws : Laws) (judges : FollowsJudge) (service : Service) (log : Log) (t now : Tabled) (roomy : ClientNo → Bool) (l : LinkId) (bytes : List ℕ)
+    (clock : ℕ) (given : Option GivenUp) (router : IsRouter service texts log t roomy) (follow : MayFollow log (entry.Got l bytes))
     (bytes_are : AreBytes bytes) where
   abbrev e : Entry
   e = entry.Got l bytes
@@ -83,8 +88,12 @@ module _ (laws : Laws) (judges : FollowsJudge) (service : Service) (log : Log) (
   abbrev book : Rulebook
   book = book_of service
 
+  abbrev ruling : Ruling
+  ruling = ruling_of service (key_at texts)
+
   module _ (it : Going) (so : HearsSo service.setup service.default_schema l bytes clock given (Some it) t now)
-      (ruled : IsRuledOn book (Some it) service.setup service.default_schema so.freed now so.goes) (setup : Setup) (codes : Codes) (plan : Plan)
+      (ours : AreGoingOurs (rules_of service.rules) texts (Some it))
+      (ruled : IsRuledOn ruling (Some it) service.setup service.default_schema so.freed now so.goes) (setup : Setup) (codes : Codes) (plan : Plan)
       (of : IsOf (decided_with (deeds_of given (Some it)) router.counts log e router.core.decided) (length (with_entry log e)) plan)
       (fits : Fits (decided_with (deeds_of given (Some it)) router.counts log e router.core.decided).keys setup codes plan service.default_schema (tale_of setup plan (with_entry log e))) where
     abbrev g : Ground
@@ -93,11 +102,11 @@ module _ (laws : Laws) (judges : FollowsJudge) (service : Service) (log : Log) (
     abbrev last : Tale
     last = tale_step setup plan g.tale e
 
-    before : IsBefore service log e t roomy router (deeds_of given (Some it)) setup codes plan
-    before = onward.before laws service log t now roomy l bytes clock given (Some it) router follow bytes_are so setup codes plan of fits
+    before : IsBefore service texts log e t roomy router (deeds_of given (Some it)) setup codes plan
+    before = onward.before laws service log t now roomy l bytes clock given (Some it) router follow bytes_are so ours setup codes plan of fits
 
     is : IsHearing service.setup service.default_schema g log l bytes given (Some it)
-    is = onward.is laws service log t now roomy l bytes clock given (Some it) router follow bytes_are so setup codes plan of fits
+    is = onward.is laws service log t now roomy l bytes clock given (Some it) router follow bytes_are so ours setup codes plan of fits
 
     abbrev x : tales.Client
     x = (somebody.found laws.reads service.setup service.default_schema g log t now roomy l bytes clock given it before.rests is so).0
@@ -110,12 +119,12 @@ module _ (laws : Laws) (judges : FollowsJudge) (service : Service) (log : Log) (
 
     judged : JudgedFrom book setup plan x takings x.taken it.choices it.halt
     judged =
-        judges book service.setup service.default_schema g so.freed so.goes.turned g.fresh e x
+        judges ruling service.setup service.default_schema g so.freed so.goes.turned g.fresh e x
         (hearing.freed laws.reads service.setup service.default_schema g log t now roomy l bytes clock given (Some it) before.rests is so)
         it.choices it.halt it.parting it.client number
         (somebody.following laws.reads service.setup service.default_schema g log t now roomy l bytes clock given it before.rests is so)
         (hearing.freed_stands laws.reads service.setup service.default_schema g log t now roomy l bytes clock given (Some it) before.rests is so)
-        fits.single so.goes.turns ruled
+        fits.single so.goes.turns ruled (known_keys texts router.core.decided.keys router.known setup fits.keyed)
 
     by_was : (y : tales.Client) → WasThere plan g.tale e y ⊎ HasCome g.tale e y
         → JudgedFrom book setup plan y takings (router.counts.taken y.number) ((deeds_of given (Some it)).calls y.number)
@@ -125,7 +134,7 @@ module _ (laws : Laws) (judges : FollowsJudge) (service : Service) (log : Log) (
         one_judged book setup plan g.tale e router.counts.taken before.counts.taken given it x
         (somebody.seated laws.reads service.setup service.default_schema g log t now roomy l bytes clock given it before.rests is so) number takings judged y was.was
         was.seated was.continued
-        (onward.unread_by laws service log t now roomy l bytes clock given (Some it) router follow bytes_are so setup codes plan of fits was.was was.seated
+        (onward.unread_by laws service log t now roomy l bytes clock given (Some it) router follow bytes_are so ours setup codes plan of fits was.was was.seated
         (is_link_id was.was.link l) refl)
 
     one_judges : (y : tales.Client) → IsSeated (tale_of setup plan (with_entry log e)) y
@@ -135,16 +144,16 @@ module _ (laws : Laws) (judges : FollowsJudge) (service : Service) (log : Log) (
         by_was y
         (seated_of (λ (z : tales.Client). WasThere plan g.tale e z ⊎ HasCome g.tale e z) last y
         (subst (λ (tale : Tale). IsSeated tale y) (tale_more setup plan log e) seated)
-        (onward.were laws service log t now roomy l bytes clock given (Some it) router follow bytes_are so setup codes plan of fits))
+        (onward.were laws service log t now roomy l bytes clock given (Some it) router follow bytes_are so ours setup codes plan of fits))
 
   pub hears_judge : (going : Option Going) (so : HearsSo service.setup service.default_schema l bytes clock given going t now)
-      → IsRuledOn book going service.setup service.default_schema so.freed now so.goes
+      → AreGoingOurs (rules_of service.rules) texts going → IsRuledOn ruling going service.setup service.default_schema so.freed now so.goes
       → JudgesThen service log e router.core.decided router.counts (deeds_of given going)
-  hears_judge None so ruled = λ setup codes plan of fits. record {
+  hears_judge None so ours ruled = λ setup codes plan of fits. record {
     takes = λ y seated. tt;
-    gives = onward.sent laws service log t now roomy l bytes clock given None router follow bytes_are so setup codes plan of fits;
+    gives = onward.sent laws service log t now roomy l bytes clock given None router follow bytes_are so ours setup codes plan of fits;
   }
-  hears_judge (Some it) so ruled = λ setup codes plan of fits. record {
-    takes = λ y seated. one_judges it so ruled setup codes plan of fits y seated;
-    gives = onward.sent laws service log t now roomy l bytes clock given (Some it) router follow bytes_are so setup codes plan of fits;
+  hears_judge (Some it) so ours ruled = λ setup codes plan of fits. record {
+    takes = λ y seated. one_judges it so ours ruled setup codes plan of fits y seated;
+    gives = onward.sent laws service log t now roomy l bytes clock given (Some it) router follow bytes_are so ours setup codes plan of fits;
   }

@@ -8,9 +8,10 @@ use Rattle.mx_base.specs.declared.names.LinkId.{LinkId}
 use Rattle.client_session.specs.Setups.{Setup as Service}
 use Rattle.session_state.specs.declared.names.SessionName.{SessionName}
 use Rattle.client_seat.specs.Seats.{is_ended}
-use Rattle.core_promises.specs.Judges.{Rulebook}
+use Rattle.core_promises.specs.Ruled.{Ruling}
 use Rattle.core_tables.specs.Hearing.{IsHeard, IsHeardBy}
 use Rattle.core_tables.specs.Parting.{changed_for, freed_in, freed_of, freed_row, given_row, given_up_in, is_done_in, name_in, present_in}
+use Rattle.core_tables.specs.Preparing.{IsKeptFor}
 use Rattle.core_tables.specs.Tables.{IsSame, Tabled}
 use Rattle.core_tables.specs.declared.client.Client.{Client}
 use Rattle.core_tables.specs.declared.said.Said.{Said}
@@ -28,22 +29,25 @@ tables_are a b same = λ i. record {
   links = λ (l : LinkId). same.links l i;
 }
 
-pub made_so : (book : Rulebook) (service : Service) (default : List ℕ) (l : LinkId) (bytes : List ℕ) (clock : ℕ) (given : Option GivenUp) (going : Option Going)
-    (server : Server) (said : Said) (old heard mid freed now : Tabled) → old.links l ≡ Some server → server.row.lost ≡ false
-    → server.row.link.spoilt ≡ false → IsHeard l bytes clock said heard old → MayGiveUp l given heard
+pub made_so : (ruling : Ruling) (service : Service) (default : List ℕ) (l : LinkId) (bytes : List ℕ) (clock : ℕ) (given : Option GivenUp) (going : Option Going)
+    (server : Server) (said : Said) (old read heard mid freed now : Tabled) → old.links l ≡ Some server → server.row.lost ≡ false
+    → server.row.link.spoilt ≡ false → IsHeard l bytes clock said read old → IsKeptFor said l read heard
+    → MayGiveUp l given heard
     → IsSame mid (given_up_in (told_to given) heard) → IsSame freed (freed_in l mid)
     → IsCalled (name_in server.row.link.state.carries) given freed (option_map (λ (g : Going). g.client) going)
-    → (goes : GoesSo going service default freed now) → IsRuledOn book going service default freed now goes
-    → HearsRuled book service default l bytes clock given going old now
-made_so book service default l bytes clock given going server said old heard mid freed now there whole sound hears may gives frees called goes ruled = record {
+    → (goes : GoesSo going service default freed now) → IsRuledOn ruling going service default freed now goes
+    → HearsRuled ruling service default l bytes clock given going old now
+made_so ruling service default l bytes clock given going server said old read heard mid freed now there whole sound hears keeps may gives frees called goes ruled = record {
   so = record {
     server = server;
     there = there;
     whole = whole;
     sound = sound;
     said = said;
+    read = read;
+    hears = subst (λ (row : Option Server). IsHeardBy row l bytes clock said read old) there hears;
     heard = heard;
-    hears = subst (λ (row : Option Server). IsHeardBy row l bytes clock said heard old) there hears;
+    keeps = keeps;
     may = may;
     freed = freed;
     frees = subst (λ (t : Tabled). IsSame freed (freed_in l t)) (tables_are mid (given_up_in (told_to given) heard) gives) frees;

@@ -12,12 +12,13 @@ use Rattle.mx_wire.specs.Tells.{MayFollow}
 use Rattle.mx_wire.specs.declared.entry.Entry.{Entry}
 use Rattle.mx_wire.specs.declared.entry.Entry.TheVariants as entry
 use Rattle.core_service.specs.declared.service.Service.{Service}
+use Rattle.core_texts.specs.declared.texts.Texts.{Texts}
 use Rattle.client_session.specs.Setups.{Setup as Serving}
 use Rattle.private_model.proofs.Maps.{link_of}
 use Rattle.private_model.specs.Names.{ClientNo, LinkId, MessageName}
 use Rattle.private_model.specs.Story.{is_link_id}
 use Rattle.private_model.specs.View.{Setup}
-use Rattle.link_laws.specs.Stands.{AreApart, Codes}
+use Rattle.link_laws.specs.Stands.{Codes}
 use Rattle.log_story.specs.Headline.{tale_of}
 use Rattle.log_story.specs.Owed.{name_of}
 use Rattle.log_story.specs.Plan.{Behind, LastWord, Plan, WordPlace, own_at, word_at}
@@ -77,6 +78,9 @@ use Rattle.router_laws.proofs.OfReading.Rows.{hears_keep_rows}
 use Rattle.router_laws.proofs.OfReading.Spoken.{all_spoken}
 use Rattle.router_laws.specs.reading.Hearing.{AreHeard, IsHearing, TellsFor, TellsSo, last_word}
 use Rattle.router_laws.specs.reading.Hears.{HearsSo}
+use Rattle.query_rules.specs.Passing.{rules_of}
+use Rattle.router_laws.proofs.OfDecisions.Speaking.{going_told}
+use Rattle.router_laws.specs.decisions.Speaks.{AreGoingOurs}
 
 -- The laws by which it goes.
 pub record Laws : Type 0 where
@@ -95,12 +99,12 @@ pub record Laws : Type 0 where
       → AreCountsOf n (tale_of setup plan log) → TakesSo n deeds (tale_step setup plan (tale_of setup plan log) e)
       → BeginsSo setup (tale_of setup plan log) e deeds
       → AreCountsOf (counts_with deeds n log e) (tale_of setup plan (with_entry log e))
-  pub stood : (service : Service) (log : Log) (e : Entry) (t : Tabled) (roomy : ClientNo → Bool) (deeds : Deeds)
-      (setup : Setup) (codes : Codes) (plan : Plan) → (router : IsRouter service log t roomy) → MayFollow log e
+  pub stood : (service : Service) (texts : Texts) (log : Log) (e : Entry) (t : Tabled) (roomy : ClientNo → Bool) (deeds : Deeds)
+      (setup : Setup) (codes : Codes) (plan : Plan) → (router : IsRouter service texts log t roomy) → MayFollow log e
       → IsOf (decided_with deeds router.counts log e router.core.decided) (length (with_entry log e)) plan
       → Fits (decided_with deeds router.counts log e router.core.decided).keys setup codes plan service.default_schema (tale_of setup plan (with_entry log e))
       → All (λ (client : tales.Client). IsHeardMore (tale_of setup plan (with_entry log e)) client) (tale_of setup plan log).clients
-      → IsBefore service log e t roomy router deeds setup codes plan
+      → IsBefore service texts log e t roomy router deeds setup codes plan
   pub rise : (setup : Setup) (plan : Plan) (log : Log) → AllLawful MayFollow log → Ascend (λ l. l.0) (tale_of setup plan log).links
   pub tells : (service : Serving) (payload : List ℕ) (g : Ground) (c : ClientNo) (moment : ℕ) (word : LastWord) → g.over c ≡ false
       → word_at g.plan moment c ≡ Some word → word.place ≡ Behind → word.payloads ≡ payload ∷ [] → StandTold payload service g c moment
@@ -164,13 +168,10 @@ pub there_by : (g : Ground) (client : tales.Client) (found : Option Client) → 
 there_by g client None is going = absurd (true≢false (sym is.over ∙ going))
 there_by g client (Some row) is going = refl
 
--- each key is its own number
-named_apart : (codes : Codes) → ((key : ℕ) → codes key ≡ Some key) → AreApart codes
-named_apart codes named a b number its others = same_Some a b (sym (named a) ∙ its ∙ sym others ∙ named b)
-
-module _ (laws : Laws) (service : Service) (log : Log) (t now : Tabled) (roomy : ClientNo → Bool) (l : LinkId) (bytes : List ℕ)
-    (clock : ℕ) (given : Option GivenUp) (going : Option Going) (router : IsRouter service log t roomy) (follow : MayFollow log (entry.Got l bytes))
-    (bytes_are : AreBytes bytes) (so : HearsSo service.setup service.default_schema l bytes clock given going t now) (setup : Setup)
+module _ {texts : Texts} (laws : Laws) (service : Service) (log : Log) (t now : Tabled) (roomy : ClientNo → Bool) (l : LinkId) (bytes : List ℕ)
+    (clock : ℕ) (given : Option GivenUp) (going : Option Going) (router : IsRouter service texts log t roomy) (follow : MayFollow log (entry.Got l bytes))
+    (bytes_are : AreBytes bytes) (so : HearsSo service.setup service.default_schema l bytes clock given going t now)
+    (ours : AreGoingOurs (rules_of service.rules) texts going) (setup : Setup)
     (codes : Codes) (plan : Plan)
     (of : IsOf (decided_with (deeds_of given going) router.counts log (entry.Got l bytes) router.core.decided) (length (with_entry log (entry.Got l bytes))) plan)
     (fits : Fits (decided_with (deeds_of given going) router.counts log (entry.Got l bytes) router.core.decided).keys setup codes plan service.default_schema (tale_of setup plan (with_entry log (entry.Got l bytes)))) where
@@ -198,23 +199,20 @@ module _ (laws : Laws) (service : Service) (log : Log) (t now : Tabled) (roomy :
   abbrev said : Tale
   said = told setup plan g.tale e
 
-  pub before : IsBefore service log e t roomy router its_deeds setup codes plan
-  before = laws.stood service log e t roomy its_deeds setup codes plan router follow of fits (heard_always setup plan log e)
-
-  codes_apart : AreApart codes
-  codes_apart = named_apart codes before.fits.named
+  pub before : IsBefore service texts log e t roomy router its_deeds setup codes plan
+  before = laws.stood service texts log e t roomy its_deeds setup codes plan router follow of fits (heard_always setup plan log e)
 
   stands : Stands service.setup (on g said) so.heard
   stands =
-      hearing.read_stands laws.reads service.setup service.default_schema g t now roomy l bytes clock given going before.rests codes_apart bytes_are follow.fits.some so
+      hearing.read_stands laws.reads service.setup service.default_schema g t now roomy l bytes clock given going before.rests before.fits.named bytes_are follow.fits.some so
 
   gives : AreGivenUp (told_to given) (λ (other : LinkId). false) so.heard
   gives =
-      hearing.read_gives laws.reads service.setup service.default_schema g t now roomy l bytes clock given going before.rests codes_apart bytes_are follow.fits.some so
+      hearing.read_gives laws.reads service.setup service.default_schema g t now roomy l bytes clock given going before.rests before.fits.named bytes_are follow.fits.some so
 
   there : is_to_server g.tale l ≡ true
   there =
-      hearing.read_there laws.reads service.setup service.default_schema g t now roomy l bytes clock given going before.rests codes_apart bytes_are follow.fits.some so
+      hearing.read_there laws.reads service.setup service.default_schema g t now roomy l bytes clock given going before.rests before.fits.named bytes_are follow.fits.some so
 
   said_clients : said.clients ≡ g.tale.clients
   said_clients = read_clients g l bytes there
@@ -248,12 +246,12 @@ module _ (laws : Laws) (service : Service) (log : Log) (t now : Tabled) (roomy :
       said_clients (all_sent service.setup (on g said) so.heard (told_to given) (λ (other : LinkId). false) stands gives)
 
   plans : PlansSo g log e its_deeds
-  plans = before.so ungiven
+  plans = before.so (going_told d.keys (rules_of service.rules) texts given going router.known ours) ungiven
 
   pub is : IsHearing service.setup service.default_schema g log l bytes given going
   is = record {
     plans = plans;
-    apart = codes_apart;
+    named = before.fits.named;
     classes = before.fits.classes;
     who = before.fits.who;
     bytes_are = bytes_are;

@@ -302,11 +302,11 @@ module _ (laws : Laws) (service : Service) (default : List ℕ) (g : Ground) (lo
   moment_is : freed.moment ≡ moment
   moment_is = hearing.freed_moment laws service default g log t now roomy l bytes clock given (Some it) rests is so
 
-  chosen : PlanHas it.choices it.halt g.plan freed.moment (name_of x (suc x.taken))
+  chosen : PlanHas it.choices it.halt g.setup.keys g.plan freed.moment (name_of x (suc x.taken))
   chosen =
-      subst (λ (m : ℕ). PlanHas it.choices it.halt g.plan m (name_of x (suc x.taken))) (sym moment_is)
-      (subst (λ (halt : Halt). PlanHas it.choices halt g.plan moment (name_of x (suc x.taken))) halts_are
-      (subst (λ (choices : List Choice). PlanHas choices (decided.halts x.number) g.plan moment (name_of x (suc x.taken))) calls_are
+      subst (λ (m : ℕ). PlanHas it.choices it.halt g.setup.keys g.plan m (name_of x (suc x.taken))) (sym moment_is)
+      (subst (λ (halt : Halt). PlanHas it.choices halt g.setup.keys g.plan moment (name_of x (suc x.taken))) halts_are
+      (subst (λ (choices : List Choice). PlanHas choices (decided.halts x.number) g.setup.keys g.plan moment (name_of x (suc x.taken))) calls_are
       (has.chosen who.going)))
 
   none_of : (over : Bool) → (not over && false) ≡ false

@@ -7,6 +7,7 @@ use Rattle.mx_wire.specs.Tells.{MayFollow}
 use Rattle.mx_wire.specs.declared.entry.Entry.{Entry}
 use Rattle.server_side.specs.Account.{Account as Login}
 use Rattle.core_service.specs.declared.service.Service.{Service}
+use Rattle.core_texts.specs.declared.texts.Texts.{Texts}
 use Rattle.private_model.specs.Names.{ClientNo}
 use Rattle.private_model.specs.View.{Setup}
 use Rattle.link_laws.specs.Stands.{Codes}
@@ -20,6 +21,7 @@ use Rattle.core_laws.specs.entry.Kinds.{IsUneventful}
 use Rattle.core_laws.specs.entry.Tells.{Fits, IsOf, ground}
 use Rattle.router_laws.proofs.OfClients.Entering.{heard_always}
 use Rattle.router_laws.specs.clients.Plans.{IsDecided, nobody, over_by}
+use Rattle.router_laws.proofs.OfDecisions.Fates.{none_told}
 use Rattle.router_laws.proofs.OfDecisions.Gathering.{over_then, silent_at, uneventful}
 use Rattle.router_laws.proofs.OfDecisions.Keeping.{recorded_then}
 use Rattle.router_laws.proofs.OfDecisions.Listing.{is_tale_of}
@@ -36,9 +38,9 @@ use Rattle.router_laws.specs.decisions.Plans.{EndsNone, PlansSo}
 use Rattle.router_laws.specs.decisions.Routers.{AreOpenJust, GoesSo, IsBefore, IsRouter, WaitsThen}
 use Rattle.router_laws.specs.routers.Enters.{Enters, EntersBy, of_link}
 
-module _ (service : Service) (log : Log) (e : Entry) (login : Option Login) (begun : Option (Option StepText)) (t now : Tabled)
-    (roomy room : ClientNo → Bool) (router : IsRouter service log t roomy) (may : MayFollow log e) (quiet : is_no_event e ≡ true)
-    (waits : WaitsThen service log e router.core.decided) (enters : EntersBy service log e t now roomy room router (of_link login begun)) where
+module _ {texts : Texts} (service : Service) (log : Log) (e : Entry) (login : Option Login) (begun : Option (Option StepText)) (t now : Tabled)
+    (roomy room : ClientNo → Bool) (router : IsRouter service texts log t roomy) (may : MayFollow log e) (quiet : is_no_event e ≡ true)
+    (waits : WaitsThen service log e router.core.decided) (enters : EntersBy service texts log e t now roomy room router (of_link login begun)) where
   abbrev deeds : Deeds
   deeds = of_link login begun
 
@@ -62,11 +64,11 @@ module _ (service : Service) (log : Log) (e : Entry) (login : Option Login) (beg
     abbrev g : Ground
     g = ground setup codes plan d log
 
-    stood : IsBefore service log e t roomy router deeds setup codes plan
+    stood : IsBefore service texts log e t roomy router deeds setup codes plan
     stood = stood_before service log e t roomy deeds setup codes plan router may of fits (heard_always setup plan log e)
 
     so : PlansSo g log e deeds
-    so = stood.so (none_given g (λ c. None) (λ c. refl))
+    so = stood.so (none_told d.keys deeds (λ c. refl)) (none_given g (λ c. None) (λ c. refl))
 
     calm : IsUneventful g
     calm = uneventful g log e deeds so none_end
@@ -91,6 +93,6 @@ module _ (service : Service) (log : Log) (e : Entry) (login : Option Login) (beg
       counts = counts_kept setup plan d router.counts log e deeds router.recorded may of stood.counts quiet none_called entered.begins;
     }
 
-  pub router_enters : AreOpenJust (with_entry log e) now → IsRouter service (with_entry log e) now room
-  router_enters = router_goes_on service log e deeds t now roomy room router may (ours_of_link (rules_of service.rules) login begun) waits
+  pub router_enters : AreOpenJust (with_entry log e) now → IsRouter service texts (with_entry log e) now room
+  router_enters = router_goes_on service log e deeds t now roomy room router may (ours_of_link (rules_of service.rules) texts login begun) waits
       (judges_none service log e d router.counts deeds (λ c. refl) (λ c. refl)) goes_so

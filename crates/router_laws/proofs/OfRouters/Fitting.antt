@@ -6,6 +6,7 @@ use Rattle.std.proofs.lemmas.List.Elements.{All-cons, All-head, All-nil, All-tai
 use Rattle.mx_wire.specs.Log.{Log}
 use Rattle.client_session.specs.Answers.{account, opening_of}
 use Rattle.core_service.specs.declared.service.Service.{Service}
+use Rattle.core_texts.specs.declared.texts.Texts.{Texts}
 use Rattle.client_session.specs.Setups.{Setup as Serving}
 use Rattle.client_side.specs.Login.{Fails, Opening, Says, Waits}
 use Rattle.server_rule.specs.Classes.{router_reads}
@@ -167,7 +168,7 @@ module _ (default : List ℕ) (d : Decided) (log : Log) where
     single = single_by d.routes single;
   }
 
-module _ (service : Service) (log : Log) (t : Tabled) (roomy : ClientNo → Bool) (router : IsRouter service log t roomy) where
+module _ {texts : Texts} (service : Service) (log : Log) (t : Tabled) (roomy : ClientNo → Bool) (router : IsRouter service texts log t roomy) where
   abbrev d : Decided
   d = router.core.decided
 

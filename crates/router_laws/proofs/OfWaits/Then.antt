@@ -8,6 +8,7 @@ use Rattle.private_model.specs.Names.{ClientNo, LinkId}
 use Rattle.link_laws.specs.Stands.{Codes}
 use Rattle.log_story.specs.Headline.{tale_of}
 use Rattle.core_service.specs.declared.service.Service.{Service}
+use Rattle.core_texts.specs.declared.texts.Texts.{Texts}
 use Rattle.core_tables.specs.Tables.{Tabled}
 use Rattle.core_stands.specs.Stands.{Rests}
 use Rattle.core_laws.specs.entry.Dues.{AreWrittenTo}
@@ -32,7 +33,7 @@ Done = (service : Service) (terms : Terms) (codes : Codes) (d : Decided) (log : 
     → ((c : ClientNo) → d.ends c ≡ None → d.words c ≡ None) → AreOpenJust log t → IsDrainedFor t log
     → IsDone terms log (now_at terms log)
 
-module _ (done : Done) (service : Service) (log : Log) (t : Tabled) (roomy : ClientNo → Bool) (router : IsRouter service log t roomy) where
+module _ {texts : Texts} (done : Done) (service : Service) (log : Log) (t : Tabled) (roomy : ClientNo → Bool) (router : IsRouter service texts log t roomy) where
   -- whatever the decisions call for
   all_done : IsDrainedFor t log → (terms : Terms) (codes : Codes) → IsOf router.core.decided (length log) (plan_in terms)
       → Fits router.core.decided.keys (setup_in terms) codes (plan_in terms) service.default_schema (tale_of (setup_in terms) (plan_in terms) log)

@@ -49,7 +49,9 @@ module _ (g : Ground) (client : tales.Client) (row : Client) (note : ClientNote)
   working_noted (Some work) is = record {
     last = is.last;
     went = is.went;
-    command = is.command;
+    number = is.number;
+    only = is.only;
+    prepares = is.prepares;
     first = is.first;
     unsent = is.unsent;
     there = is.there;
@@ -88,7 +90,7 @@ module _ (g : Ground) (t : Tabled) (l : LinkId) (row : Row) (who : Option Client
   statement_readied : (n : SessionName) (ordinal : ℕ) (link : Link) (asking : Asking) → IsNextStatement g t row link asking n ordinal
       → IsNextStatement g t readied_row link asking n ordinal
   statement_readied n ordinal link asking is =
-      record { said = is.said; first = is.first; text = is.text; plain = is.plain; taken_up = is.taken_up }
+      record { said = is.said; first = is.first; asked = is.asked; number = is.number; taken_up = is.taken_up }
 
   for_readied : (purpose : Purpose) (link : Link) (asking : Asking) → IsNextFor purpose g t row link asking → IsNextFor purpose g t readied_row link asking
   for_readied (purposes.Statement n ordinal key) link asking is = statement_readied n ordinal link asking is
@@ -114,7 +116,7 @@ module _ (g : Ground) (t : Tabled) (l : LinkId) (row : Row) (who : Option Client
     last = is.last;
     sent = is.sent;
     hostgroup = is.hostgroup;
-    plain = is.plain;
+    number = is.number;
     first = is.first;
     coming = is.coming;
   }

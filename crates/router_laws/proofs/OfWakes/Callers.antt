@@ -42,7 +42,7 @@ pub record IsCaller (service : Service) (default : List ℕ) (g : Ground) (calle
   pub let_in : IsLetIn g default x
   pub going : g.over x.number ≡ false
   pub unrouted : g.plan.routes (name_of x 0) ≡ None
-  pub chosen : PlanHas caller.choices caller.halt g.plan (suc g.tale.moment) (name_of x (suc x.taken))
+  pub chosen : PlanHas caller.choices caller.halt g.setup.keys g.plan (suc g.tale.moment) (name_of x (suc x.taken))
   pub ends : ends_now g.plan (suc g.tale.moment) x.number ≡ ends_by caller.halt caller.parting
   pub parted : (tale : Tale) (over : ClientNo → Bool) → over x.number ≡ false → quits_by caller.halt ≡ false
       → IsPartedIn caller.parting service (record g { tale = tale; over = over }) x.number (suc g.tale.moment)
@@ -167,7 +167,7 @@ module _ (laws : Laws) (service : Service) (default : List ℕ) (g : Ground) (lo
       let_in = record { account = is.let_in.account; place = is.let_in.place };
       going = going;
       unrouted = is.unrouted;
-      chosen = subst (λ (m : ℕ). PlanHas caller.choices caller.halt g.plan m (name_of x (suc x.taken))) (sym at.moment) is.chosen;
+      chosen = subst (λ (m : ℕ). PlanHas caller.choices caller.halt g.setup.keys g.plan m (name_of x (suc x.taken))) (sym at.moment) is.chosen;
       once = goes.once;
       parted = λ stays. subst (λ (m : ℕ). IsPartedIn caller.parting service h x.number m) (sym at.moment) (is.parted early over going stays);
     }

@@ -59,10 +59,11 @@ use Rattle.router_laws.proofs.OfDecisions.Listing.{open_with}
 use Rattle.router_laws.proofs.OfDecisions.Router.{router_goes_on, stood_before}
 use Rattle.query_rules.specs.Passing.{rules_of}
 use Rattle.core_promises.specs.Judges.{Rulebook}
-use Rattle.core_promises.specs.Ruled.{book_of}
+use Rattle.core_promises.specs.Ruled.{book_of, ruling_of}
 use Rattle.router_promises.specs.Takings.{Taking, takings_at}
 use Rattle.core_service.specs.declared.service.Service.{Service}
-use Rattle.router_laws.proofs.OfDecisions.Speaking.{ours_alone}
+use Rattle.core_texts.specs.declared.texts.Texts.{Texts}
+use Rattle.router_laws.proofs.OfDecisions.Speaking.{ours_alone, ours_told}
 use Rattle.router_laws.proofs.OfWakes.Saying.{ours_of_calls}
 use Rattle.router_laws.specs.decisions.Speaks.{AreOurs, IsGivenOurs}
 use Rattle.router_laws.proofs.OfDecisions.Tallying.{counts_then}
@@ -87,6 +88,8 @@ use Rattle.router_laws.proofs.OfWakes.Going.{Laws}
 use Rattle.router_laws.specs.wakes.Calling.{AllGoOn, Caller, CallsSo, GivesUpAll, IsThere, IsUnsent, is_called, is_given}
 use Rattle.router_laws.specs.wakes.Deciding.{IsCallerOurs, calls_deeds, found_in, payload_in}
 use Rattle.core_laws.specs.clients.Going.{GivenUp}
+use Rattle.core_texts.specs.Texts.{key_at}
+use Rattle.router_laws.proofs.OfDecisions.Speaking.{known_keys}
 
 -- The entry tells nothing, and is of no link.
 pub record IsOfNoLink (e : Entry) : Type 0 where
@@ -156,12 +159,12 @@ given_keep given t late same = keeps_same t (given_up_in given t) late (record {
   numbers = λ l. refl;
 }) same
 
-module _ (service : Service) (knows : Knows service.setup) (log : Log) (e : Entry) (is_entry : IsOfNoLink e) (t mid now : Tabled)
-    (roomy room : ClientNo → Bool) (given : List GivenUp) (callers : List Caller) (links : List LinkId) (router : IsRouter service log t roomy)
+module _ {texts : Texts} (service : Service) (knows : Knows service.setup) (log : Log) (e : Entry) (is_entry : IsOfNoLink e) (t mid now : Tabled)
+    (roomy room : ClientNo → Bool) (given : List GivenUp) (callers : List Caller) (links : List LinkId) (router : IsRouter service texts log t roomy)
     (may : MayFollow log e) (gives : GivesUpAll given t mid) (theirs : (c : ClientNo) → is_given given c ≡ true → is_called callers c ≡ true)
     (so_calls : CallsSo service.setup service.default_schema callers links mid now) (given_ours : All IsGivenOurs given)
-    (ours : All (IsCallerOurs (rules_of service.rules)) callers) (waits : WaitsThen service log e router.core.decided) (judges : TurnsJudge)
-    (ruled : AreRuledAll (book_of service) callers service.setup service.default_schema mid so_calls.turned so_calls.going)
+    (ours : All (IsCallerOurs (rules_of service.rules) texts) callers) (waits : WaitsThen service log e router.core.decided) (judges : TurnsJudge)
+    (ruled : AreRuledAll (ruling_of service (key_at texts)) callers service.setup service.default_schema mid so_calls.turned so_calls.going)
     (tells : All (λ (k : Caller). TellsFor k.parting service.setup k.client) callers)
     (called_so : (g : Ground) → Rests service.setup g t roomy → PlansSo g log e (calls_deeds given callers) → AreCalled g e (is_called callers) roomy room) where
   abbrev made : Deeds
@@ -179,11 +182,11 @@ module _ (service : Service) (knows : Knows service.setup) (log : Log) (e : Entr
   abbrev given_of : ClientNo → Option (List ℕ)
   given_of = payload_in given
 
-  all_ours : AreOurs (rules_of service.rules) made
-  all_ours = ours_of_calls (rules_of service.rules) given callers given_ours ours
+  all_ours : AreOurs (rules_of service.rules) texts made
+  all_ours = ours_of_calls (rules_of service.rules) texts given callers given_ours ours
 
   all_alone : AreAlone made
-  all_alone = ours_alone (rules_of service.rules) made all_ours
+  all_alone = ours_alone (rules_of service.rules) texts made all_ours
 
   -- who isn't called isn't given up
   none_given : (c : ClientNo) → called c ≡ false → is_some (given_of c) ≡ false
@@ -210,14 +213,15 @@ module _ (service : Service) (knows : Knows service.setup) (log : Log) (e : Entr
     abbrev instant : ℕ
     instant = suc g.tale.moment
 
-    stood : IsBefore service log e t roomy router made setup codes plan
+    stood : IsBefore service texts log e t roomy router made setup codes plan
     stood = stood_before service log e t roomy made setup codes plan router may of fits (heard_always setup plan log e)
 
     given_up : AreGivenUp given_of (λ (l : LinkId). false) t
     given_up = knows.aside g t given_of stood.rests.stands (λ c payload is. all_unsent given t mid gives c (ap is_some is))
 
     so : PlansSo g log e made
-    so = stood.so (ungiven service.setup g t given_of (λ (l : LinkId). false) stood.rests.stands given_up)
+    so = stood.so (ours_told d.keys (rules_of service.rules) texts made router.known all_ours)
+        (ungiven service.setup g t given_of (λ (l : LinkId). false) stood.rests.stands given_up)
 
     is_called_so : AreCalled g e called roomy room
     is_called_so = called_so g stood.rests so
@@ -258,7 +262,7 @@ module _ (service : Service) (knows : Knows service.setup) (log : Log) (e : Entr
               (subst (λ (tale : Tale). IsSeated tale x) (sym (is_entry.told_same setup plan g.tale)) seated);
           going = going;
           unrouted = so.nowhere x.number;
-          chosen = subst (λ (o : Option Caller). PlanHas (option_map_or (λ (j : Caller). j.choices) o []) (option_map_or (λ (j : Caller). j.halt) o Resting) plan instant
+          chosen = subst (λ (o : Option Caller). PlanHas (option_map_or (λ (j : Caller). j.choices) o []) (option_map_or (λ (j : Caller). j.halt) o Resting) setup.keys plan instant
               (name_of x (suc x.taken))) its (has.chosen going);
           ends = has.ends
               ∙ (λ i. not (going i) && is_some (deeds.ends_by (option_map_or (λ (j : Caller). j.halt) (its i) Resting)
@@ -444,8 +448,8 @@ module _ (service : Service) (knows : Knows service.setup) (log : Log) (e : Entr
     judged_by : (y : tales.Client) → WasThere plan g.tale e y → (b : Bool) → called y.number ≡ b → IsJudgedBy y (found_in callers y.number)
     judged_by y was true its =
         let at =
-        judged_of knows.laws knows.frees judges book service.setup service.default_schema g t mid now roomy room over e callers links stood.rests calling
-        stands_mid rested so_calls ruled y.number its in
+        judged_of knows.laws knows.frees judges (ruling_of service (key_at texts)) service.setup service.default_schema g t mid now roomy room over e callers links stood.rests calling
+        stands_mid rested so_calls ruled (known_keys texts d.keys router.known setup fits.keyed) y.number its in
         let same : at.x ≡ was.was =
         one_seated at.x was.was (seats g.tale was.was.number) (sym at.seated ∙ ap (seats g.tale) (at.number ∙ was.continued.number)) was.seated in
         subst (IsJudgedBy y) (sym at.found)
@@ -485,5 +489,5 @@ module _ (service : Service) (knows : Knows service.setup) (log : Log) (e : Entr
       open_with log e l ∙ open_by l (is_link l (link_of e)) ∙ router.open_just l
       ∙ sym (λ i. rows_kept.links l i || is_some (rows_kept.numbers l i))
 
-  pub calls_router : IsRouter service (with_entry log e) now room
+  pub calls_router : IsRouter service texts (with_entry log e) now room
   calls_router = router_goes_on service log e made t now roomy room router may all_ours waits judges_then goes_so open_same

@@ -36,7 +36,7 @@ use Rattle.router_laws.specs.wakes.Calling.{Caller}
 pub record Laws : Type 0 where
   pub turns : (service : Service) (default : List ℕ) (first client : tales.Client) (from : Tale) (g : Ground) (t now : Tabled)
       (choices : List Choice) (halt : Halt) → IsTurning service default first from g t client
-      → PlanHas choices halt g.plan g.tale.moment (name_of client (suc client.taken))
+      → PlanHas choices halt g.setup.keys g.plan g.tale.moment (name_of client (suc client.taken))
       → Turns choices halt service default client.number t now
       → StandsBehind halt service first from (client.taken + count_by choices halt) g client.number now
   pub leaves : (service : Service) (g : Ground) (t : Tabled) (client : tales.Client) (row : Client) (by : Seat → Seat) → Stands service g t
@@ -68,7 +68,7 @@ pub record MayGoOn (service : Service) (default : List ℕ) (h : Ground) (early 
   pub let_in : IsLetIn h default client
   pub going : h.over client.number ≡ false
   pub unrouted : h.plan.routes (name_of client 0) ≡ None
-  pub chosen : PlanHas caller.choices caller.halt h.plan early.moment (name_of client (suc client.taken))
+  pub chosen : PlanHas caller.choices caller.halt h.setup.keys h.plan early.moment (name_of client (suc client.taken))
   pub once : quits_by caller.halt ≡ true → caller.parting ≡ Stays
   pub parted : quits_by caller.halt ≡ false → IsPartedIn caller.parting service h client.number early.moment
 

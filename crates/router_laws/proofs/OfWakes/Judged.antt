@@ -5,7 +5,6 @@ use Rattle.std.proofs.lemmas.Bool.{false≢true}
 use Rattle.std.proofs.lemmas.List.Elements.{All-head, All-tail, All-weaker, filter_passes}
 use Rattle.mx_wire.specs.declared.entry.Entry.{Entry}
 use Rattle.client_session.specs.Setups.{Setup as Service}
-use Rattle.core_promises.specs.Judges.{Rulebook}
 use Rattle.private_model.proofs.Maps.{client_of, same_number}
 use Rattle.private_model.specs.Names.{ClientNo, LinkId, MessageName}
 use Rattle.private_model.specs.Story.{is_client}
@@ -30,9 +29,9 @@ use Rattle.core_laws.proofs.OfEntry.Lists.{seated_of}
 use Rattle.core_laws.specs.clients.Follows.{PartsSo}
 use Rattle.core_laws.specs.clients.Turns.{Turns}
 use Rattle.core_promises.proofs.Takings.{Covers, IsSeenAlike, cover_on, entry_covers, paired_cover, seen_back, seen_itself, seen_like, seen_on, seen_spared, takings_paired}
-use Rattle.core_promises.specs.Ruled.{AreRuled}
+use Rattle.core_promises.specs.Ruled.{AreRuled, Ruling}
 use Rattle.router_promises.specs.Takings.{Taking, takings_at, takings_of}
-use Rattle.router_laws.specs.decisions.Judges.{JudgedFrom}
+use Rattle.router_laws.specs.decisions.Judges.{HasKeys, JudgedFrom}
 use Rattle.router_laws.specs.decisions.Rulings.{AreRuledAll}
 use Rattle.router_laws.proofs.OfDecisions.JudgedOn.{TurnsJudge}
 use Rattle.router_laws.proofs.OfWakes.Called as called
@@ -44,9 +43,9 @@ use Rattle.router_laws.proofs.OfWakes.Going.{Laws, MayGoOn}
 use Rattle.router_laws.specs.wakes.Calling.{AllGoOn, Caller, CallerGoesOn, CallsSo, is_called}
 use Rattle.router_laws.specs.wakes.Deciding.{found_in}
 
-module _ (laws : Laws) (judges : TurnsJudge) (book : Rulebook) (service : Service) (default : List ℕ) (g : Ground) (looked : (x : ClientNo) → g.fresh x ≡ false)
+module _ (laws : Laws) (judges : TurnsJudge) (ruling : Ruling) (service : Service) (default : List ℕ) (g : Ground) (looked : (x : ClientNo) → g.fresh x ≡ false)
     (classes : AreClasses g.setup.reads) (single : (whose : ClientNo → Bool) → AreSingle g.plan whose) (heard : Tale) (whose : ClientNo → Bool)
-    (takings : List Taking)
+    (keyed : HasKeys ruling.keys g.setup) (takings : List Taking)
     (covers : (x : tales.Client) → IsSeated heard x → whose x.number ≡ true → g.over x.number ≡ false
     → Covers g.setup x.number (takings_of (length (messages g.plan x)) g.setup g.plan x heard) takings) where
   abbrev At : List ClientNo → (early late : Tale) → (ClientNo → Bool) → Tabled → Type 0
@@ -57,7 +56,7 @@ module _ (laws : Laws) (judges : TurnsJudge) (book : Rulebook) (service : Servic
 
   -- of this caller, which is this client
   abbrev pub IsCallerJudged : Caller → tales.Client → Type 0
-  IsCallerJudged caller x = JudgedFrom book g.setup g.plan x takings x.taken caller.choices caller.halt
+  IsCallerJudged caller x = JudgedFrom ruling.book g.setup g.plan x takings x.taken caller.choices caller.halt
 
   -- it stands as the entry was told
   pub record IsHeard (late : Tale) (x : tales.Client) : Type 0 where
@@ -68,7 +67,7 @@ module _ (laws : Laws) (judges : TurnsJudge) (book : Rulebook) (service : Servic
   module _ (cs : List ClientNo) (early late : Tale) (over : ClientNo → Bool) (t now : Tabled) (at : At cs early late over t) (caller : Caller)
       (x : tales.Client) (is : IsCaller service default g caller x) (aside : AreAside cs x) (seated : IsSeated late x) (there : IsHeard late x)
       (goes : CallerGoesOn service default caller t now)
-      (ruled : AreRuled book caller.choices caller.halt service default caller.client t goes.turned goes.turns) where
+      (ruled : AreRuled ruling caller.choices caller.halt service default caller.client t goes.turned goes.turns) where
     abbrev h : Ground
     h = with_over laws service default g looked classes single over early
 
@@ -105,11 +104,11 @@ module _ (laws : Laws) (judges : TurnsJudge) (book : Rulebook) (service : Servic
 
     one_judged : IsCallerJudged caller x
     one_judged =
-        judges book service default x x early (on h early) t goes.turned caller.choices caller.halt caller.client is.number
+        judges ruling service default x x early (on h early) t goes.turned caller.choices caller.halt caller.client is.number
         (going.turning laws service default h looked early t goes.turned now x caller may at.stands
         (subst (λ (c : ClientNo). Turns caller.choices caller.halt service default c t goes.turned) (sym is.number) goes.turns)
         (subst (λ (c : ClientNo). PartsSo caller.parting c goes.turned now) (sym is.number) goes.parts))
-        may.chosen goes.turns ruled takings (subst (λ (c : ClientNo). Covers g.setup c (its_takings early) takings) is.number covered)
+        may.chosen goes.turns ruled keyed takings (subst (λ (c : ClientNo). Covers g.setup c (its_takings early) takings) is.number covered)
 
   abbrev pub AreJudgedAll : List Caller → List tales.Client → Type 0
   AreJudgedAll [] xs = Unit {0}
@@ -132,7 +131,7 @@ module _ (laws : Laws) (judges : TurnsJudge) (book : Rulebook) (service : Servic
 
   pub all_judged : (ks : List Caller) (xs : List tales.Client) → AreCallers service default g ks xs → (cs : List ClientNo) (early late : Tale)
       (over : ClientNo → Bool) (t now : Tabled) → AreApart cs xs → All (IsSeated late) xs → All (IsHeard late) xs → At cs early late over t
-      → (goes : AllGoOn ks service default t now) → AreRuledAll book ks service default t now goes → AreJudgedAll ks xs
+      → (goes : AllGoOn ks service default t now) → AreRuledAll ruling ks service default t now goes → AreJudgedAll ks xs
   all_judged [] xs are cs early late over t now apart seated there at goes ruled = tt
   all_judged (k ∷ ks) [] are cs early late over t now apart seated there at goes ruled = tt
   all_judged (k ∷ ks) (x ∷ xs) are cs early late over t now apart seated there at goes ruled =
@@ -187,11 +186,11 @@ module _ (laws : Laws) (judges : TurnsJudge) (book : Rulebook) (service : Servic
       (judged_in tale c ks ys theirs.1 (All-tail (IsSeated tale) y ys seated) judged.1) (is_client c k.client) refl there
 
 -- All that are called.
-module _ (laws : Laws) (frees : Frees) (judges : TurnsJudge) (book : Rulebook) (service : Service) (default : List ℕ) (g : Ground) (t mid now : Tabled)
+module _ (laws : Laws) (frees : Frees) (judges : TurnsJudge) (ruling : Ruling) (service : Service) (default : List ℕ) (g : Ground) (t mid now : Tabled)
     (roomy room over : ClientNo → Bool) (e : Entry) (ks : List Caller) (links : List LinkId) (rests : Rests service g t roomy)
     (is : IsCalling service default g e ks over roomy room) (stands : Stands service (on g (counted g.tale)) mid)
     (rested : NoneDone g.setup g.plan (counted g.tale)) (so : CallsSo service default ks links mid now)
-    (ruled : AreRuledAll book ks service default mid so.turned so.going) where
+    (ruled : AreRuledAll ruling ks service default mid so.turned so.going) (keyed : HasKeys ruling.keys g.setup) where
   abbrev heard : Tale
   heard = counted g.tale
 
@@ -215,7 +214,7 @@ module _ (laws : Laws) (frees : Frees) (judges : TurnsJudge) (book : Rulebook) (
       → is_called_by g.plan (suc g.tale.moment) (view_on g) e y ≡ true) heard x seated is.calls going its)
 
   abbrev IsHeardThere : tales.Client → Type 0
-  IsHeardThere = IsHeard laws judges book service default g rests.looked is.classes is.single heard (is_called ks) takings covers heard
+  IsHeardThere = IsHeard laws judges ruling service default g rests.looked is.classes is.single heard (is_called ks) keyed takings covers heard
 
   heard_there : All IsHeardThere xs
   heard_there =
@@ -226,9 +225,9 @@ module _ (laws : Laws) (frees : Frees) (judges : TurnsJudge) (book : Rulebook) (
         filter_passes (λ (y : tales.Client). is_called ks y.number) heard.clients k d within,
       ))
 
-  judged : AreJudgedAll laws judges book service default g rests.looked is.classes is.single heard (is_called ks) takings covers ks xs
+  judged : AreJudgedAll laws judges ruling service default g rests.looked is.classes is.single heard (is_called ks) keyed takings covers ks xs
   judged =
-      all_judged laws judges book service default g rests.looked is.classes is.single heard (is_called ks) takings covers ks xs
+      all_judged laws judges ruling service default g rests.looked is.classes is.single heard (is_called ks) keyed takings covers ks xs
       (called.are laws frees service default g t mid now roomy room over e ks links rests is stands rested so) [] heard heard g.over mid so.turned
       (called.kept_apart (is_called ks) 1 heard.clients
       (called.numbered laws frees service default g t mid now roomy room over e ks links rests is stands rested so))
@@ -236,8 +235,8 @@ module _ (laws : Laws) (frees : Frees) (judges : TurnsJudge) (book : Rulebook) (
       (called.first laws frees service default g t mid now roomy room over e ks links rests is stands rested so) so.going ruled
 
   pub judged_of : (c : ClientNo) → is_called ks c ≡ true
-      → IsJudgedIn laws judges book service default g rests.looked is.classes is.single heard (is_called ks) takings covers ks heard c
+      → IsJudgedIn laws judges ruling service default g rests.looked is.classes is.single heard (is_called ks) keyed takings covers ks heard c
   judged_of c there =
-      judged_in laws judges book service default g rests.looked is.classes is.single heard (is_called ks) takings covers heard c ks xs
+      judged_in laws judges ruling service default g rests.looked is.classes is.single heard (is_called ks) keyed takings covers heard c ks xs
       (called.are laws frees service default g t mid now roomy room over e ks links rests is stands rested so)
       (called.seated_xs laws frees service default g t mid now roomy room over e ks links rests is stands rested so) judged there

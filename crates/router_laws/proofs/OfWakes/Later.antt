@@ -125,7 +125,7 @@ module _ (setup : Setup) (c : ClientNo) where
 keyed_at : (setup : Setup) (route : Route) (a b : Due) (command : Command) → b.key ≡ a.key → b.place ≡ a.place → IsKeyedFor setup route a command
     → IsKeyedFor setup route b command
 keyed_at setup route a b (Prepare text) key place is =
-    (is.0 ∙ sym key, ap setup.keys key ∙ is.1 ∙ ap (λ (p : Place). record { text = text; place = p }) (sym place))
+    (is.0 ∙ sym key, (ap setup.keys key ∙ is.1.0 ∙ ap (λ (p : Place). record { text = text; place = p }) (sym place), is.1.1))
 keyed_at setup route a b (Run text schema settings args) key place is =
     (is.0, subst (λ (k : Key). IsTextAt k text schema settings) (ap setup.keys (sym key)) is.1)
 keyed_at setup route a b _ key place is = is
@@ -136,6 +136,8 @@ duly_at : (setup : Setup) (plan : Plan) (v w : View) (d : ClientNo) (h : Hostgro
 duly_at setup plan v w d h ordinal key command multiplex place is = record {
   route = is.route;
   routed = is.routed;
+  hostgroup = is.hostgroup;
+  multiplex = is.multiplex;
   keyed = keyed_at setup is.route (due_of v (present v d h) ordinal key command multiplex) (due_of w (present w d h) ordinal key command multiplex) command
       refl place is.keyed;
   whole = is.whole;

@@ -61,7 +61,9 @@ module _ (g : Ground) (told : story.Story) (same : view_on g ≡ view_on (on g (
     working_same (Some work) is = record {
       last = is.last;
       went = is.went;
-      command = is.command;
+      number = is.number;
+      only = is.only;
+      prepares = is.prepares;
       first = is.first;
       unsent = is.unsent;
       there = λ sent. is.there sent ∙ ap (λ (v : View). v.carriers (name_of client work.ordinal)) same;
@@ -118,8 +120,8 @@ module _ (g : Ground) (told : story.Story) (same : view_on g ≡ view_on (on g (
       said = λ due there at.
           readied_same asking (story.Statement n due) (is.said due (ap (λ (v : View). v.dues n) same ∙ there) at);
       first = is.first;
-      text = λ due there at. is.text due (ap (λ (v : View). v.dues n) same ∙ there) at;
-      plain = is.plain;
+      asked = λ due there at. is.asked due (ap (λ (v : View). v.dues n) same ∙ there) at;
+      number = is.number;
       taken_up = taken_after g told g.tale.moment g.over n ordinal is.taken_up;
     }
     for_same (purposes.Prep n ordinal key) asking is = record {
@@ -150,7 +152,7 @@ module _ (g : Ground) (told : story.Story) (same : view_on g ≡ view_on (on g (
       last = is.last;
       sent = is.sent;
       hostgroup = is.hostgroup;
-      plain = is.plain;
+      number = is.number;
       first = is.first;
       coming = is.coming;
     }

@@ -7,6 +7,7 @@ use Rattle.query_rules.specs.declared.rule.Rule.{Rule}
 use Rattle.private_model.proofs.Maps.{client_of}
 use Rattle.private_model.specs.Names.{ClientNo}
 use Rattle.private_model.specs.Story.{is_client}
+use Rattle.core_texts.specs.declared.texts.Texts.{Texts}
 use Rattle.own_words.specs.Own.{IsFailure}
 use Rattle.core_laws.specs.clients.Going.{GivenUp}
 use Rattle.core_laws.specs.clients.Turns.{Choice}
@@ -27,32 +28,32 @@ payload_ours (up ∷ others) ours c payload is =
       by true later has = let same : up.payload ≡ payload = cc in subst IsFailure same (All-head IsGivenOurs up others ours)
       by false later has = later has
 
-module _ (rules : List Rule) where
+module _ (rules : List Rule) (texts : Texts) where
   abbrev choices_in : Option Caller → List Choice
   choices_in found = option_map_or (λ (k : Caller). k.choices) found []
 
   abbrev end_in : Option Caller → Option (Option Word)
   end_in found = option_map_or (λ (k : Caller). end_of k.parting) found None
 
-  choices_ours : (callers : List Caller) → All (IsCallerOurs rules) callers → (c : ClientNo) → All (IsOurs rules c) (choices_in (found_in callers c))
-  choices_ours [] ours c = All-nil (IsOurs rules c)
+  choices_ours : (callers : List Caller) → All (IsCallerOurs rules texts) callers → (c : ClientNo) → All (IsOurs rules texts c) (choices_in (found_in callers c))
+  choices_ours [] ours c = All-nil (IsOurs rules texts c)
   choices_ours (k ∷ ks) ours c =
-      by (is_client c k.client) refl (choices_ours ks (All-tail (IsCallerOurs rules) k ks ours) c) where
-        by : (b : Bool) → is_client c k.client ≡ b → All (IsOurs rules c) (choices_in (found_in ks c))
-            → All (IsOurs rules c) (choices_in (if b then Some k else found_in ks c))
+      by (is_client c k.client) refl (choices_ours ks (All-tail (IsCallerOurs rules texts) k ks ours) c) where
+        by : (b : Bool) → is_client c k.client ≡ b → All (IsOurs rules texts c) (choices_in (found_in ks c))
+            → All (IsOurs rules texts c) (choices_in (if b then Some k else found_in ks c))
         by true is later =
-            subst (λ (x : ClientNo). All (IsOurs rules x) k.choices) (sym (client_of c k.client is)) (All-head (IsCallerOurs rules) k ks ours).choices
+            subst (λ (x : ClientNo). All (IsOurs rules texts x) k.choices) (sym (client_of c k.client is)) (All-head (IsCallerOurs rules texts) k ks ours).choices
         by false is later = later
 
-  partings_ours : (callers : List Caller) → All (IsCallerOurs rules) callers → (c : ClientNo) → IsEndOurs (end_in (found_in callers c))
+  partings_ours : (callers : List Caller) → All (IsCallerOurs rules texts) callers → (c : ClientNo) → IsEndOurs (end_in (found_in callers c))
   partings_ours [] ours c = tt
-  partings_ours (k ∷ ks) ours c = by (is_client c k.client) (partings_ours ks (All-tail (IsCallerOurs rules) k ks ours) c) where
+  partings_ours (k ∷ ks) ours c = by (is_client c k.client) (partings_ours ks (All-tail (IsCallerOurs rules texts) k ks ours) c) where
     by : (b : Bool) → IsEndOurs (end_in (found_in ks c)) → IsEndOurs (end_in (if b then Some k else found_in ks c))
-    by true later = end_ours k.parting (All-head (IsCallerOurs rules) k ks ours).parting
+    by true later = end_ours k.parting (All-head (IsCallerOurs rules texts) k ks ours).parting
     by false later = later
 
-  pub ours_of_calls : (given : List GivenUp) (callers : List Caller) → All IsGivenOurs given → All (IsCallerOurs rules) callers
-      → AreOurs rules (calls_deeds given callers)
+  pub ours_of_calls : (given : List GivenUp) (callers : List Caller) → All IsGivenOurs given → All (IsCallerOurs rules texts) callers
+      → AreOurs rules texts (calls_deeds given callers)
   ours_of_calls given callers up ours = record {
     calls = choices_ours callers ours;
     given = payload_ours given up;

@@ -30,7 +30,7 @@ use Rattle.core_stands.specs.Stands.{IsAt, IsCalm, Rests}
 use Rattle.core_laws.specs.entry.Cores.{with_entry}
 use Rattle.core_laws.specs.clients.Going.{GivenUp}
 use Rattle.query_rules.specs.Passing.{rules_of}
-use Rattle.core_promises.specs.Ruled.{book_of}
+use Rattle.core_promises.specs.Ruled.{ruling_of}
 use Rattle.router_laws.specs.decisions.Plans.{HasDeeds, PlansSo}
 use Rattle.router_laws.specs.decisions.Routers.{IsRouter, WaitsThen}
 use Rattle.router_laws.specs.decisions.Rulings.{AreRuledAll}
@@ -42,6 +42,8 @@ use Rattle.router_laws.proofs.OfWakes.Given.{all_given, some_given}
 use Rattle.router_laws.specs.wakes.Calling.{Caller, is_called, is_given}
 use Rattle.router_laws.specs.wakes.Deciding.{IsCallerOurs, calls_deeds, payload_in}
 use Rattle.router_laws.specs.wakes.Waking.{FailsSo, WakesSo}
+use Rattle.core_texts.specs.declared.texts.Texts.{Texts}
+use Rattle.core_texts.specs.Texts.{key_at}
 
 woke_tells : (until_ms now_ms : ℕ) → IsOfNoLink (Woke until_ms now_ms)
 woke_tells until_ms now_ms = record {
@@ -154,10 +156,10 @@ module _ (service : Service) (given : List GivenUp) (callers : List Caller) (lin
           (λ x at other going none. full x at other going) g.tale.clients rests.stands.clients.each;
     }
 
-  pub woke_router : Knows service.setup → (router : IsRouter service log t roomy) → MayFollow log e → All IsGivenOurs given
-      → All (IsCallerOurs (rules_of service.rules)) callers → WaitsThen service log e router.core.decided → TurnsJudge
-      → AreRuledAll (book_of service) callers service.setup service.default_schema wakes.late wakes.calls.turned wakes.calls.going
-      → All (λ (k : Caller). TellsFor k.parting service.setup k.client) callers → IsRouter service (with_entry log e) now room
+  pub woke_router : {texts : Texts} → Knows service.setup → (router : IsRouter service texts log t roomy) → MayFollow log e → All IsGivenOurs given
+      → All (IsCallerOurs (rules_of service.rules) texts) callers → WaitsThen service log e router.core.decided → TurnsJudge
+      → AreRuledAll (ruling_of service (key_at texts)) callers service.setup service.default_schema wakes.late wakes.calls.turned wakes.calls.going
+      → All (λ (k : Caller). TellsFor k.parting service.setup k.client) callers → IsRouter service texts (with_entry log e) now room
   woke_router knows router may given_ours ours waits judges ruled tells =
       calls_router service knows log e (woke_tells until_ms now_ms) t wakes.late now roomy room given callers links router may wakes.gives wakes.all_given
       wakes.calls given_ours ours waits judges ruled tells woke_called
@@ -202,10 +204,10 @@ module _ (service : Service) (given : List GivenUp) (callers : List Caller) (lin
       rooms = λ i x within. λ other going none. none;
     }
 
-  pub fails_router : Knows service.setup → IsRouter service log t roomy → MayFollow log failed → All IsGivenOurs given
-      → All (IsCallerOurs (rules_of service.rules)) callers → TurnsJudge
-      → AreRuledAll (book_of service) callers service.setup service.default_schema fails.late fails.calls.turned fails.calls.going
-      → All (λ (k : Caller). TellsFor k.parting service.setup k.client) callers → IsRouter service (with_entry log failed) now roomy
+  pub fails_router : {texts : Texts} → Knows service.setup → IsRouter service texts log t roomy → MayFollow log failed → All IsGivenOurs given
+      → All (IsCallerOurs (rules_of service.rules) texts) callers → TurnsJudge
+      → AreRuledAll (ruling_of service (key_at texts)) callers service.setup service.default_schema fails.late fails.calls.turned fails.calls.going
+      → All (λ (k : Caller). TellsFor k.parting service.setup k.client) callers → IsRouter service texts (with_entry log failed) now roomy
   fails_router knows router may given_ours ours judges ruled tells =
       calls_router service knows log failed (fails_tells server address) t fails.late now roomy roomy given callers links router may fails.gives
       fails.all_given fails.calls given_ours ours (λ terms codes of fits. tt) judges ruled tells fails_called

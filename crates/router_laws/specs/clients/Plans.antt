@@ -45,7 +45,7 @@ pub record PlansTurns (service : Service) (g : Ground) (log : Log) (c : ClientNo
     (parting : Parting) (over : ClientNo → Bool) : Type 0 where
   pub decided : IsDecided g (ends_of c (ends_by halt parting)) over
   pub unrouted : g.plan.routes (record { client = c; ordinal = 0 }) ≡ None
-  pub chosen : PlanHas choices halt g.plan (suc g.tale.moment) (record { client = c; ordinal = ordinal })
+  pub chosen : PlanHas choices halt g.setup.keys g.plan (suc g.tale.moment) (record { client = c; ordinal = ordinal })
   pub parted : IsPartedIn parting service g c (suc g.tale.moment)
   pub said : (word : LastWord) → word_at g.plan (suc g.tale.moment) c ≡ Some word → word.place ≡ Behind
   pub rising : Ascend (λ l. l.0) (opened_links log)

@@ -12,7 +12,7 @@ use Rattle.step_laws.specs.Freed.{is_among}
 use Rattle.tale_world.specs.Decided.{Decided}
 use Rattle.core_tables.specs.Parting.{given_to}
 use Rattle.core_laws.specs.entry.Cores.{with_entry}
-use Rattle.core_laws.specs.clients.Turns.{Answers, Choice, Ends, Goes, Halt, Quits, Rests, Waits}
+use Rattle.core_laws.specs.clients.Turns.{Answers, Choice, Ends, Goes, Halt, Keyed, Quits, Rests, Waits}
 
 -- a last word to a client
 pub record Word : Type 0 where
@@ -20,8 +20,8 @@ pub record Word : Type 0 where
   pub payloads : List (List ℕ)
 
 -- By what payload a client's last message is given up; what is decided of those that it takes up behind that, and how that ends; whether it is
--- ended behind its turns, and with which last word; who logs in on a link that is opened; whether the entry begins a question, and which step
--- that is; and what the keys are by which messages go.
+-- ended behind its turns, and with which last word; who logs in on a link that is opened; and whether the entry begins a question, and which step
+-- that is.
 pub record Deeds : Type 0 where
   pub given : ClientNo → Option (List ℕ)
   pub calls : ClientNo → List Choice
@@ -29,7 +29,6 @@ pub record Deeds : Type 0 where
   pub ends : ClientNo → Option (Option Word)
   pub login : Option Login
   pub begun : Option (Option StepText)
-  pub keys : (key : ℕ) → Option Key
 
 -- A client whose turns end it is told no last word.
 
@@ -53,7 +52,7 @@ word_of deeds now c = said_at now (ends_in deeds c)
 -- Deeds of few.
 
 abbrev pub no_deeds : Deeds
-no_deeds = record { given = λ c. None; calls = λ c. []; halts = λ c. Rests; ends = λ c. None; login = None; begun = None; keys = λ key. None }
+no_deeds = record { given = λ c. None; calls = λ c. []; halts = λ c. Rests; ends = λ c. None; login = None; begun = None }
 
 -- this for one client
 abbrev pub for_one : {A : Type 0} → ClientNo → A → (others : A) → ClientNo → A
@@ -71,8 +70,17 @@ parting c end deeds = record deeds { ends = for_one c end None }
 -- no copies are made
 
 abbrev pub IsAlone : Choice → Type 0
-IsAlone (Goes route) = route.mirror ≡ None
+IsAlone (Goes route keyed) = route.mirror ≡ None
 IsAlone (Answers payloads) = Unit {0}
+
+-- each text by which a message goes has its number among these
+
+abbrev pub IsToldBy : (keys : (number : ℕ) → Option Key) → Choice → Type 0
+IsToldBy keys (Goes route keyed) = All (λ (one : Keyed). keys one.number ≡ Some one.key) keyed
+IsToldBy keys (Answers payloads) = Unit {0}
+
+abbrev pub AreToldBy : (keys : (number : ℕ) → Option Key) → Deeds → Type 0
+AreToldBy keys deeds = (c : ClientNo) → All (IsToldBy keys) (deeds.calls c)
 
 abbrev pub AreAlone : Deeds → Type 0
 AreAlone deeds = (c : ClientNo) → All IsAlone (deeds.calls c)
@@ -116,7 +124,7 @@ pub record Fate : Type 0 where
   pub own : Option OwnAnswer
 
 abbrev pub fate_of : Choice → Fate
-fate_of (Goes route) = record { route = Some route; own = None }
+fate_of (Goes route keyed) = record { route = Some route; own = None }
 fate_of (Answers payloads) = record { route = None; own = Some (record { from = 0; payloads = payloads }) }
 
 abbrev pub no_fate : Fate
@@ -168,7 +176,6 @@ decided_by deeds n log e now d = record d {
   until = now;
   words = λ c. word_with now (d.ends c) (ends_in deeds c) (d.words c);
   steps = λ l k. step_with (begun_at log e deeds l) (n.begun l) k (d.steps l k);
-  keys = λ key. option_or (d.keys key) (deeds.keys key);
 }
 
 abbrev pub counts_by : Deeds → Counts → Log → Entry → Counts

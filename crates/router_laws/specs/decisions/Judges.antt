@@ -1,9 +1,10 @@
 -- That what becomes of messages is what the promise's verdict says of them.
-use Rattle.std.specs.Prelude.{◌≡◌, ℕ, suc, Bool, true, All, is_some, length, slice_get, List, [], ◌∷◌, Some}
+use Rattle.std.specs.Prelude.{◌≡◌, ℕ, suc, Bool, true, All, is_some, length, slice_get, List, [], ◌∷◌, Option, Some}
 use Rattle.mx_wire.specs.Log.{Log}
 use Rattle.mx_wire.specs.declared.entry.Entry.{Entry}
 use Rattle.packet_frame.specs.Packets.{Framed}
 use Rattle.private_model.specs.Names.{ClientNo}
+use Rattle.private_model.specs.Story.{Key}
 use Rattle.private_model.specs.View.{Setup}
 use Rattle.link_laws.specs.Stands.{Codes}
 use Rattle.log_story.specs.Headline.{tale_of}
@@ -13,26 +14,28 @@ use Rattle.log_story.specs.Tale.{Client, Tale}
 use Rattle.step_laws.specs.Seats.{IsSeated}
 use Rattle.tale_world.specs.Decided.{Decided}
 use Rattle.router_promises.specs.Takings.{Taking, takings_at}
-use Rattle.router_promises.specs.Verdicts.{Tells, Verdict}
 use Rattle.core_service.specs.declared.service.Service.{Service}
 use Rattle.core_laws.specs.clients.Found.{IsAmong, IsLastAmong}
-use Rattle.core_laws.specs.clients.Turns.{Answers, Choice, Goes, Halt}
+use Rattle.core_laws.specs.clients.Turns.{Choice, Halt}
 use Rattle.core_laws.specs.entry.Cores.{with_entry}
 use Rattle.core_laws.specs.entry.Tells.{Fits, IsOf}
-use Rattle.core_promises.specs.Judges.{IsVerdictFor, Rulebook, goes_by, situation_of}
-use Rattle.core_promises.specs.Ruled.{book_of}
+use Rattle.core_promises.specs.Judges.{Rulebook, situation_of}
+use Rattle.core_promises.specs.Ruled.{IsChoiceFor, book_of}
 use Rattle.router_laws.specs.decisions.Deeds.{Counts, Deeds, decided_with}
 
-abbrev pub verdict_of : Choice → Verdict
-verdict_of (Goes route) = goes_by route
-verdict_of (Answers payloads) = Tells payloads
+-- a story's keys are those of the texts that are kept
+abbrev pub HasKeys : (keys : (key : ℕ) → Option Key) → Setup → Type 0
+HasKeys keys setup = (k : ℕ) (key : Key) → keys k ≡ Some key → setup.keys k ≡ key
+
+abbrev pub all_keys : Setup → (key : ℕ) → Option Key
+all_keys setup key = Some (setup.keys key)
 
 -- by the taking of the message's name, which is one of these
 pub record IsJudgedAs (book : Rulebook) (setup : Setup) (plan : Plan) (client : Client) (takings : List Taking) (k : ℕ) (choice : Choice) : Type 0 where
   pub taking : Taking
   pub among : IsAmong takings (name_of client (suc k)) taking
   pub is : (message : Framed) → slice_get (messages plan client) k ≡ Some message
-      → IsVerdictFor book (situation_of setup taking.tale client.number) client.number message.payload (verdict_of choice)
+      → IsChoiceFor choice book (situation_of setup plan taking) (all_keys setup) client.number message.payload
 
 -- of a client's messages from the k-th on, where this is decided of them
 abbrev pub JudgedFrom : Rulebook → Setup → Plan → Client → (takings : List Taking) → (k : ℕ) → List Choice → Halt → Type 0

@@ -37,7 +37,7 @@ pub record HasDeeds (g : Ground) (deeds : Deeds) (client : Client) : Type 0 wher
   pub keeps : is_some (deeds.given client.number) ≡ false → GivesUpNone g.plan (suc g.tale.moment) client
   pub gives : is_some (deeds.given client.number) ≡ true → gives_up g.plan (suc g.tale.moment) (name_of client client.taken) ≡ true
   pub chosen : g.over client.number ≡ false
-      → PlanHas (deeds.calls client.number) (deeds.halts client.number) g.plan (suc g.tale.moment) (name_of client (suc client.taken))
+      → PlanHas (deeds.calls client.number) (deeds.halts client.number) g.setup.keys g.plan (suc g.tale.moment) (name_of client (suc client.taken))
   pub ends : ends_now g.plan (suc g.tale.moment) client.number ≡ (not (g.over client.number) && is_some (ends_in deeds client.number))
   pub word : g.over client.number ≡ false → word_at g.plan (suc g.tale.moment) client.number ≡ word_of deeds (suc g.tale.moment) client.number
 

@@ -1,12 +1,15 @@
 -- The core with all that is carried from entry to entry.
-use Rattle.std.specs.Prelude.{◌≡◌, ◌||◌, ℕ, Bool, is_some, length, List}
+use Rattle.std.specs.Prelude.{◌≡◌, ◌<◌, ◌||◌, ℕ, Bool, is_some, length, List, Option, None, Some}
 use Rattle.mx_wire.specs.Log.{Log, is_open}
 use Rattle.mx_wire.specs.Moments.{AllLawful}
 use Rattle.mx_wire.specs.Tells.{MayFollow}
 use Rattle.mx_wire.specs.declared.entry.Entry.{Entry}
 use Rattle.core_service.specs.declared.service.Service.{Service}
+use Rattle.core_texts.specs.Texts.{key_at}
+use Rattle.core_texts.specs.declared.texts.Texts.{Texts}
 use Rattle.client_session.specs.Setups.{Setup as Serving}
 use Rattle.private_model.specs.Names.{ClientNo, LinkId}
+use Rattle.private_model.specs.Story.{Key}
 use Rattle.private_model.specs.View.{Setup}
 use Rattle.link_laws.specs.Stands.{Codes}
 use Rattle.log_story.specs.Headline.{tale_of}
@@ -18,7 +21,7 @@ use Rattle.core_laws.specs.entry.Cores.{GoesOn, with_entry}
 use Rattle.core_laws.specs.entry.Dues.{AreWrittenTo}
 use Rattle.core_laws.specs.entry.Safe.{IsSafe}
 use Rattle.core_laws.specs.entry.Tells.{Fits, IsCore, IsOf, ground}
-use Rattle.router_laws.specs.decisions.Deeds.{Counts, Deeds, counts_with, decided_with}
+use Rattle.router_laws.specs.decisions.Deeds.{AreToldBy, Counts, Deeds, counts_with, decided_with}
 use Rattle.query_rules.specs.Passing.{rules_of}
 use Rattle.router_promises.specs.Terms.{Terms, plan_in, setup_in}
 use Rattle.core_promises.specs.Waits.{AreDoneBy, WaitsSo}
@@ -32,11 +35,17 @@ use Rattle.router_laws.specs.decisions.Records.{AreCountsBy, AreCountsOf, IsReco
 abbrev pub AreOpenJust : Log → Tabled → Type 0
 AreOpenJust log t = (l : LinkId) → is_open l log ≡ (is_some (t.links l) || is_some (t.numbers l))
 
-pub record IsRouter (service : Service) (log : Log) (t : Tabled) (roomy : ClientNo → Bool) : Type 0 where
+-- What stands under a number was decided so; and of numbers that are yet to be given nothing was decided.
+pub record AreKnown (texts : Texts) (keys : (number : ℕ) → Option Key) : Type 0 where
+  pub told : (number : ℕ) (key : Key) → key_at texts number ≡ Some key → keys number ≡ Some key
+  pub later : (number : ℕ) → texts.last < number → keys number ≡ None
+
+pub record IsRouter (service : Service) (texts : Texts) (log : Log) (t : Tabled) (roomy : ClientNo → Bool) : Type 0 where
   pub core : IsCore service.setup service.default_schema log t roomy
   pub counts : Counts
   pub recorded : IsRecorded core.decided counts log
   pub counted : AreCountsBy service.default_schema core.decided counts log
+  pub known : AreKnown texts core.decided.keys
   pub lawful : AllLawful MayFollow log
   pub open_just : AreOpenJust log t
   pub spoken : DecidesOwn (rules_of service.rules) core.decided
@@ -63,13 +72,14 @@ GoesSoBy service default log e d n deeds t now roomy room =
     → GoesSo service setup codes plan log e d n deeds t now roomy room
 
 -- What there was before an entry, by one setup and plan of what is decided behind it; and the plan has its deeds.
-pub record IsBefore (service : Service) (log : Log) (e : Entry) (t : Tabled) (roomy : ClientNo → Bool)
-    (router : IsRouter service log t roomy) (deeds : Deeds) (setup : Setup) (codes : Codes) (plan : Plan) : Type 0 where
+pub record IsBefore (service : Service) (texts : Texts) (log : Log) (e : Entry) (t : Tabled) (roomy : ClientNo → Bool)
+    (router : IsRouter service texts log t roomy) (deeds : Deeds) (setup : Setup) (codes : Codes) (plan : Plan) : Type 0 where
   pub of : IsOf router.core.decided (length log) plan
   pub fits : Fits router.core.decided.keys setup codes plan service.default_schema (tale_of setup plan log)
   pub rests : Rests service.setup (ground setup codes plan router.core.decided log) t roomy
   pub written : AreWrittenTo (ground setup codes plan router.core.decided log) log
   pub safe : IsSafe setup plan log
   pub counts : AreCountsOf router.counts (tale_of setup plan log)
-  pub so : AreUngiven (ground setup codes plan router.core.decided log) (λ c. is_some (deeds.given c))
+  pub so : AreToldBy router.core.decided.keys deeds
+      → AreUngiven (ground setup codes plan router.core.decided log) (λ c. is_some (deeds.given c))
       → PlansSo (ground setup codes plan router.core.decided log) log e deeds

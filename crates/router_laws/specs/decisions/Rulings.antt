@@ -1,23 +1,22 @@
 -- That the turns are ruled of all who go on at an entry: what becomes of what came up is what the verdict says.
 use Rattle.std.specs.Prelude.{ℕ, List, [], ◌∷◌, Option, Some, None}
 use Rattle.client_session.specs.Setups.{Setup as Service}
-use Rattle.core_promises.specs.Judges.{Rulebook}
 use Rattle.core_tables.specs.Tables.{Tabled}
 use Rattle.core_laws.specs.clients.Going.{GoesSo, Going}
-use Rattle.core_promises.specs.Ruled.{AreRuled}
+use Rattle.core_promises.specs.Ruled.{AreRuled, Ruling}
 use Rattle.router_laws.specs.wakes.Calling.{AllGoOn, Caller}
 
 -- of the one client, if any, that goes on
-abbrev pub IsRuledOn : Rulebook → (going : Option Going) → (service : Service) → (default : List ℕ) → (old new : Tabled)
+abbrev pub IsRuledOn : Ruling → (going : Option Going) → (service : Service) → (default : List ℕ) → (old new : Tabled)
     → GoesSo going service default old new → Type 0
-IsRuledOn book None service default old new so = Unit {0}
-IsRuledOn book (Some going) service default old new so =
-    AreRuled book going.choices going.halt service default going.client old so.turned so.turns
+IsRuledOn ruling None service default old new so = Unit {0}
+IsRuledOn ruling (Some going) service default old new so =
+    AreRuled ruling going.choices going.halt service default going.client old so.turned so.turns
 
 -- of each that is called
-abbrev pub AreRuledAll : Rulebook → (callers : List Caller) → (service : Service) → (default : List ℕ) → (old new : Tabled)
+abbrev pub AreRuledAll : Ruling → (callers : List Caller) → (service : Service) → (default : List ℕ) → (old new : Tabled)
     → AllGoOn callers service default old new → Type 0
-AreRuledAll book [] service default old new so = Unit {0}
-AreRuledAll book (caller ∷ others) service default old new so =
-    AreRuled book caller.choices caller.halt service default caller.client old so.1.turned so.1.turns
-    × AreRuledAll book others service default so.0 new so.2
+AreRuledAll ruling [] service default old new so = Unit {0}
+AreRuledAll ruling (caller ∷ others) service default old new so =
+    AreRuled ruling caller.choices caller.halt service default caller.client old so.1.turned so.1.turns
+    × AreRuledAll ruling others service default so.0 new so.2

@@ -9,12 +9,11 @@ use Rattle.private_model.specs.Names.{ClientNo}
 use Rattle.log_story.specs.Plan.{Behind, LastWord, word_at}
 use Rattle.log_story.specs.Tale as tales
 use Rattle.log_story.specs.Telling.{tale_step}
-use Rattle.link_laws.specs.Stands.{AreApart}
 use Rattle.row_laws.specs.Readied.{AreClasses}
 use Rattle.step_laws.specs.Freed.{Ascend}
 use Rattle.step_laws.specs.Seats.{IsSeated}
 use Rattle.core_tables.specs.Tables.{Tabled}
-use Rattle.core_stands.specs.Grounds.{Ground}
+use Rattle.core_stands.specs.Grounds.{AreNamed, Ground}
 use Rattle.core_stands.specs.Stands.{Rests}
 use Rattle.core_laws.specs.entry.Entries.{behind}
 use Rattle.core_laws.specs.entry.Tells.{AreWhoTheySay}
@@ -47,7 +46,7 @@ TellsSo (Some going) service = TellsFor going.parting service going.client
 pub record IsHearing (service : Service) (default : List ℕ) (g : Ground) (log : Log) (l : LinkId) (bytes : List ℕ) (given : Option GivenUp) (going : Option Going)
     : Type 0 where
   pub plans : PlansSo g log (Got l bytes) (deeds_of given going)
-  pub apart : AreApart g.codes
+  pub named : AreNamed g.codes
   pub classes : AreClasses g.setup.reads
   pub who : AreWhoTheySay g.setup g.plan default g.tale.clients
   pub bytes_are : AreBytes bytes

@@ -4,6 +4,7 @@ use Rattle.mx_wire.specs.Log.{Log}
 use Rattle.mx_wire.specs.declared.entry.Entry.{Entry}
 use Rattle.server_side.specs.Account.{Account as Login}
 use Rattle.core_service.specs.declared.service.Service.{Service}
+use Rattle.core_texts.specs.declared.texts.Texts.{Texts}
 use Rattle.client_session.specs.Setups.{Setup as Serving}
 use Rattle.private_model.specs.Names.{ClientNo}
 use Rattle.private_model.specs.View.{Setup}
@@ -31,10 +32,10 @@ pub record Enters (service : Serving) (log : Log) (e : Entry) (d : Decided) (n :
   pub begins : BeginsSo setup (tale_of setup plan log) e deeds
 
 -- by each that has what is decided then, and fits
-abbrev pub EntersBy : (service : Service) (log : Log) (e : Entry) (t now : Tabled) (roomy room : ClientNo → Bool)
-    → IsRouter service log t roomy → Deeds → Type 0
-EntersBy service log e t now roomy room router deeds =
-    (setup : Setup) (codes : Codes) (plan : Plan) → IsBefore service log e t roomy router deeds setup codes plan
+abbrev pub EntersBy : (service : Service) (texts : Texts) (log : Log) (e : Entry) (t now : Tabled) (roomy room : ClientNo → Bool)
+    → IsRouter service texts log t roomy → Deeds → Type 0
+EntersBy service texts log e t now roomy room router deeds =
+    (setup : Setup) (codes : Codes) (plan : Plan) → IsBefore service texts log e t roomy router deeds setup codes plan
     → FitsThen (decided_with deeds router.counts log e router.core.decided).keys setup codes plan service.default_schema log e → PlansSo (ground setup codes plan router.core.decided log) log e deeds
     → IsDecided (ground setup codes plan router.core.decided log) nobody (over_by (decided_with deeds router.counts log e router.core.decided))
     → Enters service.setup log e router.core.decided router.counts deeds t now roomy room setup codes plan

@@ -2,6 +2,7 @@
 use Rattle.std.specs.Prelude.{if◌then◌else◌, All, List, [], ◌∷◌, Option, Some, None, ℕ}
 use Rattle.std.specs.Option.{option_map_or}
 use Rattle.query_rules.specs.declared.rule.Rule.{Rule}
+use Rattle.core_texts.specs.declared.texts.Texts.{Texts}
 use Rattle.private_model.specs.Names.{ClientNo}
 use Rattle.private_model.specs.Story.{is_client}
 use Rattle.core_laws.specs.clients.Going.{GivenUp}
@@ -29,10 +30,9 @@ calls_deeds given callers = record {
   ends = λ c. option_map_or (λ (k : Caller). end_of k.parting) (found_in callers c) None;
   login = None;
   begun = None;
-  keys = λ key. None;
 }
 
 -- what a caller is answered, and its last word, are the router's own
-pub record IsCallerOurs (rules : List Rule) (k : Caller) : Type 0 where
-  pub choices : All (IsOurs rules k.client) k.choices
+pub record IsCallerOurs (rules : List Rule) (texts : Texts) (k : Caller) : Type 0 where
+  pub choices : All (IsOurs rules texts k.client) k.choices
   pub parting : IsPartingOurs k.parting

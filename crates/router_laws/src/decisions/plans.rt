@@ -1,5 +1,5 @@
 // What each plan has that has what is decided at an entry.
-ghost use Rattle.std.specs.Prelude.{◌≡◌, All, Bool, List, None, Option, false, is_some, length, true, ℕ};
+ghost use Rattle.std.specs.Prelude.{◌≡◌, All, Bool, List, None, Option, Some, false, is_some, length, true, ℕ};
 ghost use Rattle.mx_base.specs.declared.names.LinkId.{LinkId};
 ghost use Rattle.mx_wire.specs.Log.{Log};
 ghost use Rattle.mx_wire.specs.Tells.{MayFollow};
@@ -20,7 +20,7 @@ ghost use Rattle.core_laws.specs.entry.Cores.{with_entry};
 ghost use Rattle.core_laws.specs.entry.Dues.{AreSilent};
 ghost use Rattle.core_laws.specs.entry.Kinds.{IsStill, IsUneventful};
 ghost use Rattle.core_laws.specs.entry.Tells.{Fits, IsOf, ground};
-ghost use Rattle.router_laws.specs.decisions.Deeds.{Counts, Deeds, decided_with};
+ghost use Rattle.router_laws.specs.decisions.Deeds.{AreToldBy, Counts, Deeds, decided_with};
 ghost use Rattle.router_laws.specs.decisions.Plans.{AreUngiven, AreUnreplied, EndsNone, KeepsAnswers, PlansSo};
 ghost use Rattle.router_laws.specs.decisions.Records.{AreCountsOf, IsRecorded};
 
@@ -29,6 +29,7 @@ pub fn plans_are_so()
     ensures { (default : List ℕ) (d : Decided) (n : Counts) (log : Log) (e : Entry) (deeds : Deeds) (setup : Setup) (codes : Codes) (plan : Plan)
         → IsRecorded d n log → MayFollow log e → IsOf (decided_with deeds n log e d) (length (with_entry log e)) plan
         → Fits d.keys setup codes plan default (tale_of setup plan log) → AreCountsOf n (tale_of setup plan log)
+        → AreToldBy d.keys deeds
         → AreUngiven (ground setup codes plan d log) (λ c. is_some (deeds.given c)) → PlansSo (ground setup codes plan d log) log e deeds }
 {}
 

@@ -1,9 +1,11 @@
 // The core with all that is carried from entry to entry.
-ghost use Rattle.std.specs.Prelude.{All, Bool, List, [], length, true, ℕ, ◌≡◌};
+ghost use Rattle.std.specs.Prelude.{All, Bool, List, [], None, length, true, ℕ, ◌≡◌};
 ghost use Rattle.mx_wire.specs.Log.{Log};
 ghost use Rattle.mx_wire.specs.Tells.{MayFollow};
 ghost use Rattle.mx_wire.specs.declared.entry.Entry.{Entry};
 ghost use Rattle.core_service.specs.declared.service.Service.{Service};
+ghost use Rattle.core_texts.specs.Texts.{AreLess, AreMore, key_at};
+ghost use Rattle.core_texts.specs.declared.texts.Texts.{Texts};
 ghost use Rattle.private_model.specs.Names.{ClientNo};
 ghost use Rattle.private_model.specs.View.{Setup};
 ghost use Rattle.link_laws.specs.Stands.{Codes};
@@ -24,21 +26,22 @@ ghost use Rattle.query_rules.specs.Passing.{rules_of};
 ghost use Rattle.router_laws.specs.decisions.Records.{IsRecorded};
 ghost use Rattle.router_laws.specs.decisions.Routers.{AreOpenJust, GoesSoBy, IsBefore, IsRouter, WaitsThen};
 
-/// Empty tables are a router's of the empty log.
+/// Empty tables are a router's of the empty log, with no texts.
 pub fn first_router()
-    ensures { (service : Service) (roomy : ClientNo → Bool) → IsRouter service [] no_tables roomy }
+    ensures { (service : Service) (texts : Texts) (roomy : ClientNo → Bool) → ((number : ℕ) → key_at texts number ≡ None)
+        → IsRouter service texts [] no_tables roomy }
 {
     core_stands::first_stands();
 }
 
 /// A router goes on with an entry by its deeds.
 pub fn routers_go_on()
-    ensures { (service : Service) (log : Log) (e : Entry) (deeds : Deeds) (t now : Tabled) (roomy room : ClientNo → Bool)
-        → (router : IsRouter service log t roomy) → MayFollow log e
-        → AreOurs (rules_of service.rules) deeds → WaitsThen service log e router.core.decided
+    ensures { (service : Service) (texts : Texts) (log : Log) (e : Entry) (deeds : Deeds) (t now : Tabled) (roomy room : ClientNo → Bool)
+        → (router : IsRouter service texts log t roomy) → MayFollow log e
+        → AreOurs (rules_of service.rules) texts deeds → WaitsThen service log e router.core.decided
         → JudgesThen service log e router.core.decided router.counts deeds
         → GoesSoBy service.setup service.default_schema log e router.core.decided router.counts deeds t now roomy room → AreOpenJust (with_entry log e) now
-        → IsRouter service (with_entry log e) now room }
+        → IsRouter service texts (with_entry log e) now room }
 {}
 
 /// A plan that has what is decided behind an entry, and fits there, was one and fitted before, where all clients are there of which more was read.
@@ -54,23 +57,31 @@ pub fn routers_went()
 
 /// So it stood before an entry, by a plan that has what is decided behind it.
 pub fn routers_stood()
-    ensures { (service : Service) (log : Log) (e : Entry) (t : Tabled) (roomy : ClientNo → Bool) (deeds : Deeds)
-        (setup : Setup) (codes : Codes) (plan : Plan) → (router : IsRouter service log t roomy) → MayFollow log e
+    ensures { (service : Service) (texts : Texts) (log : Log) (e : Entry) (t : Tabled) (roomy : ClientNo → Bool) (deeds : Deeds)
+        (setup : Setup) (codes : Codes) (plan : Plan) → (router : IsRouter service texts log t roomy) → MayFollow log e
         → IsOf (decided_with deeds router.counts log e router.core.decided) (length (with_entry log e)) plan
         → Fits (decided_with deeds router.counts log e router.core.decided).keys setup codes plan service.default_schema (tale_of setup plan (with_entry log e))
         → All (λ (client : Client). IsHeardMore (tale_of setup plan (with_entry log e)) client) (tale_of setup plan log).clients
-        → IsBefore service log e t roomy router deeds setup codes plan }
+        → IsBefore service texts log e t roomy router deeds setup codes plan }
 {}
 
 /// Other tables that rest wherever these did are a router's of the same log.
 pub fn routers_change()
-    ensures { (service : Service) (log : Log) (t now : Tabled) (roomy room : ClientNo → Bool)
-        → IsRouter service log t roomy → ((g : Ground) → Rests service.setup g t roomy → Rests service.setup g now room) → AreOpenJust log now
-        → IsRouter service log now room }
+    ensures { (service : Service) (texts : Texts) (log : Log) (t now : Tabled) (roomy room : ClientNo → Bool)
+        → IsRouter service texts log t roomy → ((g : Ground) → Rests service.setup g t roomy → Rests service.setup g now room) → AreOpenJust log now
+        → IsRouter service texts log now room }
 {}
 
 /// More clients may be among those who have room again.
 pub fn routers_are_roomier()
-    ensures { (service : Service) (log : Log) (t : Tabled) (roomy room : ClientNo → Bool)
-        → IsRouter service log t roomy → ((c : ClientNo) → roomy c ≡ true → room c ≡ true) → IsRouter service log t room }
+    ensures { (service : Service) (texts : Texts) (log : Log) (t : Tabled) (roomy room : ClientNo → Bool)
+        → IsRouter service texts log t roomy → ((c : ClientNo) → roomy c ≡ true → room c ≡ true) → IsRouter service texts log t room }
+{}
+
+/// It stays a router as texts come, and as some are forgotten.
+pub fn routers_learn()
+    ensures more { (service : Service) (old new : Texts) (log : Log) (t : Tabled) (roomy : ClientNo → Bool)
+        → IsRouter service old log t roomy → AreMore old new → IsRouter service new log t roomy }
+    ensures less { (service : Service) (old new : Texts) (log : Log) (t : Tabled) (roomy : ClientNo → Bool)
+        → IsRouter service old log t roomy → AreLess old new → IsRouter service new log t roomy }
 {}

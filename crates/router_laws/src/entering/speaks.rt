@@ -5,6 +5,8 @@ ghost use Rattle.mx_wire.specs.Log.{Log};
 ghost use Rattle.mx_wire.specs.Tells.{MayFollow};
 ghost use Rattle.mx_wire.specs.declared.entry.Entry.TheVariants.{Got};
 ghost use Rattle.core_service.specs.declared.service.Service.{Service};
+ghost use Rattle.core_texts.specs.Texts.{key_at};
+ghost use Rattle.core_texts.specs.declared.texts.Texts.{Texts};
 ghost use Rattle.private_model.specs.Names.{ClientNo};
 ghost use Rattle.core_tables.specs.Tables.{Tabled};
 ghost use Rattle.core_laws.specs.entry.Cores.{with_entry};
@@ -12,21 +14,21 @@ ghost use Rattle.core_laws.specs.clients.Follows.{Parting};
 ghost use Rattle.core_laws.specs.clients.Turns.{Choice, Halt};
 ghost use Rattle.router_laws.specs.clients.Speaks.{SpeaksSo};
 ghost use Rattle.query_rules.specs.Passing.{rules_of};
-ghost use Rattle.core_promises.specs.Ruled.{AreRuled, book_of};
+ghost use Rattle.core_promises.specs.Ruled.{AreRuled, ruling_of};
 ghost use Rattle.router_laws.specs.decisions.Speaks.{IsOurs, IsPartingOurs};
 ghost use Rattle.router_laws.specs.decisions.Routers.{IsRouter};
 ghost use Rattle.router_laws.specs.entering.Rooms.{OthersLack};
 
 /// It goes on, and may end; it has no room to wait for behind that.
 pub fn speaks_router()
-    ensures { (service : Service) (log : Log) (t now : Tabled) (roomy room : ClientNo → Bool) (link : LinkId) (bytes : List ℕ)
+    ensures { (service : Service) (texts : Texts) (log : Log) (t now : Tabled) (roomy room : ClientNo → Bool) (link : LinkId) (bytes : List ℕ)
         (c : ClientNo) (ordinal : ℕ) (choices : List Choice) (halt : Halt) (parting : Parting) (links : List LinkId)
-        → IsRouter service log t roomy → MayFollow log (Got link bytes)
+        → IsRouter service texts log t roomy → MayFollow log (Got link bytes)
         → (so : SpeaksSo service.setup service.default_schema link bytes c ordinal choices halt parting links t now)
-        → All (IsOurs (rules_of service.rules) c) choices → IsPartingOurs parting
+        → All (IsOurs (rules_of service.rules) texts c) choices → IsPartingOurs parting
         → OthersLack c roomy room
-        → AreRuled (book_of service) choices halt service.setup service.default_schema c so.heard so.follows.turned so.follows.turns
-        → IsRouter service (with_entry log (Got link bytes)) now room }
+        → AreRuled (ruling_of service (key_at texts)) choices halt service.setup service.default_schema c so.heard so.follows.turned so.follows.turns
+        → IsRouter service texts (with_entry log (Got link bytes)) now room }
 {
     crate::clients::speaks_go();
     core_laws::clients::told_stands();

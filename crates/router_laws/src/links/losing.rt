@@ -1,6 +1,8 @@
 // Links to servers are lost.
 ghost use Rattle.std.specs.Prelude.{◌≡◌, Some, true};
 ghost use Rattle.core_service.specs.declared.service.Service.{Service};
+ghost use Rattle.core_texts.specs.Texts.{key_at};
+ghost use Rattle.core_texts.specs.declared.texts.Texts.{Texts};
 ghost use Rattle.client_session.specs.Setups.{Setup as Serving};
 ghost use Rattle.private_model.specs.Names.{LinkId};
 ghost use Rattle.private_model.specs.Story.{is_link_id};
@@ -17,7 +19,7 @@ ghost use Rattle.private_model.specs.Names.{ClientNo};
 ghost use Rattle.core_laws.specs.entry.Cores.{with_entry};
 ghost use Rattle.core_laws.specs.clients.Going.{Going};
 ghost use Rattle.query_rules.specs.Passing.{rules_of};
-ghost use Rattle.core_promises.specs.Ruled.{book_of};
+ghost use Rattle.core_promises.specs.Ruled.{ruling_of};
 ghost use Rattle.router_laws.specs.decisions.Speaks.{AreGivenOurs, AreGoingOurs};
 ghost use Rattle.router_laws.specs.decisions.Judges.{JudgesThen};
 ghost use Rattle.router_laws.specs.decisions.Goings.{deeds_of};
@@ -34,10 +36,10 @@ pub fn given_up_with_it()
 /// Where the turns of the client that goes on are ruled as a link is lost, so is what becomes of its messages; and what is given up went to a
 /// server.
 pub fn loses_judge()
-    ensures { (service : Service) (log : Log) (t now : Tabled) (roomy : ClientNo → Bool) (l : LinkId) (how : Break)
-        (given : Option GivenUp) (going : Option Going) → (router : IsRouter service log t roomy) → MayFollow log (entry_by how l)
-        → (so : LosesSo service.setup service.default_schema l given going t now)
-        → IsRuledOn (book_of service) going service.setup service.default_schema so.lost now so.goes
+    ensures { (service : Service) (texts : Texts) (log : Log) (t now : Tabled) (roomy : ClientNo → Bool) (l : LinkId) (how : Break)
+        (given : Option GivenUp) (going : Option Going) → (router : IsRouter service texts log t roomy) → MayFollow log (entry_by how l)
+        → (so : LosesSo service.setup service.default_schema l given going t now) → AreGoingOurs (rules_of service.rules) texts going
+        → IsRuledOn (ruling_of service (key_at texts)) going service.setup service.default_schema so.lost now so.goes
         → JudgesThen service log (entry_by how l) router.core.decided router.counts (deeds_of given going) }
 {
     core_laws::parting::lost_stands();
@@ -56,11 +58,11 @@ pub fn loses_judge()
 
 /// A link to a server is lost, and whoever is called goes on.
 pub fn loses_router()
-    ensures { (service : Service) (log : Log) (t now : Tabled) (roomy : ClientNo → Bool) (l : LinkId) (how : Break)
-        (given : Option GivenUp) (going : Option Going) → IsRouter service log t roomy → MayFollow log (entry_by how l)
-        → AreGivenOurs given → AreGoingOurs (rules_of service.rules) going → (so : LosesSo service.setup service.default_schema l given going t now)
-        → IsRuledOn (book_of service) going service.setup service.default_schema so.lost now so.goes
-        → IsRouter service (with_entry log (entry_by how l)) now roomy }
+    ensures { (service : Service) (texts : Texts) (log : Log) (t now : Tabled) (roomy : ClientNo → Bool) (l : LinkId) (how : Break)
+        (given : Option GivenUp) (going : Option Going) → IsRouter service texts log t roomy → MayFollow log (entry_by how l)
+        → AreGivenOurs given → AreGoingOurs (rules_of service.rules) texts going → (so : LosesSo service.setup service.default_schema l given going t now)
+        → IsRuledOn (ruling_of service (key_at texts)) going service.setup service.default_schema so.lost now so.goes
+        → IsRouter service texts (with_entry log (entry_by how l)) now roomy }
 {
     loses_judge();
     core_laws::parting::lost_stands();
@@ -79,9 +81,9 @@ pub fn loses_router()
 
 /// And with it the client ends whose present session it carries.
 pub fn loses_ended_router()
-    ensures { (service : Service) (log : Log) (t now : Tabled) (roomy : ClientNo → Bool) (l : LinkId) (how : Break) (c : ClientNo)
-        (links : List LinkId) → IsRouter service log t roomy → MayFollow log (entry_by how l) → LosesEnded l c links t now
-        → IsRouter service (with_entry log (entry_by how l)) now roomy }
+    ensures { (service : Service) (texts : Texts) (log : Log) (t now : Tabled) (roomy : ClientNo → Bool) (l : LinkId) (how : Break) (c : ClientNo)
+        (links : List LinkId) → IsRouter service texts log t roomy → MayFollow log (entry_by how l) → LosesEnded l c links t now
+        → IsRouter service texts (with_entry log (entry_by how l)) now roomy }
 {
     core_laws::parting::lost_stands();
     core_laws::parting::left_stands();

@@ -6,10 +6,13 @@ ghost use Rattle.mx_wire.specs.Log.{Log};
 ghost use Rattle.mx_wire.specs.Tells.{MayFollow};
 ghost use Rattle.mx_wire.specs.declared.entry.Entry.TheVariants.{Got};
 ghost use Rattle.core_service.specs.declared.service.Service.{Service};
+ghost use Rattle.core_texts.specs.Texts.{key_at};
+ghost use Rattle.core_texts.specs.declared.texts.Texts.{Texts};
 ghost use Rattle.client_session.specs.Setups.{Setup as Serving};
 ghost use Rattle.private_model.specs.Names.{ClientNo, LinkId};
 ghost use Rattle.core_tables.specs.Hearing.{IsHeard};
 ghost use Rattle.core_tables.specs.Parting.{freed_in, given_up_in, name_in};
+ghost use Rattle.core_tables.specs.Preparing.{IsKeptFor};
 ghost use Rattle.core_tables.specs.Tables.{IsSame, Tabled};
 ghost use Rattle.core_tables.specs.declared.said.Said.{Said};
 ghost use Rattle.core_tables.specs.declared.server.Server.{Server};
@@ -22,8 +25,7 @@ ghost use Rattle.router_laws.specs.decisions.Rulings.{IsRuledOn};
 ghost use Rattle.router_laws.specs.decisions.Routers.{GoesSoBy, IsRouter};
 ghost use Rattle.router_laws.specs.reading.Givings.{MayGiveUp};
 ghost use Rattle.query_rules.specs.Passing.{rules_of};
-ghost use Rattle.core_promises.specs.Ruled.{book_of};
-ghost use Rattle.core_promises.specs.Judges.{Rulebook};
+ghost use Rattle.core_promises.specs.Ruled.{Ruling, ruling_of};
 ghost use Rattle.router_laws.specs.decisions.Speaks.{AreGivenOurs, AreGoingOurs};
 ghost use Rattle.router_laws.specs.reading.Hears.{HearsRuled, HearsSo};
 
@@ -35,9 +37,10 @@ pub fn hears_keep()
 
 /// The core goes on, by what is given up, and what is decided of the one client that goes on.
 pub fn hears_goes()
-    ensures { (service : Service) (log : Log) (t now : Tabled) (roomy : ClientNo → Bool) (l : LinkId) (bytes : List ℕ)
-        (clock : ℕ) (given : Option GivenUp) (going : Option Going) → (router : IsRouter service log t roomy) → MayFollow log (Got l bytes)
+    ensures { (service : Service) (texts : Texts) (log : Log) (t now : Tabled) (roomy : ClientNo → Bool) (l : LinkId) (bytes : List ℕ)
+        (clock : ℕ) (given : Option GivenUp) (going : Option Going) → (router : IsRouter service texts log t roomy) → MayFollow log (Got l bytes)
         → AreBytes bytes → HearsSo service.setup service.default_schema l bytes clock given going t now
+        → AreGoingOurs (rules_of service.rules) texts going
         → GoesSoBy service.setup service.default_schema log (Got l bytes) router.core.decided router.counts (deeds_of given going) t now roomy roomy }
 {
     core_laws::hearing::bytes_are_heard();
@@ -57,10 +60,11 @@ pub fn hears_goes()
 
 /// Where the turns of the client that goes on are ruled, so is what becomes of its messages; and what is given up went to a server.
 pub fn hears_judge()
-    ensures { (service : Service) (log : Log) (t now : Tabled) (roomy : ClientNo → Bool) (l : LinkId) (bytes : List ℕ)
-        (clock : ℕ) (given : Option GivenUp) (going : Option Going) → (router : IsRouter service log t roomy) → MayFollow log (Got l bytes)
+    ensures { (service : Service) (texts : Texts) (log : Log) (t now : Tabled) (roomy : ClientNo → Bool) (l : LinkId) (bytes : List ℕ)
+        (clock : ℕ) (given : Option GivenUp) (going : Option Going) → (router : IsRouter service texts log t roomy) → MayFollow log (Got l bytes)
         → AreBytes bytes → (so : HearsSo service.setup service.default_schema l bytes clock given going t now)
-        → IsRuledOn (book_of service) going service.setup service.default_schema so.freed now so.goes
+        → AreGoingOurs (rules_of service.rules) texts going
+        → IsRuledOn (ruling_of service (key_at texts)) going service.setup service.default_schema so.freed now so.goes
         → JudgesThen service log (Got l bytes) router.core.decided router.counts (deeds_of given going) }
 {
     core_laws::hearing::bytes_are_heard();
@@ -81,12 +85,12 @@ pub fn hears_judge()
 
 /// So a router does.
 pub fn hears_router()
-    ensures { (service : Service) (log : Log) (t now : Tabled) (roomy : ClientNo → Bool) (l : LinkId) (bytes : List ℕ)
-        (clock : ℕ) (given : Option GivenUp) (going : Option Going) → IsRouter service log t roomy → MayFollow log (Got l bytes)
+    ensures { (service : Service) (texts : Texts) (log : Log) (t now : Tabled) (roomy : ClientNo → Bool) (l : LinkId) (bytes : List ℕ)
+        (clock : ℕ) (given : Option GivenUp) (going : Option Going) → IsRouter service texts log t roomy → MayFollow log (Got l bytes)
         → AreBytes bytes → (so : HearsSo service.setup service.default_schema l bytes clock given going t now) → AreGivenOurs given
-        → AreGoingOurs (rules_of service.rules) going
-        → IsRuledOn (book_of service) going service.setup service.default_schema so.freed now so.goes
-        → IsRouter service (with_entry log (Got l bytes)) now roomy }
+        → AreGoingOurs (rules_of service.rules) texts going
+        → IsRuledOn (ruling_of service (key_at texts)) going service.setup service.default_schema so.freed now so.goes
+        → IsRouter service texts (with_entry log (Got l bytes)) now roomy }
 {
     hears_judge();
     hears_goes();
@@ -97,13 +101,14 @@ pub fn hears_router()
 
 /// So it is by the code's calls, one after the other, and ruled where the turns are; and who went on before what is given up goes on behind it.
 pub fn hears_so()
-    ensures so { (book : Rulebook) (service : Serving) (default : List ℕ) (l : LinkId) (bytes : List ℕ) (clock : ℕ) (given : Option GivenUp) (going : Option Going)
-        (server : Server) (said : Said) (old heard mid freed now : Tabled) → old.links l ≡ Some server → server.row.lost ≡ false
-        → server.row.link.spoilt ≡ false → IsHeard l bytes clock said heard old → MayGiveUp l given heard
+    ensures so { (ruling : Ruling) (service : Serving) (default : List ℕ) (l : LinkId) (bytes : List ℕ) (clock : ℕ) (given : Option GivenUp) (going : Option Going)
+        (server : Server) (said : Said) (old read heard mid freed now : Tabled) → old.links l ≡ Some server → server.row.lost ≡ false
+        → server.row.link.spoilt ≡ false → IsHeard l bytes clock said read old
+        → IsKeptFor said l read heard → MayGiveUp l given heard
         → IsSame mid (given_up_in (told_to given) heard) → IsSame freed (freed_in l mid)
         → IsCalled (name_in server.row.link.state.carries) given freed (option_map (λ (g : Going). g.client) going)
-        → (goes : GoesSo going service default freed now) → IsRuledOn book going service default freed now goes
-        → HearsRuled book service default l bytes clock given going old now }
+        → (goes : GoesSo going service default freed now) → IsRuledOn ruling going service default freed now goes
+        → HearsRuled ruling service default l bytes clock given going old now }
     ensures going { (l : LinkId) (given : Option GivenUp) (heard mid freed : Tabled) (c : ClientNo)
         → IsSame mid (given_up_in (told_to given) heard) → IsSame freed (freed_in l mid) → is_going (freed.clients c) ≡ is_going (heard.clients c) }
 {}

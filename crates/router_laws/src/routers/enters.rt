@@ -5,6 +5,7 @@ ghost use Rattle.mx_wire.specs.Tells.{MayFollow};
 ghost use Rattle.mx_wire.specs.declared.entry.Entry.{Entry};
 ghost use Rattle.server_side.specs.Account.{Account as Login};
 ghost use Rattle.core_service.specs.declared.service.Service.{Service};
+ghost use Rattle.core_texts.specs.declared.texts.Texts.{Texts};
 ghost use Rattle.private_model.specs.Names.{ClientNo};
 ghost use Rattle.log_story.specs.Plan.{StepText};
 ghost use Rattle.core_tables.specs.Tables.{Tabled};
@@ -15,9 +16,9 @@ ghost use Rattle.router_laws.specs.routers.Enters.{EntersBy, of_link};
 
 /// It goes on where its core does by each setup and plan.
 pub fn routers_enter()
-    ensures { (service : Service) (log : Log) (e : Entry) (login : Option Login) (begun : Option (Option StepText))
-        (t now : Tabled) (roomy room : ClientNo → Bool) → (router : IsRouter service log t roomy) → MayFollow log e
+    ensures { (service : Service) (texts : Texts) (log : Log) (e : Entry) (login : Option Login) (begun : Option (Option StepText))
+        (t now : Tabled) (roomy room : ClientNo → Bool) → (router : IsRouter service texts log t roomy) → MayFollow log e
         → is_no_event e ≡ true → WaitsThen service log e router.core.decided
-        → EntersBy service log e t now roomy room router (of_link login begun) → AreOpenJust (with_entry log e) now
-        → IsRouter service (with_entry log e) now room }
+        → EntersBy service texts log e t now roomy room router (of_link login begun) → AreOpenJust (with_entry log e) now
+        → IsRouter service texts (with_entry log e) now room }
 {}

@@ -6,6 +6,8 @@ ghost use Rattle.mx_wire.specs.Log.{Log};
 ghost use Rattle.mx_wire.specs.Tells.{MayFollow};
 ghost use Rattle.mx_wire.specs.declared.entry.Entry.TheVariants.{OpenFailed, Woke};
 ghost use Rattle.core_service.specs.declared.service.Service.{Service};
+ghost use Rattle.core_texts.specs.Texts.{key_at};
+ghost use Rattle.core_texts.specs.declared.texts.Texts.{Texts};
 ghost use Rattle.private_model.specs.Names.{ClientNo, LinkId};
 ghost use Rattle.core_tables.specs.Tables.{Tabled};
 ghost use Rattle.core_laws.specs.entry.Cores.{with_entry};
@@ -17,18 +19,18 @@ ghost use Rattle.router_laws.specs.wakes.Deciding.{IsCallerOurs};
 ghost use Rattle.router_laws.specs.decisions.Speaks.{IsGivenOurs};
 ghost use Rattle.router_laws.specs.waits.Drained.{IsDrainedFor};
 ghost use Rattle.query_rules.specs.Passing.{rules_of};
-ghost use Rattle.core_promises.specs.Ruled.{book_of};
+ghost use Rattle.core_promises.specs.Ruled.{ruling_of};
 ghost use Rattle.router_laws.specs.wakes.Waking.{FailsSo, WakesSo};
 
 /// A router goes on with a wake that comes where nothing is left to read or to write; nobody has to have room behind it.
 pub fn wakes_router()
-    ensures { (service : Service) (log : Log) (t now : Tabled) (roomy room : ClientNo → Bool) (given : List GivenUp)
-        (callers : List Caller) (links : List LinkId) (until_ms now_ms : ℕ) → IsRouter service log t roomy
+    ensures { (service : Service) (texts : Texts) (log : Log) (t now : Tabled) (roomy room : ClientNo → Bool) (given : List GivenUp)
+        (callers : List Caller) (links : List LinkId) (until_ms now_ms : ℕ) → IsRouter service texts log t roomy
         → MayFollow log (Woke until_ms now_ms) → IsDrainedFor t log
         → (wakes : WakesSo service.setup service.default_schema given callers links roomy t now) → All IsGivenOurs given
-        → All (IsCallerOurs (rules_of service.rules)) callers
-        → AreRuledAll (book_of service) callers service.setup service.default_schema wakes.late wakes.calls.turned wakes.calls.going
-        → IsRouter service (with_entry log (Woke until_ms now_ms)) now room }
+        → All (IsCallerOurs (rules_of service.rules) texts) callers
+        → AreRuledAll (ruling_of service (key_at texts)) callers service.setup service.default_schema wakes.late wakes.calls.turned wakes.calls.going
+        → IsRouter service texts (with_entry log (Woke until_ms now_ms)) now room }
 {
     core_laws::clients::turns_find();
     core_laws::clients::turns_stand();
@@ -45,12 +47,12 @@ pub fn wakes_router()
 
 /// And with an open that failed.
 pub fn fails_router()
-    ensures { (service : Service) (log : Log) (t now : Tabled) (roomy : ClientNo → Bool) (given : List GivenUp)
-        (callers : List Caller) (links : List LinkId) (server : ServerId) (address : Address) → IsRouter service log t roomy
+    ensures { (service : Service) (texts : Texts) (log : Log) (t now : Tabled) (roomy : ClientNo → Bool) (given : List GivenUp)
+        (callers : List Caller) (links : List LinkId) (server : ServerId) (address : Address) → IsRouter service texts log t roomy
         → MayFollow log (OpenFailed server address) → (fails : FailsSo service.setup service.default_schema given callers links t now)
-        → All IsGivenOurs given → All (IsCallerOurs (rules_of service.rules)) callers
-        → AreRuledAll (book_of service) callers service.setup service.default_schema fails.late fails.calls.turned fails.calls.going
-        → IsRouter service (with_entry log (OpenFailed server address)) now roomy }
+        → All IsGivenOurs given → All (IsCallerOurs (rules_of service.rules) texts) callers
+        → AreRuledAll (ruling_of service (key_at texts)) callers service.setup service.default_schema fails.late fails.calls.turned fails.calls.going
+        → IsRouter service texts (with_entry log (OpenFailed server address)) now roomy }
 {
     core_laws::clients::turns_find();
     core_laws::clients::turns_stand();

@@ -1,30 +1,34 @@
-use Rattle.std.specs.Prelude.{None, List, find}
-use Rattle.std.proofs.Common.{refl, ap, ◌∙◌}
+use Rattle.std.specs.Prelude.{◌≡◌, List, Option, find}
+use Rattle.std.specs.Option.{option_copied}
+use Rattle.std.proofs.Common.{refl, ap, subst, ◌∙◌}
 use Rattle.std.proofs.lemmas.Result.{IfOk-weaker}
 use Rattle.client_desk.specs.Desks.{session_of}
 use Rattle.client_desk.specs.Sessions.{is_open}
 use Rattle.mx_base.specs.declared.names.Hostgroup.{Hostgroup}
 use Rattle.query_rules.specs.Passing.{rules_of}
-use Rattle.message_judge.specs.Judging.{Judged}
-use Rattle.core_turns.proofs.Drafts.{drafted-so}
+use Rattle.server_rule.specs.Classes.{router_reads}
+use Rattle.message_judge.specs.Drafts.{draft_of}
+use Rattle.message_judge.specs.Judging.{Judged, judged}
+use Rattle.message_judge.specs.declared.caller.Prepared.{Prepared}
+use Rattle.core_turns.proofs.Named.{named-known, next-fresh}
 use Rattle.core_turns.proofs.judged.drafted.Goals as goal
-
-pub returns-clause-is : goal.returns-clause-is
-returns-clause-is c = IfOk-weaker c.judge.result _ _
-    (λ found is. drafted-so (rules_of c.args.service.now.rules) c.in_ok-caller.caller (record { transaction = c.transaction.result; next_number = None }) c.args.payload.now
-    found refl is) c.judge.ensures.is
 
 pub returns-clause-known : goal.returns-clause-known
 returns-clause-known c = IfOk-weaker c.judge.result _ _
-    (λ found is. record {
+    (λ found is. λ texts named. record {
       caller = c.in_ok-caller.caller;
-      standing = record { transaction = c.transaction.result; next_number = None };
+      standing = record { transaction = c.transaction.result; next_number = c.next_number.result };
       client = c.in_ok-caller.ensures.client;
       login = c.in_ok-caller.ensures.login;
       home = c.in_ok-caller.ensures.home;
       place = c.in_ok-caller.ensures.place;
       transaction = c.transaction.ensures
           ∙ ap (λ (hs : List Hostgroup). find (λ h. is_open (session_of c.args.desk.now h)) hs) c.as_slice.ensures;
+      next_is = c.next_number.ensures;
       flag = c.in_ok-caller.ensures.flag;
-      is = ap (λ (j : Judged). j.draft) is;
+      named = λ one known. named-known texts c.args.desk.now.seat.statements c.args.payload.now c.args.named.now named one known;
+      number = λ n next. next-fresh c.args.desk.now.seat.statements n next;
+      is = subst (λ (p : Option Prepared). draft_of c.in_ok-caller.caller p found.draft
+          ≡ (judged router_reads (rules_of c.args.service.now.rules) c.in_ok-caller.caller (record { transaction = c.transaction.result; next_number = c.next_number.result }) p c.args.payload.now).draft)
+          c.prepared_in.ensures (ap (λ (j : Judged). j.draft) is);
     }) c.judge.ensures.is

@@ -3,4 +3,4 @@ use Rattle.core_turns.proofs.Partings.{IsGoing}
 use Rattle.core_turns.proofs.onward.go_on.Given as goal
 
 abbrev pub invariant-turns : goal.invariant-turns
-invariant-turns l = IsGoing (book_of l.fn.service) l.fn.service.setup l.fn.service.default_schema l.fn.client l.fn.marked l.marked
+invariant-turns l = IsGoing (book_of l.fn.service) l.fn.texts l.texts l.fn.service.setup l.fn.service.default_schema l.fn.client l.fn.marked l.marked

@@ -10,7 +10,7 @@ pub returns-then-begins_anew-clause-is : goal.returns-then-begins_anew-clause-is
 returns-then-begins_anew-clause-is c =
     let said : c.as_slice.result.now ≡ c.in_ok-packets.packets.items = cc in
     on_ok_weaker c.begin_anew.result
-    (λ taken book own. answer-so true book c.args.client c.args.flag c.as_slice.result.now c.in_ok-packets.packets.items taken.statements
+    (λ taken ruling own. answer-so true ruling c.args.client c.args.flag c.as_slice.result.now c.in_ok-packets.packets.items taken.statements
     (payloads_of c.args.client.0 c.args.told.now) (tables_of c.args.marked.now.tables) (tables_of c.begin_anew.new.self.tables) (own c.args.client) c.in_ok-packets.ensures said
     (λ row there message found. sym c.if-begins_anew.true ∙ c.begins_anew.ensures row there message found)
     (left-noted true c.args.client (tables_of c.args.marked.now.tables) taken.statements taken.noted) taken.same) c.begin_anew.ensures.is
@@ -19,6 +19,6 @@ pub returns-clause-is : goal.returns-clause-is
 returns-clause-is c =
     let said : c.as_slice-else-begins_anew.result.now ≡ c.in_ok-packets.packets.items = cc in
     on_ok_weaker c.answer.result
-    (λ taken book own. answer-so false book c.args.client c.args.flag c.as_slice-else-begins_anew.result.now c.in_ok-packets.packets.items taken.statements
+    (λ taken ruling own. answer-so false ruling c.args.client c.args.flag c.as_slice-else-begins_anew.result.now c.in_ok-packets.packets.items taken.statements
     (payloads_of c.args.client.0 c.args.told.now) (tables_of c.args.marked.now.tables) (tables_of c.answer.new.self.tables) (own c.args.client) c.in_ok-packets.ensures said
     (λ row there message found. sym c.if-begins_anew.false ∙ c.begins_anew.ensures row there message found) taken.noted taken.same) c.answer.ensures.is

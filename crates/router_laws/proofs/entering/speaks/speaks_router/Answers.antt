@@ -14,7 +14,7 @@ use Rattle.router_laws.proofs.OfEntering.Opening.{opens_kept, speaks_keep}
 use Rattle.router_laws.proofs.entering.speaks.speaks_router.Goals as goal
 
 pub returns : goal.returns
-returns law = λ service log t now roomy room link bytes c ordinal choices halt parting links router may so ours told_ours others ruled.
+returns law = λ service texts log t now roomy room link bytes c ordinal choices halt parting links router may so ours told_ours others ruled.
     deciding.finds_router service log (Got link bytes) t now roomy room router may c choices halt (end_of parting) ours (end_ours parting told_ours) ordinal
     so.heard so.follows.turned so.follows.turns ruled (λ terms codes of fits. tt)
     (λ setup codes plan of fits.

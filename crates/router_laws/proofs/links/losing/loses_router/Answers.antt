@@ -8,10 +8,10 @@ use Rattle.router_laws.specs.links.Loses.{entry_by}
 use Rattle.router_laws.proofs.links.losing.loses_router.Goals as goal
 
 pub returns : goal.returns
-returns c = λ service log t now roomy l how given going router follow given_ours ours so ruled.
-    c.routers_go_on.ensures service log (entry_by how l) (deeds_of given going) t now roomy roomy router follow
-    (ours_of_going (rules_of service.rules) given going given_ours ours) (break_waits service log how l router.core.decided)
-    (c.loses_judge.ensures service log t now roomy l how given going router follow so ruled)
+returns c = λ service texts log t now roomy l how given going router follow given_ours ours so ruled.
+    c.routers_go_on.ensures service texts log (entry_by how l) (deeds_of given going) t now roomy roomy router follow
+    (ours_of_going (rules_of service.rules) texts given going given_ours ours) (break_waits service log how l router.core.decided)
+    (c.loses_judge.ensures service texts log t now roomy l how given going router follow so ours ruled)
     (λ setup codes plan of fits.
     goes_so (record {
       losses = record { loses = c.lost_stands.ensures; tests = c.freed_stands.ensures.test; same = c.same_stands.ensures };
@@ -23,5 +23,5 @@ returns c = λ service log t now roomy l how given going router follow given_our
       counts = c.counts_go_on.ensures;
       stood = c.routers_stood.ensures;
       rise = c.links_rise.ensures.tale;
-    }) service log t now roomy l how given going router follow so (tells_going c.told_stands.ensures going service.setup) setup codes plan of fits)
+    }) service log t now roomy l how given going router follow so ours (tells_going c.told_stands.ensures going service.setup) setup codes plan of fits)
     (loses_open log t now how l router.open_just (loses_keep_rows service.setup service.default_schema l given going t now so))

@@ -8,14 +8,18 @@ returns c =
       rows = c.rows_of_others_stay.ensures.all;
       back = c.next_is_taken_back.ensures;
       text = c.text_begins.ensures;
+      runs = c.runs_begin.ensures;
+      preps = c.preps_begin.ensures;
       step = c.step_begins.ensures;
+      closes = c.others_begin.ensures.closes;
+      resets = c.others_begin.ensures.resets;
       captures = c.others_begin.ensures.captures;
       ends = c.others_begin.ensures.ends;
       quits = c.others_begin.ensures.quits;
     } in
     record {
-      stands = λ service g t now classes is by. settles_stand laws service g classes t now by is;
-      rests = λ service g t now roomy classes is by. settles_rest laws service g classes t now roomy by is;
-      router = λ service log t now roomy router by. router_settled laws service log t now roomy router by;
-      core = λ service default log t now roomy core by. core_settled laws service default log t now roomy core by;
+      stands = λ service texts g t now classes named keys is by. settles_stand laws service texts g classes named keys t now by is;
+      rests = λ service texts g t now roomy classes named keys is by. settles_rest laws service texts g classes named keys t now roomy by is;
+      router = λ service texts log t now roomy router by. router_settled laws service texts log t now roomy router by;
+      core = λ service texts default log t now roomy core known by. core_settled laws service texts default log t now roomy core known by;
     }

@@ -5,7 +5,7 @@ use Rattle.router_laws.proofs.OfWakes.Woken as woken
 use Rattle.router_laws.proofs.wakes.waking.fails_router.Goals as goal
 
 pub returns : goal.returns
-returns c = λ service log t now roomy given callers links server address router may fails given_ours ours ruled.
+returns c = λ service texts log t now roomy given callers links server address router may fails given_ours ours ruled.
     woken.fails_router service given callers links log server address t now roomy fails
     (record {
       laws = record { turns = c.turns_stand.ensures; leaves = c.left_stands.ensures.ends; same = c.same_stands.ensures };

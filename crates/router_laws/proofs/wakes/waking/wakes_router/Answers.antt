@@ -7,7 +7,7 @@ use Rattle.router_laws.proofs.OfWakes.Woken.{woke_router}
 use Rattle.router_laws.proofs.wakes.waking.wakes_router.Goals as goal
 
 pub returns : goal.returns
-returns c = λ service log t now roomy room given callers links until_ms now_ms router may drained wakes given_ours ours ruled.
+returns c = λ service texts log t now roomy room given callers links until_ms now_ms router may drained wakes given_ours ours ruled.
     woke_router service given callers links log until_ms now_ms t now roomy room wakes
     (record {
       laws = record { turns = c.turns_stand.ensures; leaves = c.left_stands.ensures.ends; same = c.same_stands.ensures };
