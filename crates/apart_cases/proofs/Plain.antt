@@ -8,13 +8,15 @@ use Rattle.session_state.specs.Pins.{is_pinned}
 use Rattle.session_state.specs.declared.pin.Pin.{Pin}
 use Rattle.server_rule.specs.Classes.{router_reads}
 use Rattle.private_model.specs.Names.{ClientNo, Hostgroup}
+use Rattle.private_model.specs.Story.{Key}
 use Rattle.log_story.specs.Plan.{Route, com_query}
 use Rattle.router_promises.specs.Errors.{diagnostics_gone, names_connection}
 use Rattle.router_promises.specs.Verdicts.{Goes, Verdict, Wanted, is_connection_id, plain_route, tells_one}
 use Rattle.message_judge.specs.Judging as judging
-use Rattle.core_promises.specs.Judges.{IsVerdictFor, Knowledge, Rulebook, Situation, goes_by, transaction_of}
+use Rattle.core_promises.specs.Judges.{IsRoutedFor, IsVerdictFor, Knowledge, Rulebook, Situation, transaction_of}
 
-module _ (homes : (user : List ℕ) → Hostgroup) (hostgroups : List Hostgroup) (situation : Situation) (c : ClientNo) (text : List ℕ) where
+module _ (homes : (user : List ℕ) → Hostgroup) (hostgroups : List Hostgroup) (situation : Situation) (keys : (key : ℕ) → Option Key) (c : ClientNo)
+    (text : List ℕ) where
   abbrev book : Rulebook
   book = record { rules = []; home = homes; hostgroups = hostgroups }
 
@@ -27,10 +29,14 @@ module _ (homes : (user : List ℕ) → Hostgroup) (hostgroups : List Hostgroup)
   abbrev pub as_it_is : Route
   as_it_is = record (plain_route home) { text = Some text }
 
+  abbrev plainly : Wanted
+  plainly = record { route = as_it_is; key = None }
+
   abbrev known : Knowledge
   known = record {
     caller = record { number = c; user = situation.user; home = home; place = situation.place; flag = 0; last = None };
     standing = record { transaction = None; next_number = None };
+    prepared = None;
     pins = situation.pins;
     is_there = λ hostgroup. true;
   }
@@ -44,7 +50,7 @@ module _ (homes : (user : List ℕ) → Hostgroup) (hostgroups : List Hostgroup)
   -- it reads no diagnostics
 
   by-reads : (id diag found : Bool) → diag ≡ false → found ≡ false → (pin : Pin)
-      → goes_by as_it_is
+      → Goes plainly
       ≡ (if (not diag || (is_pinned pin && pin.own_diag)) && (not found || (is_pinned pin && pin.own_found)) then Goes (wanted (id || diag)) else tells_one diagnostics_gone)
   by-reads true false false unread unfound pin = refl
   by-reads false false false unread unfound pin = refl
@@ -53,29 +59,29 @@ module _ (homes : (user : List ℕ) → Hostgroup) (hostgroups : List Hostgroup)
 
   module _ (unread : class.reads_diag ≡ false) (unfound : class.reads_found ≡ false) where
     by-shape : (asks : Bool) → asks ≡ false
-        → goes_by as_it_is ≡ verdict_of (if asks then judging.answers_one names_connection else judging.Sends (Some class) (wanted (class.reads_id || class.reads_diag)))
+        → Goes plainly ≡ verdict_of (if asks then judging.answers_one names_connection else judging.Sends (Some class) (wanted (class.reads_id || class.reads_diag)))
     by-shape true is = absurd (cc)
     by-shape false is =
         by-reads class.reads_id class.reads_diag class.reads_found unread unfound
         (situation.pins (wanted (class.reads_id || class.reads_diag)).route.hostgroup)
 
     by-refusal : (why : Option Refusal) → why ≡ None → is_connection_id class.shape ≡ false
-        → goes_by as_it_is ≡ verdict_of (judging.by_class class why (wanted (class.reads_id || class.reads_diag)))
+        → Goes plainly ≡ verdict_of (judging.by_class class why (wanted (class.reads_id || class.reads_diag)))
     by-refusal (Some why) is plain = absurd (cc)
     by-refusal None is plain = by-shape (is_connection_id class.shape) plain
 
     asked : (asks : Bool) → asks ≡ false → class.refusal ≡ None → is_connection_id class.shape ≡ false
-        → goes_by as_it_is
+        → Goes plainly
         ≡ verdict_of (if asks then judging.still known.caller (judging.connection_id known.caller known.standing)
         else judging.by_pass router_reads known.caller known.standing (judging.pass_of [] known.caller text) None).draft
     unfolding router_reads
     asked true is free plain = absurd (cc)
     asked false is free plain = by-refusal class.refusal free plain
 
-    pub goes-as-it-is : class.refusal ≡ None → is_connection_id class.shape ≡ false → transaction_of book situation ≡ None
-        → IsVerdictFor book situation c (com_query ∷ text) (goes_by as_it_is)
+    for : class.refusal ≡ None → is_connection_id class.shape ≡ false → transaction_of book situation ≡ None
+        → IsVerdictFor book situation c (com_query ∷ text) (Goes plainly)
     unfolding router_reads
-    goes-as-it-is free plain closed = record {
+    for free plain closed = record {
       known = known;
       client = refl;
       login = refl;
@@ -85,5 +91,16 @@ module _ (homes : (user : List ℕ) → Hostgroup) (hostgroups : List Hostgroup)
       pins = refl;
       there = λ h has. refl;
       flag = refl;
+      prepared = λ one is. absurd (let none : None ≡ Some one = is in cc);
+      number = λ n is. absurd (let none : None ≡ Some n = is in cc);
       is = asked (is_connection_id class.shape) plain free plain;
+    }
+
+    pub goes-as-it-is : class.refusal ≡ None → is_connection_id class.shape ≡ false → transaction_of book situation ≡ None
+        → IsRoutedFor book situation keys c (com_query ∷ text) as_it_is
+    goes-as-it-is free plain closed = record {
+      wanted = plainly;
+      routed = refl;
+      keyed = λ key is. absurd (let none : None ≡ Some key = is in cc);
+      is = for free plain closed;
     }

@@ -1,14 +1,15 @@
 -- The worked log of router_cases, where it waits, and what the router says there by itself.
-use Rattle.std.specs.Prelude.{◌≡◌, Bool, true, false, [], ◌∷◌, Option, Some, None, if◌then◌else◌, refl}
+use Rattle.std.specs.Prelude.{◌≡◌, ℕ, Bool, true, false, [], ◌∷◌, Option, Some, None, if◌then◌else◌, refl}
 use Rattle.std.proofs.Common.{ap, subst}
 use Rattle.client_session.specs.Errors.{connection_refused}
 use Rattle.mx_wire.specs.Moments.{AllLawful}
 use Rattle.private_model.specs.Names.{ClientNo, Hostgroup}
-use Rattle.private_model.specs.Story.{is_message}
+use Rattle.private_model.specs.Story.{Key, is_message}
 use Rattle.log_story.specs.Plan.{LastWord, OwnAnswer, Route, com_query}
 use Rattle.own_words.specs.Own.{GivesUp, IsOwn, NoLink, SpeaksOwn}
 use Rattle.core_promises.specs.Asks.{CopiesNothing}
-use Rattle.core_promises.specs.Judges.{IsVerdictFor, JudgesSo, Situation, goes_by, rulebook_of, transaction_of}
+use Rattle.core_promises.proofs.Texts.{keys_in}
+use Rattle.core_promises.specs.Judges.{IsRoutedFor, JudgesSo, Situation, rulebook_of, transaction_of}
 use Rattle.core_promises.specs.Waits.{WaitsSo}
 use Rattle.promise_tests.proofs.Moments.{entries-so}
 use Rattle.promise_tests.specs.Tests.{each_entry}
@@ -34,13 +35,13 @@ waits-worked stored =
 
 -- Each message is an INSERT, which goes to the one server, in its user's hostgroup.
 
-goes-there : (c : ClientNo) (situation : Situation) → situation.user ≡ anybody.user → transaction_of (rulebook_of router) situation ≡ None
-    → IsVerdictFor (rulebook_of router) situation c (com_query ∷ insert) (goes_by route)
+goes-there : (keys : (key : ℕ) → Option Key) (c : ClientNo) (situation : Situation) → situation.user ≡ anybody.user → transaction_of (rulebook_of router) situation ≡ None
+    → IsRoutedFor (rulebook_of router) situation keys c (com_query ∷ insert) route
 unfolding on_classes
-goes-there c situation login closed =
-    subst (λ (home : Hostgroup). IsVerdictFor (rulebook_of router) situation c (com_query ∷ insert) (goes_by (record (plain_route home) { text = Some insert })))
+goes-there keys c situation login closed =
+    subst (λ (home : Hostgroup). IsRoutedFor (rulebook_of router) situation keys c (com_query ∷ insert) (record (plain_route home) { text = Some insert }))
     (ap (home_of router) login)
-    (goes-as-it-is (home_of router) (group ∷ []) situation c insert refl refl refl refl closed)
+    (goes-as-it-is (home_of router) (group ∷ []) situation keys c insert refl refl refl refl closed)
 
 said : (stored : Stored) → all_say (com_query ∷ insert) plan (now_at (terms_with stored) log) ≡ true
 unfolding on_logs
@@ -52,7 +53,7 @@ closed stored = refl
 
 pub judges-worked : (stored : Stored) → JudgesSo (terms_with stored) log
 judges-worked stored =
-    judges-so (terms_with stored) log (com_query ∷ insert) route (λ m. refl) goes-there (said stored) (closed stored)
+    judges-so (terms_with stored) log (com_query ∷ insert) route (λ m. refl) (goes-there (keys_in (terms_with stored))) (said stored) (closed stored)
 
 one-route : (a b : Route) → ◌≡◌ {A = Option Route} (Some a) (Some b) → a ≡ b
 one-route a b is = cc

@@ -60,20 +60,20 @@ waits terms log now Over = is_done terms log now
 waits terms log now _ = true
 
 -- the message of this name is one of these takings, and no transaction of its client was open then
-abbrev pub is_closed_in : Rulebook → Setup → MessageName → Taking → Bool
-is_closed_in book setup name taking =
-    is_message (message_in taking) name && not (is_some (transaction_of book (situation_of setup taking.tale name.client)))
+abbrev pub is_closed_in : Rulebook → Setup → Plan → MessageName → Taking → Bool
+is_closed_in book setup plan name taking =
+    is_message (message_in taking) name && not (is_some (transaction_of book (situation_of setup plan taking)))
 
-abbrev pub are_closed : Rulebook → Setup → List Taking → Client → (count : ℕ) → Bool
-are_closed book setup takings client zero = true
-are_closed book setup takings client (suc k) =
-    list_any (is_closed_in book setup (name_of client (suc k))) takings && are_closed book setup takings client k
+abbrev pub are_closed : Rulebook → Setup → Plan → List Taking → Client → (count : ℕ) → Bool
+are_closed book setup plan takings client zero = true
+are_closed book setup plan takings client (suc k) =
+    list_any (is_closed_in book setup plan (name_of client (suc k))) takings && are_closed book setup plan takings client k
 
 -- so it is of each that was taken up of each client of the log
 abbrev pub all_closed : Terms → Log → Bool
 all_closed terms log =
     list_all (λ (client : Client).
-    are_closed (rulebook_of terms.router) (setup_in terms) (takings_along (setup_in terms) (plan_in terms) first_tale log) client client.taken)
+    are_closed (rulebook_of terms.router) (setup_in terms) (plan_in terms) (takings_along (setup_in terms) (plan_in terms) first_tale log) client client.taken)
     (now_at terms log).tale.clients
 
 -- what was taken up of a client is this message

@@ -15,6 +15,7 @@ use Rattle.core_promises.specs.Ruled.{book_of}
 use Rattle.core_promises.specs.Waits.{AreDoneBy}
 use Rattle.core_service.specs.Serves.{ServesBy}
 use Rattle.core_service.specs.declared.service.Service.{Service}
+use Rattle.core_texts.specs.declared.texts.Texts.{Texts}
 use Rattle.core_tables.specs.Tables.{Tabled}
 use Rattle.mx_base.specs.declared.names.Address.{Address}
 use Rattle.mx_base.specs.declared.names.LinkId.{LinkId}
@@ -85,9 +86,9 @@ speaks_so rules d spoken = record { own = λ m answer is. own m answer (d.own m)
   own m answer (Some None) there is = absurd (none-some answer is)
   own m answer (Some (Some other)) there is = spoken.own m answer (there ∙ ap Some is)
 
-served_by : (service : Service) (log : Log) (t : Tabled) (roomy : ClientNo → Bool) → IsRouter service log t roomy
+served_by : (service : Service) (texts : Texts) (log : Log) (t : Tabled) (roomy : ClientNo → Bool) → IsRouter service texts log t roomy
     → Served service.setup service.default_schema (book_of service) log t roomy
-served_by service log t roomy is = record {
+served_by service texts log t roomy is = record {
   core = is.core;
   single = is.recorded.alone;
   judges = is.judged;
@@ -95,13 +96,13 @@ served_by service log t roomy is = record {
   waited = is.waited;
 }
 
-apart_of : (config : Config) (service : Service) (log : Log) (t : Tabled) (roomy : ClientNo → Bool) → ServesBy config service
-    → IsRouter service log t roomy → ServesApart config log
-apart_of config service log t roomy by stands =
+apart_of : (config : Config) (service : Service) (texts : Texts) (log : Log) (t : Tabled) (roomy : ClientNo → Bool) → ServesBy config service
+    → IsRouter service texts log t roomy → ServesApart config log
+apart_of config service texts log t roomy by stands =
     let router : Router = router_by config service in
     let kept : Served service.setup service.default_schema (rulebook_of router) log t roomy =
     subst (λ (book : Rulebook). Served service.setup service.default_schema book log t roomy) (book-is config service by)
-    (served_by service log t roomy stands) in
+    (served_by service texts log t roomy stands) in
     let is : Served (service_of router) config.proxy.default_schema (rulebook_of router) log t roomy = rw (by.setup, by.default_schema) at kept in
     record {
       router = router;
@@ -117,7 +118,7 @@ pub record Ran (config : Config) (log : Log) : Type 0 where
 pub ran-of : (config : Config) (core : Core) (log : Log) → ServesBy config core.service → IsStanding core log → Ran config log
 ran-of config core log by stands =
     let router = stands.stands.router in
-    record { fits = fits-of log router.lawful; serves = apart_of config core.service log _ _ by router }
+    record { fits = fits-of log router.lawful; serves = apart_of config core.service _ log _ _ by router }
 
 -- Marks and the answers of calls by which memory may be refused write nothing.
 

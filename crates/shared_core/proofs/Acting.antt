@@ -69,18 +69,19 @@ forgets_both old mid new first left closing next left_then closed = record {
   closed = record { client = left_then ∙ left; link = closed };
   roomy = next.roomy ∙ first.roomy;
   came = next.came ∙ first.came;
+  texts = next.texts ∙ first.texts;
 }
 
 pub forgets_client : (r now : Router) (c : ClientNo) → Some c ≡ r.leaving → IsSame (tables now) (forgotten c (tables r)) → GoesOn r.marked now.marked
-    → now.roomy ≡ r.roomy → now.came ≡ r.came → ForgetsBy (without_client r.leaving) r now
-forgets_client r now c leaving same goes roomy came =
+    → now.roomy ≡ r.roomy → now.came ≡ r.came → now.texts ≡ r.texts → ForgetsBy (without_client r.leaving) r now
+forgets_client r now c leaving same goes roomy came texts =
     subst (λ (l : Option ClientNo). ForgetsBy (without_client l) r now) leaving
-    (record { tables = same; goes = goes; roomy = roomy; came = came })
+    (record { tables = same; goes = goes; roomy = roomy; came = came; texts = texts })
 
 pub forgets_link : (r lost now : Router) (l : LinkId) → Some l ≡ r.closing → IsSame (tables lost) (lost_in l (tables r))
     → IsSame (tables now) (unlinked l (tables lost)) → GoesOn r.marked lost.marked → GoesOn lost.marked now.marked → now.roomy ≡ r.roomy
-    → now.came ≡ r.came → ForgetsBy (without_link r.closing) r now
-forgets_link r lost now l closing first next goes goes_then roomy came =
+    → now.came ≡ r.came → now.texts ≡ r.texts → ForgetsBy (without_link r.closing) r now
+forgets_link r lost now l closing first next goes goes_then roomy came texts =
     subst (λ (found : Option LinkId). ForgetsBy (without_link found) r now) closing
     (record {
       tables = same_by (tables now) (unlinked l (lost_in l (tables r)))
@@ -88,6 +89,7 @@ forgets_link r lost now l closing first next goes goes_then roomy came =
       goes = goes_along r.marked lost.marked now.marked goes goes_then;
       roomy = roomy;
       came = came;
+      texts = texts;
     })
 
 -- or none was
@@ -95,12 +97,12 @@ forgets_link r lost now l closing first next goes goes_then roomy came =
 pub forgets_no_client : (r : Router) → None ≡ r.leaving → ForgetsBy (without_client r.leaving) r (record r { leaving = None })
 forgets_no_client r leaving =
     subst (λ (l : Option ClientNo). ForgetsBy (without_client l) r (record r { leaving = None })) leaving
-    (record { tables = same_by (tables r) (tables r) refl; goes = still_goes r.marked; roomy = refl; came = refl })
+    (record { tables = same_by (tables r) (tables r) refl; goes = still_goes r.marked; roomy = refl; came = refl; texts = refl })
 
 pub forgets_no_link : (r : Router) → None ≡ r.closing → ForgetsBy (without_link r.closing) r (record r { closing = None })
 forgets_no_link r closing =
     subst (λ (l : Option LinkId). ForgetsBy (without_link l) r (record r { closing = None })) closing
-    (record { tables = same_by (tables r) (tables r) refl; goes = still_goes r.marked; roomy = refl; came = refl })
+    (record { tables = same_by (tables r) (tables r) refl; goes = still_goes r.marked; roomy = refl; came = refl; texts = refl })
 
 -- What is asked for behind that.
 
@@ -108,7 +110,7 @@ pub forgotten_stands : (old mid : Router) → Forgets old mid → (service : Ser
     → PartsFor service log (shown mid)
 forgotten_stands old mid forgets service log was =
     parted_stands service log (shown mid) forgets.closed
-    (stands_as service log (tables mid) (shown old) (shown mid) forgets.roomy forgets.came
+    (stands_as service log (tables mid) (shown old) (shown mid) forgets.roomy forgets.came forgets.texts
     (subst (λ (t : Tabled). StandsBy service log t (shown old)) (sym (tables_are (tables mid) (parted (shown old)) forgets.tables)) was))
 
 pub next_acts : (old mid acted new : Router) (result : Option Act) → Forgets old mid → ActsSo mid acted result → shown new ≡ shown acted

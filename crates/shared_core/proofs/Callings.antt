@@ -23,13 +23,16 @@ use Rattle.core_laws.specs.entry.Cores.{with_entry}
 use Rattle.router_laws.specs.decisions.Routers.{IsRouter}
 use Rattle.router_laws.specs.wakes.Calling.{Caller, GivesUpAll, IsThere, is_called, is_given}
 use Rattle.query_rules.specs.Passing.{rules_of}
-use Rattle.core_promises.specs.Ruled.{book_of}
+use Rattle.core_promises.specs.Ruled.{ruling_of}
 use Rattle.router_laws.specs.decisions.Rulings.{AreRuledAll}
 use Rattle.router_laws.specs.decisions.Speaks.{IsGivenOurs}
 use Rattle.router_laws.specs.waits.Drained.{IsDrainedFor}
 use Rattle.router_laws.specs.wakes.Deciding.{IsCallerOurs}
 use Rattle.router_laws.specs.wakes.Waking.{FailsSo, WakesSo}
 use Rattle.router_laws.proofs.OfWakes.Settled.{same_itself}
+use Rattle.router_laws.proofs.OfDecisions.Learning.{learns}
+use Rattle.core_texts.specs.declared.texts.Texts.{Texts}
+use Rattle.core_texts.specs.Texts.{AreMore, key_at}
 use Rattle.shared_core.specs.Follows.{AreRising, HasAnswered, HaveFollowed, is_of}
 use Rattle.shared_core.specs.Stands.{Carries, CarriesWhere, is_roomy, tables}
 use Rattle.shared_core.specs.Wakes.{AreCalled, HasFailed, HasWoken, HaveGivenUp, IsWaiting}
@@ -138,9 +141,9 @@ given_since first roomy called old new more given = record {
   kept = λ c has. given.kept c (more c has);
 }
 
-pub have_woken : (service : Service) (roomy called : Roomy) (clients : List ClientNo) (old mid new : Tabled) → HaveGivenUp roomy called old mid
-    → AreCalled called clients mid → HaveFollowed service clients mid new → HasWoken service roomy old new
-have_woken service roomy called clients old mid new given are followed = record {
+pub have_woken : (service : Service) (texts : Texts) (roomy called : Roomy) (clients : List ClientNo) (old mid new : Tabled) → HaveGivenUp roomy called old mid
+    → AreCalled called clients mid → HaveFollowed service texts clients mid new → HasWoken service texts roomy old new
+have_woken service texts roomy called clients old mid new given are followed = record {
   given = given.given;
   callers = followed.callers;
   links = followed.links;
@@ -157,8 +160,8 @@ have_woken service roomy called clients old mid new given are followed = record 
   ruled = followed.ruled;
 }
 
-pub none_fails : (service : Service) (t : Tabled) → HasFailed service t t
-none_fails service t = record {
+pub none_fails : (service : Service) (texts : Texts) (t : Tabled) → HasFailed service texts t t
+none_fails service texts t = record {
   given = [];
   callers = [];
   links = [];
@@ -185,9 +188,9 @@ none_fails service t = record {
   ruled = tt;
 }
 
-pub one_fails : (service : Service) (c : ClientNo) (old mid new : Tabled) → IsWaiting c old → HasAnswered c old mid
-    → HaveFollowed service (c ∷ []) mid new → HasFailed service old new
-one_fails service c old mid new waiting answered followed = record {
+pub one_fails : (service : Service) (texts : Texts) (c : ClientNo) (old mid new : Tabled) → IsWaiting c old → HasAnswered c old mid
+    → HaveFollowed service texts (c ∷ []) mid new → HasFailed service texts old new
+one_fails service texts c old mid new waiting answered followed = record {
   given = record { client = c; payload = answered.payload } ∷ [];
   callers = followed.callers;
   links = followed.links;
@@ -217,32 +220,32 @@ there_one c old mid waiting answered =
 -- The router is carried over the entry.
 
 abbrev pub Fails : Type 0
-Fails = (service : Service) (log : Log) (t now : Tabled) (roomy : ClientNo → Bool) (given : List GivenUp)
-    (callers : List Caller) (links : List LinkId) (server : ServerId) (address : Address) → IsRouter service log t roomy
+Fails = (service : Service) (texts : Texts) (log : Log) (t now : Tabled) (roomy : ClientNo → Bool) (given : List GivenUp)
+    (callers : List Caller) (links : List LinkId) (server : ServerId) (address : Address) → IsRouter service texts log t roomy
     → MayFollow log (OpenFailed server address) → (fails : FailsSo service.setup service.default_schema given callers links t now) → All IsGivenOurs given
-    → All (IsCallerOurs (rules_of service.rules)) callers
-    → AreRuledAll (book_of service) callers service.setup service.default_schema fails.late fails.calls.turned fails.calls.going
-    → IsRouter service (with_entry log (OpenFailed server address)) now roomy
+    → All (IsCallerOurs (rules_of service.rules) texts) callers
+    → AreRuledAll (ruling_of service (key_at texts)) callers service.setup service.default_schema fails.late fails.calls.turned fails.calls.going
+    → IsRouter service texts (with_entry log (OpenFailed server address)) now roomy
 
-pub fails_carries : Fails → (service : Service) (server : ServerId) (old new : Router) → HasFailed service (tables old) (tables new)
-    → new.roomy ≡ old.roomy → new.came ≡ old.came → (address : Address) → Carries service (OpenFailed server address) old new
-fails_carries law service server old new failed roomy came address =
-    carries_by service old new roomy came (OpenFailed server address) refl (λ log may is.
-    law service log (tables old) (tables new) (is_roomy old.roomy) failed.given failed.callers failed.links server address
+pub fails_carries : Fails → (service : Service) (server : ServerId) (old new : Router) → HasFailed service new.texts (tables old) (tables new)
+    → new.roomy ≡ old.roomy → new.came ≡ old.came → AreMore old.texts new.texts → (address : Address) → Carries service (OpenFailed server address) old new
+fails_carries law service server old new failed roomy came more address =
+    carries_by service old new roomy came more (OpenFailed server address) refl (λ log may is.
+    law service new.texts log (tables old) (tables new) (is_roomy old.roomy) failed.given failed.callers failed.links server address
     is may failed.so failed.given_ours failed.ours failed.ruled)
 
 abbrev pub Wakes : Type 0
-Wakes = (service : Service) (log : Log) (t now : Tabled) (roomy room : ClientNo → Bool) (given : List GivenUp)
-    (callers : List Caller) (links : List LinkId) (until_ms now_ms : ℕ) → IsRouter service log t roomy → MayFollow log (Woke until_ms now_ms)
+Wakes = (service : Service) (texts : Texts) (log : Log) (t now : Tabled) (roomy room : ClientNo → Bool) (given : List GivenUp)
+    (callers : List Caller) (links : List LinkId) (until_ms now_ms : ℕ) → IsRouter service texts log t roomy → MayFollow log (Woke until_ms now_ms)
     → IsDrainedFor t log → (wakes : WakesSo service.setup service.default_schema given callers links roomy t now) → All IsGivenOurs given
-    → All (IsCallerOurs (rules_of service.rules)) callers
-    → AreRuledAll (book_of service) callers service.setup service.default_schema wakes.late wakes.calls.turned wakes.calls.going
-    → IsRouter service (with_entry log (Woke until_ms now_ms)) now room
+    → All (IsCallerOurs (rules_of service.rules) texts) callers
+    → AreRuledAll (ruling_of service (key_at texts)) callers service.setup service.default_schema wakes.late wakes.calls.turned wakes.calls.going
+    → IsRouter service texts (with_entry log (Woke until_ms now_ms)) now room
 
-pub wakes_carries : Wakes → (service : Service) (now_ms : ℕ) (old new : Router) → HasWoken service old.roomy (tables old) (tables new)
-    → new.came ≡ old.came → (until_ms : ℕ) → CarriesWhere (IsDrainedFor (tables old)) service (Woke until_ms now_ms) old new
-wakes_carries law service now_ms old new woken came until_ms log drained may stands = record {
-  router = law service log (tables old) (tables new) (is_roomy old.roomy) (is_roomy new.roomy) woken.given woken.callers
-      woken.links until_ms now_ms stands.router may drained woken.so woken.given_ours woken.ours woken.ruled;
+pub wakes_carries : Wakes → (service : Service) (now_ms : ℕ) (old new : Router) → HasWoken service new.texts old.roomy (tables old) (tables new)
+    → new.came ≡ old.came → AreMore old.texts new.texts → (until_ms : ℕ) → CarriesWhere (IsDrainedFor (tables old)) service (Woke until_ms now_ms) old new
+wakes_carries law service now_ms old new woken came more until_ms log drained may stands = record {
+  router = law service new.texts log (tables old) (tables new) (is_roomy old.roomy) (is_roomy new.roomy) woken.given woken.callers
+      woken.links until_ms now_ms (learns service old.texts new.texts log (tables old) (is_roomy old.roomy) stands.router more) may drained woken.so woken.given_ours woken.ours woken.ruled;
   counted = came ∙ (stands.counted ∙ sym (none_come log (Woke until_ms now_ms) refl));
 }

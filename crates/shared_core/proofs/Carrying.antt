@@ -9,6 +9,10 @@ use Rattle.mx_wire.specs.declared.entry.Entry.{Entry}
 use Rattle.core_service.specs.declared.service.Service.{Service}
 use Rattle.router_laws.specs.decisions.Routers.{IsRouter}
 use Rattle.core_laws.specs.entry.Cores.{with_entry}
+use Rattle.router_laws.proofs.OfDecisions.Learning.{learns}
+use Rattle.core_texts.specs.declared.texts.Texts.{Texts}
+use Rattle.core_texts.specs.Texts.{AreMore}
+use Rattle.core_texts.proofs.Keeping.{itself_more}
 use Rattle.shared_core.specs.Stands.{Carries, Shown, StandsBy, StandsFor, is_roomy, shown, tables, tables_in}
 use Rattle.shared_core.specs.declared.roomy.Roomy.{Roomy}
 use Rattle.shared_core.specs.declared.router.Router.{Router}
@@ -18,22 +22,27 @@ none_come log e none =
     ap length (filter_map-append accepted_link log (e ∷ []) ∙ ap (λ (more : List LinkId). accepted_links log ++ more) none
     ∙ append-nil (accepted_links log))
 
-module _ (service : Service) (old new : Router) (roomy : new.roomy ≡ old.roomy) (came : new.came ≡ old.came) where
+pub texts_more : (old new : Texts) → new ≡ old → AreMore old new
+texts_more old new same = subst (AreMore old) (sym same) (itself_more old)
+
+module _ (service : Service) (old new : Router) (roomy : new.roomy ≡ old.roomy) (came : new.came ≡ old.came)
+    (more : AreMore old.texts new.texts) where
   pub carries_by : (e : Entry) → accepted_links (e ∷ []) ≡ []
-      → ((log : Log) → MayFollow log e → IsRouter service log (tables old) (is_roomy old.roomy)
-      → IsRouter service (with_entry log e) (tables new) (is_roomy old.roomy))
+      → ((log : Log) → MayFollow log e → IsRouter service new.texts log (tables old) (is_roomy old.roomy)
+      → IsRouter service new.texts (with_entry log e) (tables new) (is_roomy old.roomy))
       → Carries service e old new
   carries_by e none goes log may stands = record {
-    router = subst (λ (r : Roomy). IsRouter service (with_entry log e) (tables new) (is_roomy r)) (sym roomy)
-        (goes log may stands.router);
+    router = subst (λ (r : Roomy). IsRouter service new.texts (with_entry log e) (tables new) (is_roomy r)) (sym roomy)
+        (goes log may (learns service old.texts new.texts log (tables old) (is_roomy old.roomy) stands.router more));
     counted = came ∙ stands.counted ∙ sym (none_come log e none);
   }
 
   -- nothing is told
-  pub stays_by : (log : Log) → (IsRouter service log (tables old) (is_roomy old.roomy)
-      → IsRouter service log (tables new) (is_roomy old.roomy)) → StandsFor service log old → StandsFor service log new
+  pub stays_by : (log : Log) → (IsRouter service new.texts log (tables old) (is_roomy old.roomy)
+      → IsRouter service new.texts log (tables new) (is_roomy old.roomy)) → StandsFor service log old → StandsFor service log new
   stays_by log goes stands = record {
-    router = subst (λ (r : Roomy). IsRouter service log (tables new) (is_roomy r)) (sym roomy) (goes stands.router);
+    router = subst (λ (r : Roomy). IsRouter service new.texts log (tables new) (is_roomy r)) (sym roomy)
+        (goes (learns service old.texts new.texts log (tables old) (is_roomy old.roomy) stands.router more));
     counted = came ∙ stands.counted;
   }
 

@@ -35,11 +35,15 @@ use Rattle.router_laws.specs.clients.Plans.{nobody}
 use Rattle.router_laws.specs.clients.Speaks.{IsLinkOf, SpeaksSo}
 use Rattle.router_laws.specs.entering.Rooms.{OthersLack}
 use Rattle.query_rules.specs.Passing.{rules_of}
-use Rattle.core_promises.specs.Ruled.{AreRuled, book_of}
+use Rattle.core_promises.specs.Ruled.{AreRuled, ruling_of}
 use Rattle.router_laws.specs.decisions.Speaks.{IsOurs, IsPartingOurs}
 use Rattle.router_laws.specs.decisions.Routers.{IsRouter}
 use Rattle.router_laws.specs.routers.Somehow.{AreLinked, IsLinked}
 use Rattle.core_laws.specs.entry.Cores.{with_entry}
+use Rattle.router_laws.proofs.OfDecisions.Learning.{learns}
+use Rattle.core_texts.specs.declared.texts.Texts.{Texts}
+use Rattle.core_texts.specs.Texts.{AreMore, key_at}
+use Rattle.core_texts.proofs.Keeping.{itself_more, more_on}
 use Rattle.shared_core.proofs.Entrants.{lacking, lacks_itself, logging_in, others_lack, router_still}
 use Rattle.shared_core.specs.Clients.{HasLeftAtOnce, HasLeftGoing, HasSpoken}
 use Rattle.shared_core.specs.Follows.{Keeps}
@@ -51,49 +55,49 @@ use Rattle.client_seat.specs.Numbers.{number_in}
 -- The laws by which a router goes on.
 
 abbrev pub Comes : Type 0
-Comes = (service : Service) (log : Log) (t now : Tabled) (roomy : ClientNo → Bool) (port : Port) (link : LinkId)
-    (salt : List ℕ) (c : ClientNo) → IsRouter service log t roomy → MayFollow log (entry.Accepted port link salt)
+Comes = (service : Service) (texts : Texts) (log : Log) (t now : Tabled) (roomy : ClientNo → Bool) (port : Port) (link : LinkId)
+    (salt : List ℕ) (c : ClientNo) → IsRouter service texts log t roomy → MayFollow log (entry.Accepted port link salt)
     → c.0 ≡ length (accepted_links log) + 1 → ComesSo Served service.setup port link salt c t now
-    → IsRouter service (with_entry log (entry.Accepted port link salt)) now roomy
+    → IsRouter service texts (with_entry log (entry.Accepted port link salt)) now roomy
 
 abbrev pub Away : Type 0
-Away = (service : Service) (log : Log) (t now : Tabled) (roomy : ClientNo → Bool) (port : Port) (link : LinkId)
-    (salt : List ℕ) (c : ClientNo) → IsRouter service log t roomy → MayFollow log (entry.Accepted port link salt)
+Away = (service : Service) (texts : Texts) (log : Log) (t now : Tabled) (roomy : ClientNo → Bool) (port : Port) (link : LinkId)
+    (salt : List ℕ) (c : ClientNo) → IsRouter service texts log t roomy → MayFollow log (entry.Accepted port link salt)
     → c.0 ≡ length (accepted_links log) + 1 → ComesSo TurnedAway service.setup port link salt c t now
-    → IsRouter service (with_entry log (entry.Accepted port link salt)) now roomy
+    → IsRouter service texts (with_entry log (entry.Accepted port link salt)) now roomy
 
 abbrev pub Speaks : Type 0
-Speaks = (service : Service) (log : Log) (t now : Tabled) (roomy room : ClientNo → Bool) (link : LinkId) (bytes : List ℕ)
+Speaks = (service : Service) (texts : Texts) (log : Log) (t now : Tabled) (roomy room : ClientNo → Bool) (link : LinkId) (bytes : List ℕ)
     (c : ClientNo) (ordinal : ℕ) (choices : List Choice) (halt : Halt) (parting : Parting) (links : List LinkId)
-    → IsRouter service log t roomy → MayFollow log (entry.Got link bytes)
+    → IsRouter service texts log t roomy → MayFollow log (entry.Got link bytes)
     → (so : SpeaksSo service.setup service.default_schema link bytes c ordinal choices halt parting links t now)
-    → All (IsOurs (rules_of service.rules) c) choices → IsPartingOurs parting
+    → All (IsOurs (rules_of service.rules) texts c) choices → IsPartingOurs parting
     → OthersLack c roomy room
-    → AreRuled (book_of service) choices halt service.setup service.default_schema c so.heard so.follows.turned so.follows.turns
-    → IsRouter service (with_entry log (entry.Got link bytes)) now room
+    → AreRuled (ruling_of service (key_at texts)) choices halt service.setup service.default_schema c so.heard so.follows.turned so.follows.turns
+    → IsRouter service texts (with_entry log (entry.Got link bytes)) now room
 
 abbrev pub Again : Type 0
-Again = (service : Service) (log : Log) (e : Entry) (t now : Tabled) (roomy : ClientNo → Bool) (link : LinkId) (c : ClientNo)
-    → IsRouter service log t roomy → MayFollow log e → IsLossOf link e → LeavesAgain link c t now
-    → IsRouter service (with_entry log e) now roomy
+Again = (service : Service) (texts : Texts) (log : Log) (e : Entry) (t now : Tabled) (roomy : ClientNo → Bool) (link : LinkId) (c : ClientNo)
+    → IsRouter service texts log t roomy → MayFollow log e → IsLossOf link e → LeavesAgain link c t now
+    → IsRouter service texts (with_entry log e) now roomy
 
 abbrev pub AtOnce : Type 0
-AtOnce = (service : Service) (log : Log) (e : Entry) (t now : Tabled) (roomy room : ClientNo → Bool) (link : LinkId)
-    (c : ClientNo) (links : List LinkId) → IsRouter service log t roomy → MayFollow log e → IsLossOf link e
-    → LeavesAtOnce link links c roomy t now → OthersLack c roomy room → IsRouter service (with_entry log e) now room
+AtOnce = (service : Service) (texts : Texts) (log : Log) (e : Entry) (t now : Tabled) (roomy room : ClientNo → Bool) (link : LinkId)
+    (c : ClientNo) (links : List LinkId) → IsRouter service texts log t roomy → MayFollow log e → IsLossOf link e
+    → LeavesAtOnce link links c roomy t now → OthersLack c roomy room → IsRouter service texts (with_entry log e) now room
 
 abbrev pub Going : Type 0
-Going = (service : Service) (log : Log) (e : Entry) (t now : Tabled) (roomy room : ClientNo → Bool) (link : LinkId)
+Going = (service : Service) (texts : Texts) (log : Log) (e : Entry) (t now : Tabled) (roomy room : ClientNo → Bool) (link : LinkId)
     (c : ClientNo) (links : List LinkId) (ordinal : ℕ) (choices : List Choice) (halt : Halt) (parting : Parting)
-    → IsRouter service log t roomy → MayFollow log e → IsLossOf link e
+    → IsRouter service texts log t roomy → MayFollow log e → IsLossOf link e
     → (so : LeavesGoing service.setup service.default_schema link links ordinal choices halt parting c t now)
-    → All (IsOurs (rules_of service.rules) c) choices → IsPartingOurs parting
+    → All (IsOurs (rules_of service.rules) texts c) choices → IsPartingOurs parting
     → OthersLack c roomy room
-    → AreRuled (book_of service) choices halt service.setup service.default_schema c so.between so.follows.turned so.follows.turns
-    → IsRouter service (with_entry log e) now room
+    → AreRuled (ruling_of service (key_at texts)) choices halt service.setup service.default_schema c so.between so.follows.turned so.follows.turns
+    → IsRouter service texts (with_entry log e) now room
 
 abbrev pub Linked : Type 0
-Linked = (service : Service) (log : Log) (t : Tabled) (roomy : ClientNo → Bool) → IsRouter service log t roomy → AreLinked t
+Linked = (service : Service) (texts : Texts) (log : Log) (t : Tabled) (roomy : ClientNo → Bool) → IsRouter service texts log t roomy → AreLinked t
 
 -- both hold, if there was memory
 pub on_both : {X E : Type 0} {A B C : Type 0} (r : Result X E) → (A → B → C) → OnOk r A → OnOk r B → OnOk r C
@@ -124,7 +128,8 @@ behind log e =
 -- One comes.
 
 module _ (service : Service) (port : Port) (link : LinkId) (salt : List ℕ) (old new : Router) (c : ClientNo)
-    (count : c.0 ≡ min (old.came + 1) (2 ^ 64 - 1)) (came_so : new.came ≡ c.0) (roomy : new.roomy ≡ old.roomy) where
+    (count : c.0 ≡ min (old.came + 1) (2 ^ 64 - 1)) (came_so : new.came ≡ c.0) (roomy : new.roomy ≡ old.roomy)
+    (more : AreMore old.texts new.texts) where
   abbrev e : Entry
   e = entry.Accepted port link salt
 
@@ -134,9 +139,9 @@ module _ (service : Service) (port : Port) (link : LinkId) (salt : List ℕ) (ol
       let less : length (accepted_links log) ≤ length log = few log in omega (arith, count, was, below, less)
 
   stands : (log : Log) (may : MayFollow log e) (was : old.came ≡ length (accepted_links log))
-      → IsRouter service (with_entry log e) (tables new) (is_roomy old.roomy) → StandsFor service (with_entry log e) new
+      → IsRouter service new.texts (with_entry log e) (tables new) (is_roomy old.roomy) → StandsFor service (with_entry log e) new
   stands log may was router = record {
-    router = subst (λ (r : Roomy). IsRouter service (with_entry log e) (tables new) (is_roomy r)) (sym roomy) router;
+    router = subst (λ (r : Roomy). IsRouter service new.texts (with_entry log e) (tables new) (is_roomy r)) (sym roomy) router;
     counted = (let one : c.0 ≡ length (accepted_links log) + 1 = counted log may was in
         let more : length (accepted_links (with_entry log e)) ≡ length (accepted_links log) + 1 = behind log e in omega (arith, one, more, came_so));
   }
@@ -144,13 +149,15 @@ module _ (service : Service) (port : Port) (link : LinkId) (salt : List ℕ) (ol
   pub comes_carry : Comes → ComesSo Served service.setup port link salt c (tables old) (tables new) → Carries service e old new
   comes_carry law so log may stood =
       stands log may stood.counted
-      (law service log (tables old) (tables new) (is_roomy old.roomy) port link salt c stood.router may
+      (law service new.texts log (tables old) (tables new) (is_roomy old.roomy) port link salt c
+      (learns service old.texts new.texts log (tables old) (is_roomy old.roomy) stood.router more) may
       (counted log may stood.counted) so)
 
   pub away_carries : Away → ComesSo TurnedAway service.setup port link salt c (tables old) (tables new) → Carries service e old new
   away_carries law so log may stood =
       stands log may stood.counted
-      (law service log (tables old) (tables new) (is_roomy old.roomy) port link salt c stood.router may
+      (law service new.texts log (tables old) (tables new) (is_roomy old.roomy) port link salt c
+      (learns service old.texts new.texts log (tables old) (is_roomy old.roomy) stood.router more) may
       (counted log may stood.counted) so)
 
 pub moves_of : (old new : Router) → Keeps old new → Moves old new
@@ -166,10 +173,11 @@ keeps_on a b c first next = record {
   asked = next.asked ∙ first.asked;
   client = next.client ∙ first.client;
   link = next.link ∙ first.link;
+  texts = more_on a.texts b.texts c.texts first.texts next.texts;
 }
 
 pub keeps_marked : (r : Router) (m : MarkedTables) → GoesOn r.marked m → Keeps r (record r { marked = m })
-keeps_marked r m goes = record { goes = goes; roomy = refl; came = refl; asked = refl; client = refl; link = refl }
+keeps_marked r m goes = record { goes = goes; roomy = refl; came = refl; asked = refl; client = refl; link = refl; texts = itself_more r.texts }
 
 -- it is received with its seat
 pub received : (by : ClientStatements → Seat) (link : LinkId) (c : ClientNo) (seat : Seat) (note : ClientNote) (t now : Tabled)
@@ -182,13 +190,18 @@ received by link c seat note t now its none same = record {
   same = subst (λ (s : Seat). IsSame now (came c link s note t)) its same;
 }
 
+-- As more texts are kept it stands so.
+learnt : (service : Service) (old new : Router) → Keeps old new → (log : Log) → StandsFor service log old
+    → IsRouter service new.texts log (tables old) (is_roomy old.roomy)
+learnt service old new keeps log stood = learns service old.texts new.texts log (tables old) (is_roomy old.roomy) stood.router keeps.texts
+
 -- Of entries at which nobody comes.
 
 module _ (service : Service) (e : Entry) (old new : Router) (keeps : Keeps old new) (none : accepted_links (e ∷ []) ≡ []) where
   pub kept_stands : (log : Log) → old.came ≡ length (accepted_links log)
-      → IsRouter service (with_entry log e) (tables new) (is_roomy old.roomy) → StandsFor service (with_entry log e) new
+      → IsRouter service new.texts (with_entry log e) (tables new) (is_roomy old.roomy) → StandsFor service (with_entry log e) new
   kept_stands log was router = record {
-    router = subst (λ (r : Roomy). IsRouter service (with_entry log e) (tables new) (is_roomy r)) (sym keeps.roomy) router;
+    router = subst (λ (r : Roomy). IsRouter service new.texts (with_entry log e) (tables new) (is_roomy r)) (sym keeps.roomy) router;
     counted = (let more : length (accepted_links (with_entry log e)) ≡ length (accepted_links log) + length (accepted_links (e ∷ [])) = behind log e in
         let nobody : length (accepted_links (e ∷ [])) ≡ 0 = ap (λ (xs : List LinkId). length xs) none in
         let as_many : new.came ≡ old.came = keeps.came in omega (arith, was, more, nobody, as_many));
@@ -233,15 +246,15 @@ none_read link r aside numbered reads =
 
 pub speaks_carry : (service : Service) (link : LinkId) (bytes : List ℕ) (c : ClientNo) (old new : Router) → Speaks
     → (tables old).links link ≡ None → (tables old).numbers link ≡ Some c → Keeps old new
-    → ((row : Client) → IsLinkOf link c row (tables old) → is_ended row.desk.seat.phase ≡ false → HasSpoken service link bytes c (tables old) (tables new))
+    → ((row : Client) → IsLinkOf link c row (tables old) → is_ended row.desk.seat.phase ≡ false → HasSpoken service new.texts link bytes c (tables old) (tables new))
     → reads_on old.marked link ≡ true → Carries service (entry.Got link bytes) old new
 speaks_carry service link bytes c old new law aside numbered keeps spoken reads log may stood =
     let read = read_row link c (tables old) aside numbered (and_right (is_known old.marked.changed link) (reads_in (tables old) link) reads) in
-    let spoke : HasSpoken service link bytes c (tables old) (tables new) =
+    let spoke : HasSpoken service new.texts link bytes c (tables old) (tables new) =
     spoken read.0 (record { numbered = numbered; there = read.1 }) read.2 in
     kept_stands service (entry.Got link bytes) old new keeps refl log stood.counted
-    (law service log (tables old) (tables new) (is_roomy old.roomy) (is_roomy old.roomy) link bytes c spoke.ordinal spoke.choices
-    spoke.halt spoke.parting spoke.links stood.router may spoke.so spoke.ours spoke.word (λ other apart full. full) spoke.ruled)
+    (law service new.texts log (tables old) (tables new) (is_roomy old.roomy) (is_roomy old.roomy) link bytes c spoke.ordinal spoke.choices
+    spoke.halt spoke.parting spoke.links (learnt service old new keeps log stood) may spoke.so spoke.ours spoke.word (λ other apart full. full) spoke.ruled)
 
 -- A link is lost.
 
@@ -259,20 +272,20 @@ loses_by service link old new each = record {
 }
 
 -- One that isn't logged in has nothing to take up, though it may have room again.
-at_once_router : AtOnce → (service : Service) (log : Log) (e : Entry) (t now : Tabled) (roomy : ClientNo → Bool) (link : LinkId)
-    (c : ClientNo) (links : List LinkId) → IsRouter service log t roomy → MayFollow log e → IsLossOf link e
-    → LeavesAtOnce link links c nobody t now → IsRouter service (with_entry log e) now roomy
-at_once_router law service log e t now roomy link c links router may lost so = by so.busy where
+at_once_router : AtOnce → (service : Service) (texts : Texts) (log : Log) (e : Entry) (t now : Tabled) (roomy : ClientNo → Bool) (link : LinkId)
+    (c : ClientNo) (links : List LinkId) → IsRouter service texts log t roomy → MayFollow log e → IsLossOf link e
+    → LeavesAtOnce link links c nobody t now → IsRouter service texts (with_entry log e) now roomy
+at_once_router law service texts log e t now roomy link c links router may lost so = by so.busy where
   so_by : (room : ClientNo → Bool) → (so.row.desk.seat.answered ≡ false) ⊎ ((account_in so.row.desk.seat.phase ≡ None) × (room c ≡ false))
       → LeavesAtOnce link links c room t now
   so_by room busy = record { row = so.row; its = so.its; going = so.going; busy = busy; between = so.between; ends = so.ends; again = so.again }
 
   by : (so.row.desk.seat.answered ≡ false) ⊎ ((account_in so.row.desk.seat.phase ≡ None) × (nobody c ≡ false))
-      → IsRouter service (with_entry log e) now roomy
-  by (inl waits) = law service log e t now roomy roomy link c links router may lost (so_by roomy (inl waits)) (λ other apart full. full)
+      → IsRouter service texts (with_entry log e) now roomy
+  by (inl waits) = law service texts log e t now roomy roomy link c links router may lost (so_by roomy (inl waits)) (λ other apart full. full)
   by (inr fresh) =
-      law service log e t now (lacking c roomy) roomy link c links
-      (router_still service log t roomy c so.row so.its.there (logging_in so.row.desk.seat.phase so.going fresh.0) router) may lost
+      law service texts log e t now (lacking c roomy) roomy link c links
+      (router_still service texts log t roomy c so.row so.its.there (logging_in so.row.desk.seat.phase so.going fresh.0) router) may lost
       (so_by (lacking c roomy) (inr (fresh.0, lacks_itself c roomy (same_number c.0)))) (λ other apart full. others_lack c roomy other full)
 
 -- a link of nobody's that is there isn't one of a router
@@ -282,7 +295,7 @@ gone_loses linked service link c old new gone numbered =
     loses_by service link old new
     (λ e lost log may stood.
     let is : IsLinked link c (tables old) =
-    linked service log (tables old) (is_roomy old.roomy) stood.router link c numbered in
+    linked service old.texts log (tables old) (is_roomy old.roomy) stood.router link c numbered in
     absurd (none-some is.row (sym gone ∙ is.there)))
 
 module _ (service : Service) (link : LinkId) (c : ClientNo) (old new : Router) (keeps : Keeps old new) where
@@ -291,20 +304,20 @@ module _ (service : Service) (link : LinkId) (c : ClientNo) (old new : Router) (
       loses_by service link old new
       (λ e lost log may stood.
       kept_stands service e old new keeps (lost_none link e lost) log stood.counted
-      (law service log e (tables old) (tables new) (is_roomy old.roomy) link c stood.router may lost so))
+      (law service new.texts log e (tables old) (tables new) (is_roomy old.roomy) link c (learnt service old new keeps log stood) may lost so))
 
   pub at_once_loses : AtOnce → HasLeftAtOnce link c (tables old) (tables new) → Loses service link old new
   at_once_loses law has =
       loses_by service link old new
       (λ e lost log may stood.
       kept_stands service e old new keeps (lost_none link e lost) log stood.counted
-      (at_once_router law service log e (tables old) (tables new) (is_roomy old.roomy) link c has.links stood.router may lost
+      (at_once_router law service new.texts log e (tables old) (tables new) (is_roomy old.roomy) link c has.links (learnt service old new keeps log stood) may lost
       has.so))
 
-  pub going_loses : Going → HasLeftGoing service link c (tables old) (tables new) → Loses service link old new
+  pub going_loses : Going → HasLeftGoing service new.texts link c (tables old) (tables new) → Loses service link old new
   going_loses law has =
       loses_by service link old new
       (λ e lost log may stood.
       kept_stands service e old new keeps (lost_none link e lost) log stood.counted
-      (law service log e (tables old) (tables new) (is_roomy old.roomy) (is_roomy old.roomy) link c has.links has.ordinal
-      has.choices has.halt has.parting stood.router may lost has.so has.ours has.word (λ other apart full. full) has.ruled))
+      (law service new.texts log e (tables old) (tables new) (is_roomy old.roomy) (is_roomy old.roomy) link c has.links has.ordinal
+      has.choices has.halt has.parting (learnt service old new keeps log stood) may lost has.so has.ours has.word (λ other apart full. full) has.ruled))

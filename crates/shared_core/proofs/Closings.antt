@@ -33,6 +33,7 @@ use Rattle.router_laws.specs.decisions.Routers.{IsRouter}
 use Rattle.router_laws.specs.links.Closes.{ClosesSo, IsLentThere, IsUnawaited, MayClose, MaySayFarewell}
 use Rattle.router_laws.specs.links.Loses.{GoesWithIt}
 use Rattle.router_laws.specs.routers.Somehow.{AreLinked}
+use Rattle.core_texts.specs.declared.texts.Texts.{Texts}
 use Rattle.shared_core.proofs.LinkWrites.{IsLent, is_lent}
 use Rattle.shared_core.proofs.Machining.{stands_parted}
 use Rattle.shared_core.specs.Follows.{Keeps}
@@ -102,26 +103,26 @@ none_more log more none =
 -- The laws by which a router goes on.
 
 abbrev pub Links : Type 0
-Links = (service : Service) (log : Log) (t : Tabled) (roomy : ClientNo → Bool) → IsRouter service log t roomy → AreLinked t
+Links = (service : Service) (texts : Texts) (log : Log) (t : Tabled) (roomy : ClientNo → Bool) → IsRouter service texts log t roomy → AreLinked t
 
 abbrev pub ClosesPlain : Type 0
-ClosesPlain = (service : Service) (log : Log) (t now : Tabled) (roomy room : ClientNo → Bool) (l : LinkId)
-    → IsRouter service log t roomy → MayFollow log (Closed l) → ((c : ClientNo) → room c ≡ false → roomy c ≡ false)
-    → ClosesSo l room t now → IsRouter service (with_entry log (Closed l)) now room
+ClosesPlain = (service : Service) (texts : Texts) (log : Log) (t now : Tabled) (roomy room : ClientNo → Bool) (l : LinkId)
+    → IsRouter service texts log t roomy → MayFollow log (Closed l) → ((c : ClientNo) → room c ≡ false → roomy c ≡ false)
+    → ClosesSo l room t now → IsRouter service texts (with_entry log (Closed l)) now room
 
 abbrev pub ClosesOffered : Type 0
-ClosesOffered = (service : Service) (log marks : Log) (e : Entry) (t : Tabled) (roomy room : ClientNo → Bool) (l : LinkId)
-    (lent : Option Sent) → IsRouter service log t roomy → AreMarks marks
+ClosesOffered = (service : Service) (texts : Texts) (log marks : Log) (e : Entry) (t : Tabled) (roomy room : ClientNo → Bool) (l : LinkId)
+    (lent : Option Sent) → IsRouter service texts log t roomy → AreMarks marks
     → ((c : ClientNo) → room c ≡ false → roomy c ≡ false) → MayClose l room t
     → MaySayFarewell l (λ (c : ClientNo). not (is_going (t.clients c))) t → IsLentThere l lent t → IsFarewell lent l e
     → MayFollow log e → MayFollow (log ++ e ∷ [] ++ marks) (Closed l)
-    → IsRouter service (log ++ e ∷ [] ++ marks ++ Closed l ∷ []) (unlinked l (lost_in l t)) room
+    → IsRouter service texts (log ++ e ∷ [] ++ marks ++ Closed l ∷ []) (unlinked l (lost_in l t)) room
 
 abbrev pub ClosesLost : Type 0
-ClosesLost = (service : Service) (log : Log) (t x : Tabled) (roomy room : ClientNo → Bool) (l : LinkId)
-    → IsRouter service log t roomy → ((c : ClientNo) → room c ≡ false → roomy c ≡ false) → MayClose l room t
+ClosesLost = (service : Service) (texts : Texts) (log : Log) (t x : Tabled) (roomy room : ClientNo → Bool) (l : LinkId)
+    → IsRouter service texts log t roomy → ((c : ClientNo) → room c ≡ false → roomy c ≡ false) → MayClose l room t
     → IsSame x (lost_in l t) → MayFollow log (Closed l)
-    → IsRouter service (with_entry log (Closed l)) (unlinked l (lost_in l x)) room
+    → IsRouter service texts (with_entry log (Closed l)) (unlinked l (lost_in l x)) room
 
 -- What is known as a link to a server is to be closed: nothing is being closed, what goes with it, and who is called at the next wake.
 pub record IsClosing (l : LinkId) (old mid : Router) : Type 0 where
@@ -169,17 +170,18 @@ module _ (links : Links) (l : LinkId) (old mid : Router) (is : IsClosing l old m
     own : (found : Option ClientNo) → t.numbers l ≡ found → t.numbers l ≡ None
     own None at = at
     own (Some c) at = absurd (none-some is.server
-        (sym (links service log t (is_roomy old.roomy) stood.router l c at).aside ∙ is.there))
+        (sym (links service old.texts log t (is_roomy old.roomy) stood.router l c at).aside ∙ is.there))
 
     may : MayClose l room t
     may = record { server = is.server; there = is.there; own = own (t.numbers l) refl; with_it = is.with_it; unawaited = is.unawaited }
 
     -- it stands so, who is roomy and how many came being the same
     stands_so : (now : Shown) (more : Log) (x : Tabled) → accepted_links more ≡ accepted_links log → now.came ≡ old.came → now.roomy ≡ mid.roomy
-        → parted now ≡ x → IsRouter service more x room → PartsFor service more now
-    stands_so now more x alone came roomy parts router = record {
-      router = subst (λ (r : Roomy). IsRouter service more (parted now) (is_roomy r)) (sym roomy)
-          (subst (λ (y : Tabled). IsRouter service more y room) (sym parts) router);
+        → now.texts ≡ old.texts → parted now ≡ x → IsRouter service old.texts more x room → PartsFor service more now
+    stands_so now more x alone came roomy texts parts router = record {
+      router = subst (λ (r : Roomy). IsRouter service now.texts more (parted now) (is_roomy r)) (sym roomy)
+          (subst (λ (y : Tabled). IsRouter service now.texts more y room) (sym parts)
+          (subst (λ (k : Texts). IsRouter service k more x room) (sym texts) router));
       counted = came ∙ stood.counted ∙ sym (ap length alone);
     }
 
@@ -194,6 +196,9 @@ module _ (links : Links) (l : LinkId) (old mid : Router) (is : IsClosing l old m
 
   came_so : mid.came ≡ old.came
   came_so = ap (λ (r : Router). r.came) is.same
+
+  texts_so : mid.texts ≡ old.texts
+  texts_so = ap (λ (r : Router). r.texts) is.same
 
   marked_so : mid.marked ≡ old.marked
   marked_so = ap (λ (r : Router). r.marked) is.same
@@ -231,22 +236,22 @@ module _ (links : Links) (l : LinkId) (old mid : Router) (is : IsClosing l old m
     farewell_closes = record {
       opened = λ service log before. is_open_then service log before;
       plain = λ none service log follows before.
-          stands_so service log before closing (log ++ Closed l ∷ []) (unlinked l (lost_in l t)) (none_more log (Closed l ∷ []) refl) came_so refl parts
-          (plain service log t (unlinked l (lost_in l t)) (is_roomy old.roomy) room l
+          stands_so service log before closing (log ++ Closed l ∷ []) (unlinked l (lost_in l t)) (none_more log (Closed l ∷ []) refl) came_so refl texts_so parts
+          (plain service old.texts log t (unlinked l (lost_in l t)) (is_roomy old.roomy) room l
           (stood service log before).router follows rooms (record { may = may service log before; same = same_itself _ }));
       offered = λ some service log e marks says are follows next before.
           let said : IsFarewell (sends_on old.marked l) l e =
           subst (λ (m : MarkedTables). IsFarewell (sends_on m l) l e) marked_so says in
           stands_so service log before closing (log ++ e ∷ [] ++ marks ++ Closed l ∷ []) (unlinked l (lost_in l t))
-          (alone_then log e marks (farewell_alone (sends_on old.marked l) l e said) are) came_so refl parts
-          (offered service log marks e t (is_roomy old.roomy) room l (sends_on old.marked l)
+          (alone_then log e marks (farewell_alone (sends_on old.marked l) l e said) are) came_so refl texts_so parts
+          (offered service old.texts log marks e t (is_roomy old.roomy) room l (sends_on old.marked l)
           (stood service log before).router are rooms (may service log before) farewell lent_there said follows next);
     }
 
   -- One that was lost says nothing more.
 
   module _ (lost : ClosesLost) (new : Router) (loses : IsSame (tables new) (lost_in l (tables mid)))
-      (keeps : Keeps (record mid { closing = Some l }) new) where
+      (keeps : Keeps (record mid { closing = Some l }) new) (texts_lost : new.texts ≡ mid.texts) where
     parts_lost : parted (shown new) ≡ unlinked l (lost_in l (tables new))
     parts_lost = parts_so (shown new) (keeps.client ∙ leaving_so) keeps.link
 
@@ -273,8 +278,8 @@ module _ (links : Links) (l : LinkId) (old mid : Router) (is : IsClosing l old m
       opened = λ service log before. is_open_then service log before;
       plain = λ none service log follows before.
           stands_so service log before (shown new) (log ++ Closed l ∷ []) (unlinked l (lost_in l (tables new))) (none_more log (Closed l ∷ []) refl)
-          (keeps.came ∙ came_so) keeps.roomy parts_lost
-          (lost service log t (tables new) (is_roomy old.roomy) room l
+          (keeps.came ∙ came_so) keeps.roomy (texts_lost ∙ texts_so) parts_lost
+          (lost service old.texts log t (tables new) (is_roomy old.roomy) room l
           (stood service log before).router rooms (may service log before) lost_so follows);
       offered = λ some service log e marks says are follows next before. absurd (silent some);
     }

@@ -20,6 +20,7 @@ use Rattle.own_words.specs.Own.{IsFailure}
 use Rattle.router_laws.specs.reading.Givings.{IsLentBut, MayBeGivenUp, if_lent}
 use Rattle.router_laws.specs.links.Loses.{IsGivenUpWith}
 use Rattle.router_laws.specs.wakes.Calling.{IsUnsent}
+use Rattle.core_texts.specs.declared.texts.Texts.{Texts}
 use Rattle.shared_core.proofs.Tabling.{same_by, tables_are}
 use Rattle.shared_core.specs.Follows.{HasAnswered, HasCalled, HasFollowed, HasGiven, IsFor, called_by, told_client, up_client}
 use Rattle.shared_core.specs.Rows.{IsLentNoOther, WorkIsAside, WorkIsAsideWith, WorkIsBroken, WorkIsUnsent, home_at, home_in, lent_home_at}
@@ -122,10 +123,10 @@ called-so : (name : Option SessionName) (given : Option GiveUp) (told : Option G
 called-so (Some name) given told t same for = (its-so name given told t same for, refl)
 called-so None given told t same for = sym same
 
-pub nobody-called : (service : Service) (name : Option SessionName) (given : Option GiveUp) (told : Option GivenUp) (t : Tabled)
+pub nobody-called : (service : Service) (texts : Texts) (name : Option SessionName) (given : Option GiveUp) (told : Option GivenUp) (t : Tabled)
     → None ≡ called_by name (up_client given) t → told_client told ≡ up_client given → IfSome given (λ (up : GiveUp). IsFor name up.client t)
-    → HasCalled service name told t t
-nobody-called service name given told t none same for = record {
+    → HasCalled service texts name told t t
+nobody-called service texts name given told t none same for = record {
   going = None;
   called = let P : Option ClientNo → Type 0 = λ o. IsCalled name told t o in subst P (sym none) (called-so name given told t same for);
   ours = tt;
@@ -151,12 +152,12 @@ called-goes None (Some up) t client is for =
     let P : ClientNo → Type 0 = λ c. is_going (t.clients c) ≡ true in
     subst P (sym same) for
 
-pub one-called : (service : Service) (name : Option SessionName) (given : Option GiveUp) (told : Option GivenUp) (old new : Tabled) (client : ClientNo)
+pub one-called : (service : Service) (texts : Texts) (name : Option SessionName) (given : Option GiveUp) (told : Option GivenUp) (old new : Tabled) (client : ClientNo)
     (ends : Bool) → Some client ≡ called_by name (up_client given) old
-    → (is_going (old.clients client) ≡ true → HasFollowed service client ends old new) → told_client told ≡ up_client given
-    → IfSome given (λ (up : GiveUp). IsFor name up.client old) → HasCalled service name told old new
-one-called service name given told old new client ends is follows same for =
-    let followed : HasFollowed service client ends old new = follows (called-goes name given old client is for) in
+    → (is_going (old.clients client) ≡ true → HasFollowed service texts client ends old new) → told_client told ≡ up_client given
+    → IfSome given (λ (up : GiveUp). IsFor name up.client old) → HasCalled service texts name told old new
+one-called service texts name given told old new client ends is follows same for =
+    let followed : HasFollowed service texts client ends old new = follows (called-goes name given old client is for) in
     record {
       going = Some (record {
         client = client;

@@ -12,8 +12,10 @@ use Rattle.client_seat.specs.Seats.{ended, is_ended}
 use Rattle.core_service.specs.declared.service.Service.{Service}
 use Rattle.query_rules.specs.Passing.{rules_of}
 use Rattle.query_rules.specs.declared.rule.Rule.{Rule}
-use Rattle.core_promises.specs.Judges.{Rulebook}
-use Rattle.core_promises.specs.Ruled.{AreRuled, book_of}
+use Rattle.core_promises.proofs.Ruling.{are_ruled_more}
+use Rattle.core_promises.specs.Ruled.{AreRuled, Ruling, book_of, ruling_of}
+use Rattle.core_texts.specs.Texts.{AreMore, key_at}
+use Rattle.core_texts.specs.declared.texts.Texts.{Texts}
 use Rattle.router_laws.specs.decisions.Rulings.{AreRuledAll}
 use Rattle.router_laws.specs.decisions.Speaks.{IsOurs}
 use Rattle.core_tables.specs.Parting.{left_in}
@@ -88,12 +90,25 @@ parts-so c ends halt a b d e before parts behind rested =
     let Q : Tabled → Type 0 = λ t. HasParted c ends halt (tables a) t in
     subst Q (sym (tables_chosen d e behind)) (subst P (tables_chosen a b before) parts rested)
 
+-- What is ours by some texts is so by more.
+
+choice_more : (rules : List Rule) (old new : Texts) → AreMore old new → (c : ClientNo) (choice : Choice) → IsOurs rules old c choice
+    → IsOurs rules new c choice
+choice_more rules old new more c (Goes route keyed) is =
+    (is.0, λ k d within. (let one = get_or keyed k d in more.kept one.number one.key (is.1 k d within)))
+choice_more rules old new more c (Answers payloads) is = is
+
+pub ours_more : (rules : List Rule) (old new : Texts) → AreMore old new → (c : ClientNo) (choices : List Choice) → All (IsOurs rules old c) choices
+    → All (IsOurs rules new c) choices
+ours_more rules old new more c choices all = λ k d within. choice_more rules old new more c (get_or choices k d) (all k d within)
+
 -- Its turns, and how it is ended behind them.
 
-said-ours : (rules : List Rule) (c : ClientNo) (choices : List Choice) → All (IsSaid rules c) choices → All (IsOurs rules c) choices
-said-ours rules c choices all = λ k d within. one (get_or choices k d) (all k d within) where
-  one : (choice : Choice) → IsSaid rules c choice → IsOurs rules c choice
-  one (Goes route) is = is
+said-ours : (service : Service) (texts : Texts) (c : ClientNo) (choices : List Choice) → All (IsSaid (ruling_of service (key_at texts)) c) choices
+    → All (IsOurs (rules_of service.rules) texts c) choices
+said-ours service texts c choices all = λ k d within. one (get_or choices k d) (all k d within) where
+  one : (choice : Choice) → IsSaid (ruling_of service (key_at texts)) c choice → IsOurs (rules_of service.rules) texts c choice
+  one (Goes route keyed) is = is
   one (Answers payloads) is = is
 
 rests-behind : (setup : Setup) (default : List ℕ) (c : ClientNo) (choices : List Choice) (halt : Halt) (old mid : Tabled)
@@ -104,22 +119,24 @@ rests-behind setup default c choices Rests old mid turns = λ row at serves answ
 rests-behind setup default c choices Quits old mid turns = tt
 rests-behind setup default c choices Ends old mid turns = tt
 
-pub gone-so : (service : Service) (c : ClientNo) (ends : Bool) (took : Option Went) (went : Went) (old mid new : Tabled) → took ≡ Some went
-    → HasGoneOn RuledTurns took (book_of service) service.setup service.default_schema c old mid
-    → (RestsBehind (halt_of went.stop) c mid → HasParted c ends (halt_of went.stop) mid new) → HasGone service c ends old new
-gone-so service c ends took went old mid new is gone parts =
-    let P : Option Went → Type 0 = λ o. HasGoneOn RuledTurns o (book_of service) service.setup service.default_schema c old mid in
-    let on : turned.HasGone RuledTurns went.stop (book_of service) service.setup service.default_schema c old mid = subst P is gone in
+pub gone-so : (service : Service) (took_texts texts : Texts) → AreMore took_texts texts → (c : ClientNo) (ends : Bool) (took : Option Went) (went : Went)
+    (old mid new : Tabled) → took ≡ Some went
+    → HasGoneOn RuledTurns took (ruling_of service (key_at took_texts)) service.setup service.default_schema c old mid
+    → (RestsBehind (halt_of went.stop) c mid → HasParted c ends (halt_of went.stop) mid new) → HasGone service texts c ends old new
+gone-so service took_texts texts more c ends took went old mid new is gone parts =
+    let P : Option Went → Type 0 = λ o. HasGoneOn RuledTurns o (ruling_of service (key_at took_texts)) service.setup service.default_schema c old mid in
+    let on : turned.HasGone RuledTurns went.stop (ruling_of service (key_at took_texts)) service.setup service.default_schema c old mid = subst P is gone in
     let parted : HasParted c ends (halt_of went.stop) mid new =
     parts (rests-behind service.setup service.default_schema c on.choices (halt_of went.stop) old mid on.turned.0) in
     record {
       choices = on.choices;
       halt = halt_of went.stop;
       parting = parted.parting;
-      ours = said-ours (rules_of service.rules) c on.choices on.said;
+      ours = ours_more (rules_of service.rules) took_texts texts more c on.choices (said-ours service took_texts c on.choices on.said);
       word = parted.word;
       goes = record { turned = mid; turns = on.turned.0; once = parted.once; parts = parted.parts };
-      ruled = on.turned.1;
+      ruled = are_ruled_more (key_at took_texts) (key_at texts) more.kept (book_of service) service.setup service.default_schema c on.choices
+          (halt_of went.stop) old mid on.turned.0 on.turned.1;
       ended = parted.ended;
     }
 
@@ -130,20 +147,21 @@ away-going (Some row) away going = by (is_ended row.desk.seat.phase) away going 
   by true is off = let e = off in cc
   by false is off = let e = is in cc
 
-pub absent-so : (service : Service) (c : ClientNo) (ends : Bool) (took : Option Went) (old mid new : Tabled) → took ≡ None
-    → HasGoneOn RuledTurns took (book_of service) service.setup service.default_schema c old mid → is_going (old.clients c) ≡ true → HasGone service c ends old new
-absent-so service c ends took old mid new is gone going =
-    let P : Option Went → Type 0 = λ o. HasGoneOn RuledTurns o (book_of service) service.setup service.default_schema c old mid in
+pub absent-so : (service : Service) (texts : Texts) (c : ClientNo) (ends : Bool) (took : Option Went) (old mid new : Tabled) → took ≡ None
+    → HasGoneOn RuledTurns took (ruling_of service (key_at texts)) service.setup service.default_schema c old mid → is_going (old.clients c) ≡ true
+    → HasGone service texts c ends old new
+absent-so service texts c ends took old mid new is gone going =
+    let P : Option Went → Type 0 = λ o. HasGoneOn RuledTurns o (ruling_of service (key_at texts)) service.setup service.default_schema c old mid in
     let absent : turned.IsAbsent c old mid = subst P is gone in
     absurd (away-going (old.clients c) absent.away going)
 
 -- And links are given back that carried its sessions.
 
-pub followed-so : (service : Service) (c : ClientNo) (ends : Bool) (homes : List LinkId) (old mid new : Tabled)
-    → AreHomesOf (is_of (c ∷ [])) homes old → HasGone service c ends old mid → IsSame new (all_freed homes mid) → is_going (old.clients c) ≡ true
-    → HasFollowed service c ends old new
-followed-so service c ends homes old mid new are gone freed going = by (old.clients c) refl going where
-  by : (found : Option Client) → old.clients c ≡ found → is_going found ≡ true → HasFollowed service c ends old new
+pub followed-so : (service : Service) (texts : Texts) (c : ClientNo) (ends : Bool) (homes : List LinkId) (old mid new : Tabled)
+    → AreHomesOf (is_of (c ∷ [])) homes old → HasGone service texts c ends old mid → IsSame new (all_freed homes mid) → is_going (old.clients c) ≡ true
+    → HasFollowed service texts c ends old new
+followed-so service texts c ends homes old mid new are gone freed going = by (old.clients c) refl going where
+  by : (found : Option Client) → old.clients c ≡ found → is_going found ≡ true → HasFollowed service texts c ends old new
   by None at is = absurd (let e = is in cc)
   by (Some row) at is = record {
     choices = gone.choices;
@@ -173,25 +191,65 @@ followed-so service c ends homes old mid new are gone freed going = by (old.clie
 
 -- Several do.
 
+callers_more : (rules : List Rule) (old new : Texts) → AreMore old new → (callers : List Caller) → All (IsCallerOurs rules old) callers
+    → All (IsCallerOurs rules new) callers
+callers_more rules old new more callers all = λ k d within.
+    (let one : IsCallerOurs rules old (get_or callers k d) = all k d within in
+    record { choices = ours_more rules old new more (get_or callers k d).client (get_or callers k d).choices one.choices; parting = one.parting })
+
+all_ruled_more : (service : Service) (old new : Texts) → AreMore old new → (callers : List Caller) (setup : Setup) (default : List ℕ) (a b : Tabled)
+    (going : AllGoOn callers setup default a b) → AreRuledAll (ruling_of service (key_at old)) callers setup default a b going
+    → AreRuledAll (ruling_of service (key_at new)) callers setup default a b going
+all_ruled_more service old new more [] setup default a b going ruled = tt
+all_ruled_more service old new more (k ∷ ks) setup default a b going ruled = (
+  are_ruled_more (key_at old) (key_at new) more.kept (book_of service) setup default k.client k.choices k.halt a going.1.turned going.1.turns ruled.0,
+  all_ruled_more service old new more ks setup default going.0 b going.2 ruled.1,
+)
+
+pub gone-more : (service : Service) (before texts : Texts) → AreMore before texts → (clients : List ClientNo) (old new : Tabled)
+    → HaveGone service before clients old new → HaveGone service texts clients old new
+gone-more service before texts more clients old new gone = record {
+  callers = gone.callers;
+  named = gone.named;
+  ours = callers_more (rules_of service.rules) before texts more gone.callers gone.ours;
+  going = gone.going;
+  ruled = all_ruled_more service before texts more gone.callers service.setup service.default_schema old new gone.going gone.ruled;
+}
+
+pub followed-more : (service : Service) (before texts : Texts) → AreMore before texts → (c : ClientNo) (ends : Bool) (old new : Tabled)
+    → HasFollowed service before c ends old new → HasFollowed service texts c ends old new
+followed-more service before texts more c ends old new followed = record {
+  choices = followed.choices;
+  halt = followed.halt;
+  parting = followed.parting;
+  links = followed.links;
+  ours = ours_more (rules_of service.rules) before texts more c followed.choices followed.ours;
+  word = followed.word;
+  follows = followed.follows;
+  ruled = are_ruled_more (key_at before) (key_at texts) more.kept (book_of service) service.setup service.default_schema c followed.choices followed.halt
+      old followed.follows.turned followed.follows.turns followed.ruled;
+  ended = followed.ended;
+}
+
 -- who goes on last, behind others, by rules
-abbrev pub GoesRuled : Rulebook → Caller → Setup → (default : List ℕ) → (old new : Tabled) → Type 0
-GoesRuled book k setup default old new =
-    (goes : CallerGoesOn setup default k old new) × AreRuled book k.choices k.halt setup default k.client old goes.turned goes.turns
+abbrev pub GoesRuled : Ruling → Caller → Setup → (default : List ℕ) → (old new : Tabled) → Type 0
+GoesRuled ruling k setup default old new =
+    (goes : CallerGoesOn setup default k old new) × AreRuled ruling k.choices k.halt setup default k.client old goes.turned goes.turns
 
-abbrev pub AllGoRuled : Rulebook → List Caller → Setup → (default : List ℕ) → (old new : Tabled) → Type 0
-AllGoRuled book callers setup default old new =
-    (going : AllGoOn callers setup default old new) × AreRuledAll book callers setup default old new going
+abbrev pub AllGoRuled : Ruling → List Caller → Setup → (default : List ℕ) → (old new : Tabled) → Type 0
+AllGoRuled ruling callers setup default old new =
+    (going : AllGoOn callers setup default old new) × AreRuledAll ruling callers setup default old new going
 
-gone-along : (book : Rulebook) (callers : List Caller) (last : Caller) (setup : Setup) (default : List ℕ) (old mid new : Tabled)
-    → AllGoRuled book callers setup default old mid → GoesRuled book last setup default mid new
-    → AllGoRuled book (callers ++ last ∷ []) setup default old new
-gone-along book [] last setup default old mid new all goes =
-    let P : Tabled → Type 0 = λ t. GoesRuled book last setup default t new in
-    let first : GoesRuled book last setup default old new = subst P (tables_are mid old all.0) goes in
+gone-along : (ruling : Ruling) (callers : List Caller) (last : Caller) (setup : Setup) (default : List ℕ) (old mid new : Tabled)
+    → AllGoRuled ruling callers setup default old mid → GoesRuled ruling last setup default mid new
+    → AllGoRuled ruling (callers ++ last ∷ []) setup default old new
+gone-along ruling [] last setup default old mid new all goes =
+    let P : Tabled → Type 0 = λ t. GoesRuled ruling last setup default t new in
+    let first : GoesRuled ruling last setup default old new = subst P (tables_are mid old all.0) goes in
     ((new, first.0, same-itself new), (first.1, tt))
-gone-along book (k ∷ ks) last setup default old mid new all goes =
-    let rest : AllGoRuled book (ks ++ last ∷ []) setup default all.0.0 new =
-    gone-along book ks last setup default all.0.0 mid new (all.0.2, all.1.1) goes in
+gone-along ruling (k ∷ ks) last setup default old mid new all goes =
+    let rest : AllGoRuled ruling (ks ++ last ∷ []) setup default all.0.0 new =
+    gone-along ruling ks last setup default all.0.0 mid new (all.0.2, all.1.1) goes in
     ((all.0.0, all.0.1, rest.0), (all.1.0, rest.1))
 
 named-along : (callers : List Caller) (last : Caller)
@@ -199,20 +257,20 @@ named-along : (callers : List Caller) (last : Caller)
 named-along [] last = refl
 named-along (k ∷ ks) last = ap (λ (cs : List ClientNo). k.client ∷ cs) (named-along ks last)
 
-none-gone : (service : Service) (t : Tabled) → HaveGone service [] t t
-none-gone service t = record { callers = []; named = refl; ours = All-nil _; going = same-itself t; ruled = tt }
+none-gone : (service : Service) (texts : Texts) (t : Tabled) → HaveGone service texts [] t t
+none-gone service texts t = record { callers = []; named = refl; ours = All-nil _; going = same-itself t; ruled = tt }
 
-one-more : (service : Service) (clients : List ClientNo) (c : ClientNo) (ends : Bool) (old mid new : Tabled) → HaveGone service clients old mid
-    → HasGone service c ends mid new → HaveGone service (clients ++ c ∷ []) old new
-one-more service clients c ends old mid new before gone =
+one-more : (service : Service) (texts : Texts) (clients : List ClientNo) (c : ClientNo) (ends : Bool) (old mid new : Tabled) → HaveGone service texts clients old mid
+    → HasGone service texts c ends mid new → HaveGone service texts (clients ++ c ∷ []) old new
+one-more service texts clients c ends old mid new before gone =
     let last : Caller = record { client = c; choices = gone.choices; halt = gone.halt; parting = gone.parting } in
-    let along : AllGoRuled (book_of service) (before.callers ++ last ∷ []) service.setup service.default_schema old new =
-    gone-along (book_of service) before.callers last service.setup service.default_schema old mid new (before.going, before.ruled)
+    let along : AllGoRuled (ruling_of service (key_at texts)) (before.callers ++ last ∷ []) service.setup service.default_schema old new =
+    gone-along (ruling_of service (key_at texts)) before.callers last service.setup service.default_schema old mid new (before.going, before.ruled)
     (gone.goes, gone.ruled) in
     record {
       callers = before.callers ++ last ∷ [];
       named = named-along before.callers last ∙ ap (λ (cs : List ClientNo). cs ++ c ∷ []) before.named;
-      ours = let P : Caller → Type 0 = IsCallerOurs (rules_of service.rules) in
+      ours = let P : Caller → Type 0 = IsCallerOurs (rules_of service.rules) texts in
           All-append P before.callers (last ∷ []) before.ours
           (All-cons P last [] (record { choices = gone.ours; parting = gone.word }) (All-nil P));
       going = along.0;
@@ -220,45 +278,45 @@ one-more service clients c ends old mid new before gone =
     }
 
 -- those behind are there as before, each behind who went on
-pub record HaveGoneSoFar (service : Service) (done left : List ClientNo) (old now : Tabled) : Type 0 where
-  pub gone : HaveGone service done old now
+pub record HaveGoneSoFar (service : Service) (texts : Texts) (done left : List ClientNo) (old now : Tabled) : Type 0 where
+  pub gone : HaveGone service texts done old now
   pub rising : AreRising left
   pub there : All (λ (c : ClientNo). IsThere now c) left
 
 goes-there : (t : Tabled) (c : ClientNo) → IsThere t c → is_going (t.clients c) ≡ true
 goes-there t c is = ap is_going is.there ∙ ap not is.going
 
-further : (service : Service) (done others : List ClientNo) (c : ClientNo) (ends : Bool) (old mid new : Tabled) → HaveGoneSoFar service done (c ∷ others) old mid
-    → (is_going (mid.clients c) ≡ true → HasGone service c ends mid new) → HaveGoneSoFar service (done ++ c ∷ []) others old new
-further service done others c ends old mid new before goes =
+further : (service : Service) (before_texts texts : Texts) → AreMore before_texts texts → (done others : List ClientNo) (c : ClientNo) (ends : Bool) (old mid new : Tabled) → HaveGoneSoFar service before_texts done (c ∷ others) old mid
+    → (is_going (mid.clients c) ≡ true → HasGone service texts c ends mid new) → HaveGoneSoFar service texts (done ++ c ∷ []) others old new
+further service before_texts texts more done others c ends old mid new before goes =
     let P : ClientNo → Type 0 = λ o. IsThere mid o in
-    let gone : HasGone service c ends mid new = goes (goes-there mid c (All-head P c others before.there)) in
+    let gone : HasGone service texts c ends mid new = goes (goes-there mid c (All-head P c others before.there)) in
     record {
-      gone = one-more service done c ends old mid new before.gone gone;
+      gone = one-more service texts done c ends old mid new (gone-more service before_texts texts more done old mid before.gone) gone;
       rising = before.rising.1;
       there = still_there service.setup service.default_schema
           (record { client = c; choices = gone.choices; halt = gone.halt; parting = gone.parting }) mid new gone.goes others before.rising.0
           (All-tail P c others before.there);
     }
 
-pub gone-first : (service : Service) (clients : List ClientNo) (t : Tabled) → AreRising clients → All (λ (c : ClientNo). IsThere t c) clients
-    → HaveGoneSoFar service [] clients t t
-gone-first service clients t rising there = record { gone = none-gone service t; rising = rising; there = there }
+pub gone-first : (service : Service) (texts : Texts) (clients : List ClientNo) (t : Tabled) → AreRising clients → All (λ (c : ClientNo). IsThere t c) clients
+    → HaveGoneSoFar service texts [] clients t t
+gone-first service texts clients t rising there = record { gone = none-gone service texts t; rising = rising; there = there }
 
-pub gone-next : (d : ClientNo) (service : Service) (clients : List ClientNo) (i : ℕ) (ends : Bool) (old mid new : Tabled) → i < length clients
-    → HaveGoneSoFar service (take i clients) (drop i clients) old mid
-    → (is_going (mid.clients (get_or clients i d)) ≡ true → HasGone service (get_or clients i d) ends mid new)
-    → HaveGoneSoFar service (take (i + 1) clients) (drop (i + 1) clients) old new
-gone-next d service clients i ends old mid new within before goes =
-    let P : List ClientNo → Type 0 = λ cs. HaveGoneSoFar service cs (drop (i + 1) clients) old new in
-    let Q : List ClientNo → Type 0 = λ cs. HaveGoneSoFar service (take i clients) cs old mid in
+pub gone-next : (d : ClientNo) (service : Service) (before_texts texts : Texts) → AreMore before_texts texts → (clients : List ClientNo) (i : ℕ) (ends : Bool) (old mid new : Tabled) → i < length clients
+    → HaveGoneSoFar service before_texts (take i clients) (drop i clients) old mid
+    → (is_going (mid.clients (get_or clients i d)) ≡ true → HasGone service texts (get_or clients i d) ends mid new)
+    → HaveGoneSoFar service texts (take (i + 1) clients) (drop (i + 1) clients) old new
+gone-next d service before_texts texts more clients i ends old mid new within before goes =
+    let P : List ClientNo → Type 0 = λ cs. HaveGoneSoFar service texts cs (drop (i + 1) clients) old new in
+    let Q : List ClientNo → Type 0 = λ cs. HaveGoneSoFar service before_texts (take i clients) cs old mid in
     subst P (sym (take_more clients i d within))
-    (further service (take i clients) (drop (i + 1) clients) (get_or clients i d) ends old mid new (subst Q (drop_more clients i d within) before) goes)
+    (further service before_texts texts more (take i clients) (drop (i + 1) clients) (get_or clients i d) ends old mid new (subst Q (drop_more clients i d within) before) goes)
 
-pub gone-all : (service : Service) (clients : List ClientNo) (i : ℕ) (old new : Tabled) → length clients ≤ i
-    → HaveGoneSoFar service (take i clients) (drop i clients) old new → HaveGone service clients old new
-gone-all service clients i old new end is =
-    let P : List ClientNo → Type 0 = λ cs. HaveGone service cs old new in
+pub gone-all : (service : Service) (texts : Texts) (clients : List ClientNo) (i : ℕ) (old new : Tabled) → length clients ≤ i
+    → HaveGoneSoFar service texts (take i clients) (drop i clients) old new → HaveGone service texts clients old new
+gone-all service texts clients i old new end is =
+    let P : List ClientNo → Type 0 = λ cs. HaveGone service texts cs old new in
     subst P (take_all i clients end) is.gone
 
 in-order : (callers : List Caller) → AreRising (map (λ (k : Caller). k.client) callers) → AreInOrder callers
@@ -282,10 +340,10 @@ pub called-so : (callers : List Caller) (c : ClientNo) → is_called callers c �
 called-so [] c = refl
 called-so (k ∷ ks) c = ap (λ (b : Bool). is_client c k.client || b) (called-so ks c)
 
-pub have-followed : (service : Service) (clients : List ClientNo) (homes : List LinkId) (old mid new : Tabled)
-    → AreHomesOf (is_of clients) homes old → HaveGone service clients old mid → IsSame new (all_freed homes mid) → AreRising clients
-    → All (λ (c : ClientNo). IsThere old c) clients → HaveFollowed service clients old new
-have-followed service clients homes old mid new are gone freed rising there = record {
+pub have-followed : (service : Service) (texts : Texts) (clients : List ClientNo) (homes : List LinkId) (old mid new : Tabled)
+    → AreHomesOf (is_of clients) homes old → HaveGone service texts clients old mid → IsSame new (all_freed homes mid) → AreRising clients
+    → All (λ (c : ClientNo). IsThere old c) clients → HaveFollowed service texts clients old new
+have-followed service texts clients homes old mid new are gone freed rising there = record {
   callers = gone.callers;
   links = homes;
   named = gone.named;

@@ -17,6 +17,7 @@ use Rattle.core_says.specs.Says.{is_free, is_sound, reads_by}
 use Rattle.core_service.specs.declared.service.Service.{Service}
 use Rattle.core_tables.specs.Hearing.{IsHeard}
 use Rattle.core_tables.specs.Parting.{freed_in, given_up_in, name_in}
+use Rattle.core_tables.specs.Preparing.{IsKeptFor}
 use Rattle.core_tables.specs.Tables.{IsSame, Tabled}
 use Rattle.core_tables.specs.declared.said.Said.{Said}
 use Rattle.core_tables.specs.declared.server.Server.{Server}
@@ -29,11 +30,12 @@ use Rattle.core_laws.specs.entry.Cores.{with_entry}
 use Rattle.router_laws.specs.reading.Givings.{MayGiveUp}
 use Rattle.router_laws.specs.reading.Givings.{MayBeGivenUp}
 use Rattle.query_rules.specs.Passing.{rules_of}
-use Rattle.core_promises.specs.Ruled.{book_of}
-use Rattle.core_promises.specs.Judges.{Rulebook}
+use Rattle.core_promises.specs.Ruled.{Ruling, ruling_of}
 use Rattle.router_laws.specs.decisions.Rulings.{IsRuledOn}
 use Rattle.router_laws.specs.decisions.Speaks.{AreGivenOurs, AreGoingOurs}
 use Rattle.router_laws.specs.reading.Hears.{HearsRuled, HearsSo}
+use Rattle.core_texts.specs.declared.texts.Texts.{Texts}
+use Rattle.core_texts.specs.Texts.{key_at}
 use Rattle.shared_core.proofs.Carrying.{carries_by}
 use Rattle.shared_core.specs.Follows.{HasCalled, HasGiven, IsFor, Keeps, MayBeGiven, told_client, up_client}
 use Rattle.shared_core.specs.Hears.{HasHeard}
@@ -44,13 +46,14 @@ use Rattle.shared_core.specs.declared.router.Router.{Router}
 
 abbrev pub Hears : Type 0
 Hears =
-    (book : Rulebook) (service : Setup) (default : List ℕ) (l : LinkId) (bytes : List ℕ) (clock : ℕ) (given : Option GivenUp) (going : Option Going)
-    (server : Server) (said : Said) (old heard mid freed now : Tabled) → old.links l ≡ Some server → server.row.lost ≡ false
-    → server.row.link.spoilt ≡ false → IsHeard l bytes clock said heard old → MayGiveUp l given heard
+    (ruling : Ruling) (service : Setup) (default : List ℕ) (l : LinkId) (bytes : List ℕ) (clock : ℕ) (given : Option GivenUp) (going : Option Going)
+    (server : Server) (said : Said) (old read heard mid freed now : Tabled) → old.links l ≡ Some server → server.row.lost ≡ false
+    → server.row.link.spoilt ≡ false → IsHeard l bytes clock said read old → IsKeptFor said l read heard
+    → MayGiveUp l given heard
     → IsSame mid (given_up_in (told_to given) heard) → IsSame freed (freed_in l mid)
     → IsCalled (name_in server.row.link.state.carries) given freed (option_map (λ (g : Going). g.client) going)
-    → (goes : GoesSo going service default freed now) → IsRuledOn book going service default freed now goes
-    → HearsRuled book service default l bytes clock given going old now
+    → (goes : GoesSo going service default freed now) → IsRuledOn ruling going service default freed now goes
+    → HearsRuled ruling service default l bytes clock given going old now
 
 abbrev pub StillGoes : Type 0
 StillGoes =
@@ -59,11 +62,11 @@ StillGoes =
 
 abbrev pub Routes : Type 0
 Routes =
-    (service : Service) (log : Log) (t now : Tabled) (roomy : ClientNo → Bool) (l : LinkId) (bytes : List ℕ) (clock : ℕ)
-    (given : Option GivenUp) (going : Option Going) → IsRouter service log t roomy → MayFollow log (entry.Got l bytes)
+    (service : Service) (texts : Texts) (log : Log) (t now : Tabled) (roomy : ClientNo → Bool) (l : LinkId) (bytes : List ℕ) (clock : ℕ)
+    (given : Option GivenUp) (going : Option Going) → IsRouter service texts log t roomy → MayFollow log (entry.Got l bytes)
     → AreBytes bytes → (so : HearsSo service.setup service.default_schema l bytes clock given going t now) → AreGivenOurs given
-    → AreGoingOurs (rules_of service.rules) going
-    → IsRuledOn (book_of service) going service.setup service.default_schema so.freed now so.goes → IsRouter service (with_entry log (entry.Got l bytes)) now roomy
+    → AreGoingOurs (rules_of service.rules) texts going
+    → IsRuledOn (ruling_of service (key_at texts)) going service.setup service.default_schema so.freed now so.goes → IsRouter service texts (with_entry log (entry.Got l bytes)) now roomy
 
 -- What is given up may be, and who is called for that goes on still.
 
@@ -101,25 +104,25 @@ server_of (Some server) some = (server, refl)
 
 -- All of it.
 pub heard_so : Hears → StillGoes → (service : Service) (link : LinkId) (bytes : List ℕ) (old new : Router) (name : Option SessionName) (said : Said)
-    (given : Option GiveUp) (heard mid freed : Tabled) → name ≡ carried_at ((tables old).links link)
-    → IsHeard link bytes old.clock said heard (tables old) → IfSome given (λ up. MayBeGiven link name up.client heard) → HasGiven given heard mid
+    (given : Option GiveUp) (read heard mid freed : Tabled) → name ≡ carried_at ((tables old).links link)
+    → IsHeard link bytes old.clock said read (tables old) → IsKeptFor said link read heard → IfSome given (λ up. MayBeGiven link name up.client heard) → HasGiven given heard mid
     → IsSame freed (freed_in link mid)
     → ((told : Option GivenUp) → told_client told ≡ up_client given → IfSome given (λ up. IsFor name up.client freed)
-    → HasCalled service name told freed (tables new)) → IsSome ((tables old).links link) → reads_on old.marked link ≡ true
+    → HasCalled service new.texts name told freed (tables new)) → IsSome ((tables old).links link) → reads_on old.marked link ≡ true
     → HasHeard service link bytes old new
-heard_so hears still service link bytes old new name said given heard mid freed carried is may gives frees calls there reads =
+heard_so hears still service link bytes old new name said given read_table heard mid freed carried is kept may gives frees calls there reads =
     let at : (server : Server) × ((tables old).links link ≡ Some server) = server_of ((tables old).links link) there in
     let read : reads_by (Some at.0) (tables old) link ≡ true =
     ap (λ (found : Option Server). reads_by found (tables old) link) (sym at.1) ∙ (both (is_known old.marked.changed link) _ reads).1 in
     let sound : is_sound at.0.row ≡ true = (both (is_sound at.0.row) (is_free (tables old) link (name_in at.0.row.link.state.carries)) read).0 in
     let two : (not at.0.row.lost ≡ true) × (not at.0.row.link.spoilt ≡ true) = both (not at.0.row.lost) (not at.0.row.link.spoilt) sound in
-    let goes_on : HasCalled service name gives.told freed (tables new) =
+    let goes_on : HasCalled service new.texts name gives.told freed (tables new) =
     calls gives.told gives.its (for_then link name heard freed given (λ c. still link gives.told heard mid freed c gives.same frees) may) in
     let named : name ≡ name_in at.0.row.link.state.carries = carried ∙ ap carried_at at.1 in
-    let all : HearsRuled (book_of service) service.setup service.default_schema link bytes old.clock gives.told goes_on.going (tables old)
+    let all : HearsRuled (ruling_of service (key_at new.texts)) service.setup service.default_schema link bytes old.clock gives.told goes_on.going (tables old)
     (tables new) =
-    hears (book_of service) service.setup service.default_schema link bytes old.clock gives.told goes_on.going at.0 said (tables old) heard mid
-    freed (tables new) at.1 (unlike at.0.row.lost two.0) (unlike at.0.row.link.spoilt two.1) is (may_of link name heard gives.told given gives.its may)
+    hears (ruling_of service (key_at new.texts)) service.setup service.default_schema link bytes old.clock gives.told goes_on.going at.0 said (tables old) read_table heard mid
+    freed (tables new) at.1 (unlike at.0.row.lost two.0) (unlike at.0.row.link.spoilt two.1) is kept (may_of link name heard gives.told given gives.its may)
     gives.same frees
     (subst (λ (n : Option SessionName). IsCalled n gives.told freed (option_map (λ (g : Going). g.client) goes_on.going)) named goes_on.called)
     goes_on.goes goes_on.ruled in
@@ -136,7 +139,7 @@ heard_so hears still service link bytes old new name said given heard mid freed 
 pub read_carries : Routes → (service : Service) (link : LinkId) (bytes : List ℕ) (old new : Router) → Keeps old new → AreBytes bytes
     → HasHeard service link bytes old new → Carries service (entry.Got link bytes) old new
 read_carries routes service link bytes old new keeps are heard =
-    carries_by service old new keeps.roomy keeps.came (entry.Got link bytes) refl
+    carries_by service old new keeps.roomy keeps.came keeps.texts (entry.Got link bytes) refl
     (λ log may router.
-    routes service log (tables old) (tables new) (is_roomy old.roomy) link bytes old.clock heard.given heard.going router may
+    routes service new.texts log (tables old) (tables new) (is_roomy old.roomy) link bytes old.clock heard.given heard.going router may
     are heard.so heard.given_ours heard.ours heard.ruled)

@@ -5,12 +5,14 @@ use Rattle.core_tables.specs.Tables.{IsSame, Tabled}
 use Rattle.marked_tables.specs.Goes.{GoesOn}
 use Rattle.marked_tables.specs.declared.marked.MarkedTables.{MarkedTables}
 use Rattle.marked_tables.proofs.Going.{goes_along, still_goes}
+use Rattle.core_texts.proofs.Keeping.{itself_more, more_on}
 use Rattle.shared_core.specs.Follows.{Keeps}
 use Rattle.shared_core.specs.Stands.{Chooses, Moves, Shown, shown, tables, tables_in}
 use Rattle.shared_core.specs.declared.router.Router.{Router}
+use Rattle.shared_core.proofs.Carrying.{texts_more}
 
 pub keeps_still : (r : Router) → Keeps r r
-keeps_still r = record { goes = still_goes r.marked; roomy = refl; came = refl; asked = refl; client = refl; link = refl }
+keeps_still r = record { goes = still_goes r.marked; roomy = refl; came = refl; asked = refl; client = refl; link = refl; texts = itself_more r.texts }
 
 pub keeps_along : (a b c : Router) → Keeps b c → Keeps a b → Keeps a c
 keeps_along a b c next first = record {
@@ -20,6 +22,7 @@ keeps_along a b c next first = record {
   asked = next.asked ∙ first.asked;
   client = next.client ∙ first.client;
   link = next.link ∙ first.link;
+  texts = more_on a.texts b.texts c.texts first.texts next.texts;
 }
 
 pub chosen_keeps : (a b : Router) → Chooses a b → Keeps a b
@@ -31,6 +34,7 @@ chosen_keeps a b chosen = record {
   asked = chosen.asked;
   client = ap (λ (s : Shown). s.leaving) chosen.same;
   link = ap (λ (s : Shown). s.closing) chosen.same;
+  texts = texts_more a.texts b.texts (ap (λ (s : Shown). s.texts) chosen.same);
 }
 
 pub keeps_then : (a b c : Router) → Chooses b c → Keeps a b → Keeps a c

@@ -11,7 +11,6 @@ mod Others
 pub mod Goings
 mod Givings
 mod Last
-pub mod Readied
 pub mod LinkWrites
 pub mod LinkOpens
 pub mod Carrying
@@ -25,3 +24,4 @@ pub mod Numbers
 pub mod Acting
 pub mod Standing
 pub mod ClientCloses
+pub mod Needs

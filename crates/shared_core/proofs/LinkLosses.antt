@@ -28,12 +28,14 @@ use Rattle.core_laws.specs.clients.Going.{GivenUp, Going, IsCalled, is_going, to
 use Rattle.core_laws.specs.entry.Cores.{with_entry}
 use Rattle.core_laws.specs.entry.Freeing.{all_freed}
 use Rattle.query_rules.specs.Passing.{rules_of}
-use Rattle.core_promises.specs.Ruled.{book_of}
+use Rattle.core_promises.specs.Ruled.{ruling_of}
 use Rattle.router_laws.specs.decisions.Rulings.{IsRuledOn}
 use Rattle.router_laws.specs.decisions.Speaks.{AreGivenOurs, AreGoingOurs}
 use Rattle.router_laws.specs.decisions.Routers.{IsRouter}
 use Rattle.router_laws.specs.links.Loses.{Break, GoesWithIt, IsGivenUpWith, LosesEnded, LosesSo, MayGiveUpWith, ReadEnds, ReadFails, WriteFails, entry_by, gives}
 use Rattle.router_laws.specs.wakes.Calling.{AreHomesOf}
+use Rattle.core_texts.specs.declared.texts.Texts.{Texts}
+use Rattle.core_texts.specs.Texts.{key_at}
 use Rattle.shared_core.proofs.Carrying.{carries_by}
 use Rattle.shared_core.proofs.Hears.{its_then}
 use Rattle.shared_core.proofs.Tabling.{tables_are}
@@ -47,17 +49,17 @@ use Rattle.shared_core.specs.declared.router.Router.{Router}
 
 abbrev pub Routes : Type 0
 Routes =
-    (service : Service) (log : Log) (t now : Tabled) (roomy : ClientNo → Bool) (l : LinkId) (how : Break)
-    (given : Option GivenUp) (going : Option Going) → IsRouter service log t roomy → MayFollow log (entry_by how l)
-    → AreGivenOurs given → AreGoingOurs (rules_of service.rules) going → (so : LosesSo service.setup service.default_schema l given going t now)
-    → IsRuledOn (book_of service) going service.setup service.default_schema so.lost now so.goes
-    → IsRouter service (with_entry log (entry_by how l)) now roomy
+    (service : Service) (texts : Texts) (log : Log) (t now : Tabled) (roomy : ClientNo → Bool) (l : LinkId) (how : Break)
+    (given : Option GivenUp) (going : Option Going) → IsRouter service texts log t roomy → MayFollow log (entry_by how l)
+    → AreGivenOurs given → AreGoingOurs (rules_of service.rules) texts going → (so : LosesSo service.setup service.default_schema l given going t now)
+    → IsRuledOn (ruling_of service (key_at texts)) going service.setup service.default_schema so.lost now so.goes
+    → IsRouter service texts (with_entry log (entry_by how l)) now roomy
 
 abbrev pub EndedRoutes : Type 0
 EndedRoutes =
-    (service : Service) (log : Log) (t now : Tabled) (roomy : ClientNo → Bool) (l : LinkId) (how : Break) (c : ClientNo)
-    (links : List LinkId) → IsRouter service log t roomy → MayFollow log (entry_by how l) → LosesEnded l c links t now
-    → IsRouter service (with_entry log (entry_by how l)) now roomy
+    (service : Service) (texts : Texts) (log : Log) (t now : Tabled) (roomy : ClientNo → Bool) (l : LinkId) (how : Break) (c : ClientNo)
+    (links : List LinkId) → IsRouter service texts log t roomy → MayFollow log (entry_by how l) → LosesEnded l c links t now
+    → IsRouter service texts (with_entry log (entry_by how l)) now roomy
 
 -- Who went on does so still: no link that is lost, and no statement that is given up, ends a client.
 
@@ -132,15 +134,15 @@ with_it_then link told given t its goes = record {
 }
 
 -- All of it, where nobody ends.
-pub lost_so : (service : Service) (link : LinkId) (name : Option SessionName) (given : Option GiveUp) (old lost mid new : Tabled)
+pub lost_so : (service : Service) (texts : Texts) (link : LinkId) (name : Option SessionName) (given : Option GiveUp) (old lost mid new : Tabled)
     → IsSame lost (lost_in link old) → HasGiven given lost mid
     → ((told : Option GivenUp) → told_client told ≡ up_client given → IfSome given (λ (up : GiveUp). IsFor name up.client mid)
-    → HasCalled service name told mid new) → MayLose link name given old → HasLost service link old new
-lost_so service link name given old lost mid new loses gave calls may =
+    → HasCalled service texts name told mid new) → MayLose link name given old → HasLost service texts link old new
+lost_so service texts link name given old lost mid new loses gave calls may =
     let same : IsSame mid (given_up_in (told_to gave.told) (lost_in link old)) =
     subst (λ (t : Tabled). IsSame mid (given_up_in (told_to gave.told) t)) (tables_are lost (lost_in link old) loses) gave.same in
     let still : (c : ClientNo) → is_going (mid.clients c) ≡ is_going (old.clients c) = λ c. lost_going link gave.told old mid c same in
-    let goes_on : HasCalled service name gave.told mid new = calls gave.told gave.its (for_then link name given old mid still may.may) in
+    let goes_on : HasCalled service texts name gave.told mid new = calls gave.told gave.its (for_then link name given old mid still may.may) in
     let called : IsCalled name gave.told old (option_map (λ (g : Going). g.client) goes_on.going) =
     called_then name gave.told old mid (option_map (λ (g : Going). g.client) goes_on.going) still goes_on.called in
     record {
@@ -281,6 +283,7 @@ chosen_by old new policy keeps = record {
   asked = keeps.asked;
   client = keeps.client;
   link = keeps.link;
+  texts = keeps.texts;
 }
 
 -- So the router stands for the log with it, however it is told.
@@ -294,22 +297,22 @@ module _ (service : Service) (link : LinkId) (old new : Router) where
   loses_each : ((how : Break) → Carries service (entry_by how link) old new) → Loses service link old new
   loses_each each = record { ended = each ReadEnds; unread = each ReadFails; unwritten = each WriteFails }
 
-  pub lost_loses : Routes → Keeps old new → HasLost service link (tables old) (tables new) → Loses service link old new
+  pub lost_loses : Routes → Keeps old new → HasLost service new.texts link (tables old) (tables new) → Loses service link old new
   lost_loses routes keeps has =
       loses_each
       (λ how.
-      carries_by service old new keeps.roomy keeps.came (entry_by how link) (none_come how link)
+      carries_by service old new keeps.roomy keeps.came keeps.texts (entry_by how link) (none_come how link)
       (λ log may router.
-      routes service log (tables old) (tables new) (is_roomy old.roomy) link how has.given has.going router may
+      routes service new.texts log (tables old) (tables new) (is_roomy old.roomy) link how has.given has.going router may
       has.given_ours has.ours has.so has.ruled))
 
   pub ended_loses : EndedRoutes → (c : ClientNo) → Keeps old new → HasLostEnded link c (tables old) (tables new) → Loses service link old new
   ended_loses routes c keeps has =
       loses_each
       (λ how.
-      carries_by service old new keeps.roomy keeps.came (entry_by how link) (none_come how link)
+      carries_by service old new keeps.roomy keeps.came keeps.texts (entry_by how link) (none_come how link)
       (λ log may router.
-      routes service log (tables old) (tables new) (is_roomy old.roomy) link how c has.links router may has.so))
+      routes service new.texts log (tables old) (tables new) (is_roomy old.roomy) link how c has.links router may has.so))
 
 -- whether a row is there
 pub copied_is : {T : Type 0} (found : Option (Bor T)) (row : Option T) (test b : Bool) → option_copied found ≡ row → test ≡ is_some found

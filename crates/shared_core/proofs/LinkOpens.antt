@@ -18,6 +18,8 @@ use Rattle.core_tables.specs.Writing.{opened}
 use Rattle.router_laws.specs.decisions.Routers.{IsRouter}
 use Rattle.core_laws.specs.entry.Cores.{with_entry}
 use Rattle.router_laws.specs.links.Opens.{OpensSo}
+use Rattle.core_texts.specs.declared.texts.Texts.{Texts}
+use Rattle.core_texts.specs.Texts.{AreMore}
 use Rattle.shared_core.proofs.Carrying.{carries_by}
 use Rattle.shared_core.specs.Links.{HasOpened}
 use Rattle.shared_core.specs.Follows.{Keeps}
@@ -32,16 +34,16 @@ has_opened l server slot opening login moment old new same to = record {
 }
 
 abbrev pub Opens : Type 0
-Opens = (service : Service) (log : Log) (t now : Tabled) (roomy : ClientNo → Bool) (server : ServerId) (address : Address)
-    (l : LinkId) (login : Account) → IsRouter service log t roomy → MayFollow log (entry.Opened server address l)
-    → OpensSo l server login t now → IsRouter service (with_entry log (entry.Opened server address l)) now roomy
+Opens = (service : Service) (texts : Texts) (log : Log) (t now : Tabled) (roomy : ClientNo → Bool) (server : ServerId) (address : Address)
+    (l : LinkId) (login : Account) → IsRouter service texts log t roomy → MayFollow log (entry.Opened server address l)
+    → OpensSo l server login t now → IsRouter service texts (with_entry log (entry.Opened server address l)) now roomy
 
 pub opened_carries : Opens → (service : Service) (server : ServerId) (address : Address) (l : LinkId) (old new : Router)
-    → new.roomy ≡ old.roomy → new.came ≡ old.came → HasOpened l server (tables old) (tables new)
+    → new.roomy ≡ old.roomy → new.came ≡ old.came → AreMore old.texts new.texts → HasOpened l server (tables old) (tables new)
     → Carries service (entry.Opened server address l) old new
-opened_carries law service server address l old new roomy came has =
-    carries_by service old new roomy came (entry.Opened server address l) refl
-    (λ log may router. law service log (tables old) (tables new) _ server address l has.login router may has.so)
+opened_carries law service server address l old new roomy came more has =
+    carries_by service old new roomy came more (entry.Opened server address l) refl
+    (λ log may router. law service new.texts log (tables old) (tables new) _ server address l has.login router may has.so)
 
 ok_both : {T E : Type 0} (r : Result T E) {A B C : Type 0} → (A → B → C) → OnOk r A → OnOk r B → OnOk r C
 ok_both (Ok x) f a b = f a b
@@ -58,5 +60,5 @@ opened_so law service l was found old mid new result taken same has keeps =
     (λ has keeps asked some.
     subst (λ (a : Asked). Carries service (entry.Opened a.server a.address l) old new) (some_asked was found asked taken some)
     (opened_carries law service found.server found.address l old new (keeps.roomy ∙ ap (λ (s : Shown). s.roomy) same)
-    (keeps.came ∙ ap (λ (s : Shown). s.came) same)
+    (keeps.came ∙ ap (λ (s : Shown). s.came) same) (subst (λ (k : Texts). AreMore k new.texts) (ap (λ (s : Shown). s.texts) same) keeps.texts)
     (subst (λ (s : Shown). HasOpened l found.server (tables_in s) (tables new)) same has))) has keeps

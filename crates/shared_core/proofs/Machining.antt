@@ -25,6 +25,9 @@ use Rattle.core_tables.specs.Tables.{Tabled}
 use Rattle.marked_tables.proofs.Going.{goes_along}
 use Rattle.marked_tables.specs.Goes.{GoesOn, reads_on}
 use Rattle.marked_tables.specs.declared.marked.MarkedTables.{MarkedTables}
+use Rattle.core_texts.specs.declared.texts.Texts.{Texts}
+use Rattle.core_texts.specs.Texts.{AreLess}
+use Rattle.router_laws.proofs.OfDecisions.Learning.{forgets}
 use Rattle.shared_core.specs.Machine.{Tells}
 use Rattle.shared_core.specs.Says.{target_of}
 use Rattle.shared_core.specs.Stands.{ActsBy, Carries, CarriesWhere, Chooses, IsClosed, Loses, Moves, PartsFor, SettlesSo, Shown, StandsBy, StandsFor}
@@ -64,10 +67,12 @@ stands_parted service log s closed stands = subst (λ (t : Tabled). StandsBy ser
 pub parted_stands : (service : Service) (log : Log) (s : Shown) → IsClosed s → StandsBy service log (tables_in s) s → PartsFor service log s
 parted_stands service log s closed stands = subst (λ (t : Tabled). StandsBy service log t s) (sym (nothing_parted s closed)) stands
 
--- Whoever has room again, and how many came, is all that it is by beside the tables.
-pub stands_as : (service : Service) (log : Log) (t : Tabled) (a b : Shown) → b.roomy ≡ a.roomy → b.came ≡ a.came → StandsBy service log t a → StandsBy service log t b
-stands_as service log t a b roomy came stands = record {
-  router = subst (λ r. IsRouter service log t (is_roomy r)) (sym roomy) stands.router;
+-- Whoever has room again, how many came, and the texts are all that it is by beside the tables.
+pub stands_as : (service : Service) (log : Log) (t : Tabled) (a b : Shown) → b.roomy ≡ a.roomy → b.came ≡ a.came → b.texts ≡ a.texts → StandsBy service log t a
+    → StandsBy service log t b
+stands_as service log t a b roomy came texts stands = record {
+  router = subst (λ (x : Texts). IsRouter service x log t (is_roomy b.roomy)) (sym texts)
+      (subst (λ r. IsRouter service a.texts log t (is_roomy r)) (sym roomy) stands.router);
   counted = came ∙ stands.counted;
 }
 
@@ -130,13 +135,29 @@ module _ (service : Service) (bytes : List ℕ) (old new : Router) where
     | inr is ↦ carried_as service (entry.WriteFailed link) e old new is loses.unwritten log
   ]
 
--- An event goes through, and the router settles.
+-- Texts that nobody needs are forgotten.
 
-pub tells_along : SettlesRouters → (service : Service) (event : Event) (bytes : List ℕ) (old mid settled new : Router)
-    → Tells service event bytes old mid → SettlesSo mid settled → Chooses settled new → Tells service event bytes old new
-tells_along law service event bytes old mid settled new tells settles chosen until_ms e told log due may stands =
-    shown_stands service (with_entry log e) settled new chosen.same
-    (law service mid settled settles (with_entry log e) (tells until_ms e told log due may stands))
+pub forgets_stands : (service : Service) (log : Log) (a b : Router) → AreLess a.texts b.texts → b ≡ record a { texts = b.texts }
+    → StandsFor service log a → StandsFor service log b
+forgets_stands service log a b less same stands =
+    subst (λ (r : Router). StandsFor service log r) (sym same) (record {
+      router = forgets service a.texts b.texts log (tables a) (is_roomy a.roomy) stands.router less;
+      counted = stands.counted;
+    })
+
+pub moves_forgot : (a b c : Router) → c ≡ record b { texts = c.texts } → Moves a b → Moves a c
+moves_forgot a b c same moves =
+    subst (λ (r : Router). Moves a r) (sym same) (record { goes = moves.goes; client = moves.client; link = moves.link })
+
+-- An event goes through, the router settles, and texts are forgotten.
+
+pub tells_along : SettlesRouters → (service : Service) (event : Event) (bytes : List ℕ) (old mid settled forgot new : Router)
+    → Tells service event bytes old mid → SettlesSo mid settled → AreLess settled.texts forgot.texts
+    → forgot ≡ record settled { texts = forgot.texts } → Chooses forgot new → Tells service event bytes old new
+tells_along law service event bytes old mid settled forgot new tells settles less same chosen until_ms e told log due may stands =
+    shown_stands service (with_entry log e) forgot new chosen.same
+    (forgets_stands service (with_entry log e) settled forgot less same
+    (law service mid settled settles (with_entry log e) (tells until_ms e told log due may stands)))
 
 pub moves_along : (old mid settled new : Router) → Moves old mid → Moves mid settled → Chooses settled new → Moves old new
 moves_along old mid settled new first next chosen = record {

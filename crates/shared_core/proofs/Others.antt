@@ -51,7 +51,7 @@ leaves_stay c old new leaves = same_stay c old (left_in c ended old) new leaves.
 
 turn_stay : (setup : Setup) (default : List ℕ) (c : ClientNo) (choice : Choice) (old new : Tabled) → IsTurn choice setup default c old new
     → OthersStay c old new
-turn_stay setup default c (Goes route) old new is =
+turn_stay setup default c (Goes route keyed) old new is =
     stay_along c old is.between new (changed_stay c (seated (turn setup default)) old is.between is.up.same)
     (changed_stay c (goes is.flag is.work is.statements) is.between new is.same)
 turn_stay setup default c (Answers payloads) old new is =

@@ -31,6 +31,8 @@ use Rattle.router_laws.specs.waits.Drained.{IsDrainedAt, IsDrainedFor}
 use Rattle.marked_tables.specs.Goes.{AreKnown, GoesOn, sends_on}
 use Rattle.marked_tables.proofs.Going.{named_known}
 use Rattle.marked_tables.specs.declared.marked.MarkedTables.{MarkedTables}
+use Rattle.core_texts.specs.declared.texts.Texts.{Texts}
+use Rattle.core_texts.specs.Texts.{key_at}
 use Rattle.shared_core.specs.Machine.{IsDueIn, IsStanding, Tells}
 use Rattle.shared_core.specs.Says.{IsAskedFor, awaits, reads, sends, target_of}
 use Rattle.shared_core.specs.Stands.{ActsSo, Carries, Chooses, IsClosed, Moves, PartsFor, Shown, StandsBy, StandsFor}
@@ -196,7 +198,7 @@ pub named_keeps : (core : Core) (m : MarkedTables) → m.tables ≡ core.router.
 named_keeps core m same known = record {
   kept = λ log was. record {
     stands = record {
-      router = subst (λ (t : Tables). IsRouter core.service log
+      router = subst (λ (t : Tables). IsRouter core.service core.router.texts log
           (without_link core.router.closing (without_client core.router.leaving (tables_of t))) (is_roomy core.router.roomy)) (sym same)
           was.stands.router;
       counted = was.stands.counted;
@@ -222,8 +224,8 @@ named_says core m same known = record {
 -- It stands still where it is told of nothing.
 
 abbrev pub Quiet : Type 0
-Quiet = (service : Service) (log : Log) (e : Entry) (t : Tabled) (roomy : ClientNo → Bool) → IsRouter service log t roomy
-    → MayFollow log e → IsQuiet e → IsDrainedAt t log e → IsRouter service (with_entry log e) t roomy
+Quiet = (service : Service) (texts : Texts) (log : Log) (e : Entry) (t : Tabled) (roomy : ClientNo → Bool) → IsRouter service texts log t roomy
+    → MayFollow log e → IsQuiet e → IsDrainedAt t log e → IsRouter service texts (with_entry log e) t roomy
 
 -- where it waits, all is drained
 drained_at : (core : Core) (log : Log) (e : Entry) → IsStanding core log → IsQuiet e → due_in core log e
@@ -241,7 +243,7 @@ pub quiet_carries : Quiet → (core : Core) (e : Entry) → IsQuiet e → Carrie
 quiet_carries law core e quiet = record {
   carried = λ log may due was. record {
     stands = record {
-      router = law core.service log e (parted (shown core.router)) (is_roomy core.router.roomy) was.stands.router may
+      router = law core.service core.router.texts log e (parted (shown core.router)) (is_roomy core.router.roomy) was.stands.router may
           quiet (drained_at core log e was quiet due);
       counted = was.stands.counted
           ∙ sym (ap length (filter_map-append accepted_link log (e ∷ [])
@@ -256,12 +258,13 @@ quiet_carries law core e quiet = record {
 -- It begins.
 
 abbrev pub First : Type 0
-First = (service : Service) (roomy : ClientNo → Bool) → IsRouter service [] no_tables roomy
+First = (service : Service) (texts : Texts) (roomy : ClientNo → Bool) → ((number : ℕ) → key_at texts number ≡ None) → IsRouter service texts [] no_tables roomy
 
-pub first_stands : First → (service : Service) (r : Router) → IsSame (tables r) no_tables → r.came ≡ 0 → StandsFor service [] r
-first_stands law service r none came = record {
-  router = subst (λ (t : Tabled). IsRouter service [] t (is_roomy r.roomy)) (sym (tables_are (tables r) no_tables none))
-      (law service (is_roomy r.roomy));
+pub first_stands : First → (service : Service) (r : Router) → IsSame (tables r) no_tables → r.came ≡ 0
+    → ((number : ℕ) → key_at r.texts number ≡ None) → StandsFor service [] r
+first_stands law service r none came untold = record {
+  router = subst (λ (t : Tabled). IsRouter service r.texts [] t (is_roomy r.roomy)) (sym (tables_are (tables r) no_tables none))
+      (law service r.texts (is_roomy r.roomy) untold);
   counted = came;
 }
 

@@ -25,6 +25,7 @@ use Rattle.marked_tables.specs.declared.marked.MarkedTables.{MarkedTables}
 use Rattle.core_laws.specs.entry.Cores.{with_entry}
 use Rattle.router_laws.specs.clients.Writes.{WroteSo}
 use Rattle.router_laws.specs.decisions.Routers.{IsRouter}
+use Rattle.core_texts.specs.declared.texts.Texts.{Texts}
 use Rattle.shared_core.specs.Rooms.{IsRoomyAfter}
 use Rattle.shared_core.specs.Stands.{Carries, is_roomy, tables}
 use Rattle.shared_core.specs.declared.router.Router.{Router}
@@ -97,9 +98,9 @@ none_sent m link none unnumbered sent sends =
 -- What router_laws says of it.
 abbrev pub ClientWrites : Type 0
 ClientWrites =
-    (service : Service) (log : Log) (t now : Tabled) (roomy room : ClientNo → Bool) (link : LinkId) (tag : Tag) (bytes : List ℕ)
-    (count : ℕ) (c : ClientNo) → IsRouter service log t roomy → MayFollow log (Wrote link tag bytes)
-    → WroteSo link bytes count c roomy room t now → IsRouter service (with_entry log (Wrote link tag bytes)) now room
+    (service : Service) (texts : Texts) (log : Log) (t now : Tabled) (roomy room : ClientNo → Bool) (link : LinkId) (tag : Tag) (bytes : List ℕ)
+    (count : ℕ) (c : ClientNo) → IsRouter service texts log t roomy → MayFollow log (Wrote link tag bytes)
+    → WroteSo link bytes count c roomy room t now → IsRouter service texts (with_entry log (Wrote link tag bytes)) now room
 
 none_came : (log : Log) (link : LinkId) (tag : Tag) (bytes : List ℕ)
     → length (accepted_links log) ≡ length (accepted_links (with_entry log (Wrote link tag bytes)))
@@ -109,13 +110,14 @@ none_came log link tag bytes =
 
 pub client_carried : ClientWrites → (service : Service) (old new : Router) (link : LinkId) (c : ClientNo) (n : ℕ)
     → (tables old).links link ≡ None → (tables old).numbers link ≡ Some c → MayTake (sends_on old.marked link) n
-    → IsSame (tables new) (written_to c n (tables old)) → IsRoomyAfter c n old new → new.came ≡ old.came
+    → IsSame (tables new) (written_to c n (tables old)) → IsRoomyAfter c n old new → new.came ≡ old.came → new.texts ≡ old.texts
     → (sent : Sent) → sends_on old.marked link ≡ Some sent → Carries service (Wrote link sent.tag (take n sent.bytes)) old new
-client_carried law service old new link c n none numbered may same room came sent sends log follows stands =
+client_carried law service old new link c n none numbered may same room came texts sent sends log follows stands =
     let to : IsSentTo (tables old) c sent = sent_to old.marked link c none numbered sent sends in
     let few : n ≤ length (due_in ((tables old).clients c)) = few_of old.marked link c none numbered n may in
     record {
-      router = law service log (tables old) (tables new) (is_roomy old.roomy) (is_roomy new.roomy) link sent.tag
+      router = subst (λ (k : Texts). IsRouter service k (with_entry log (Wrote link sent.tag (take n sent.bytes))) (tables new) (is_roomy new.roomy)) (sym texts)
+          (law service old.texts log (tables old) (tables new) (is_roomy old.roomy) (is_roomy new.roomy) link sent.tag
           (take n sent.bytes) n c stands.router follows
           (record {
             row = to.row;
@@ -124,6 +126,6 @@ client_carried law service old new link c n none numbered may same room came sen
             front = ap (take n) to.bytes;
             roomy_then = room to.row to.there;
             same = same;
-          });
+          }));
       counted = came ∙ stands.counted ∙ none_came log link sent.tag (take n sent.bytes);
     }

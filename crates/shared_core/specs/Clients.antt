@@ -12,22 +12,24 @@ use Rattle.router_laws.specs.clients.Leaves.{LeavesAtOnce, LeavesGoing, is_at_re
 use Rattle.router_laws.specs.clients.Plans.{nobody}
 use Rattle.router_laws.specs.clients.Speaks.{SpeaksSo}
 use Rattle.query_rules.specs.Passing.{rules_of}
-use Rattle.core_promises.specs.Ruled.{AreRuled, book_of}
+use Rattle.core_promises.specs.Ruled.{AreRuled, ruling_of}
+use Rattle.core_texts.specs.Texts.{key_at}
+use Rattle.core_texts.specs.declared.texts.Texts.{Texts}
 use Rattle.router_laws.specs.decisions.Speaks.{IsOurs, IsPartingOurs}
 use Rattle.shared_core.specs.declared.leaving.Leaving.{Leaving}
 use Rattle.shared_core.specs.declared.leaving.Leaving.TheVariants as leaving
 
 -- Bytes came, and it went on.
-pub record HasSpoken (service : Service) (link : LinkId) (bytes : List ℕ) (c : ClientNo) (old new : Tabled) : Type 0 where
+pub record HasSpoken (service : Service) (texts : Texts) (link : LinkId) (bytes : List ℕ) (c : ClientNo) (old new : Tabled) : Type 0 where
   pub ordinal : ℕ
   pub choices : List Choice
   pub halt : Halt
   pub parting : Parting
   pub links : List LinkId
-  pub ours : All (IsOurs (rules_of service.rules) c) choices
+  pub ours : All (IsOurs (rules_of service.rules) texts c) choices
   pub word : IsPartingOurs parting
   pub so : SpeaksSo service.setup service.default_schema link bytes c ordinal choices halt parting links old new
-  pub ruled : AreRuled (book_of service) choices halt service.setup service.default_schema c so.heard so.follows.turned so.follows.turns
+  pub ruled : AreRuled (ruling_of service (key_at texts)) choices halt service.setup service.default_schema c so.heard so.follows.turned so.follows.turns
 
 -- it goes on, and waits for an answer or isn't logged in
 pub record IsBusy (row : Client) : Type 0 where
@@ -53,13 +55,13 @@ pub record HasLeftAtOnce (link : LinkId) (c : ClientNo) (old new : Tabled) : Typ
   pub links : List LinkId
   pub so : LeavesAtOnce link links c nobody old new
 
-pub record HasLeftGoing (service : Service) (link : LinkId) (c : ClientNo) (old new : Tabled) : Type 0 where
+pub record HasLeftGoing (service : Service) (texts : Texts) (link : LinkId) (c : ClientNo) (old new : Tabled) : Type 0 where
   pub links : List LinkId
   pub ordinal : ℕ
   pub choices : List Choice
   pub halt : Halt
   pub parting : Parting
-  pub ours : All (IsOurs (rules_of service.rules) c) choices
+  pub ours : All (IsOurs (rules_of service.rules) texts c) choices
   pub word : IsPartingOurs parting
   pub so : LeavesGoing service.setup service.default_schema link links ordinal choices halt parting c old new
-  pub ruled : AreRuled (book_of service) choices halt service.setup service.default_schema c so.between so.follows.turned so.follows.turns
+  pub ruled : AreRuled (ruling_of service (key_at texts)) choices halt service.setup service.default_schema c so.between so.follows.turned so.follows.turns

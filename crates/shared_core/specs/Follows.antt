@@ -17,7 +17,9 @@ use Rattle.core_laws.specs.clients.Going.{GivenUp, GoesSo, Going, IsCalled, is_g
 use Rattle.core_laws.specs.clients.Turns.{Choice, Halt, MayLeave, Rests}
 use Rattle.own_words.specs.Own.{IsFailure}
 use Rattle.query_rules.specs.Passing.{rules_of}
-use Rattle.core_promises.specs.Ruled.{AreRuled, book_of}
+use Rattle.core_promises.specs.Ruled.{AreRuled, ruling_of}
+use Rattle.core_texts.specs.Texts.{AreMore, key_at}
+use Rattle.core_texts.specs.declared.texts.Texts.{Texts}
 use Rattle.router_laws.specs.decisions.Rulings.{AreRuledAll, IsRuledOn}
 use Rattle.router_laws.specs.decisions.Speaks.{AreGivenOurs, AreGoingOurs, IsOurs, IsPartingOurs}
 use Rattle.marked_tables.specs.Goes.{GoesOn}
@@ -28,7 +30,7 @@ use Rattle.router_laws.specs.wakes.Calling.{AllGoOn, Caller, CallerGoesOn, Calls
 use Rattle.router_laws.specs.wakes.Deciding.{IsCallerOurs}
 use Rattle.shared_core.specs.declared.router.Router.{Router}
 
--- What stays as it was, but for tables, marks, and what is chosen by; the links that aren't marked say no more than before.
+-- What stays as it was, but for tables, marks, and what is chosen by; the links that aren't marked say no more than before, and texts are kept.
 pub record Keeps (old new : Router) : Type 0 where
   pub goes : GoesOn old.marked new.marked
   pub roomy : new.roomy ≡ old.roomy
@@ -36,6 +38,7 @@ pub record Keeps (old new : Router) : Type 0 where
   pub asked : new.asked ≡ old.asked
   pub client : new.leaving ≡ old.leaving
   pub link : new.closing ≡ old.closing
+  pub texts : AreMore old.texts new.texts
 
 -- one of these clients
 abbrev pub is_of : List ClientNo → ClientNo → Bool
@@ -62,15 +65,15 @@ known_more t l known = if is_some (t.links l) then known ++ l ∷ [] else known
 
 -- A client took up what it could, and was ended, if it was to. What it was answered, and its last word, are the router's own, and what became of
 -- each message is what the verdict says.
-pub record HasGone (service : Service) (c : ClientNo) (ends : Bool) (old new : Tabled) : Type 0 where
+pub record HasGone (service : Service) (texts : Texts) (c : ClientNo) (ends : Bool) (old new : Tabled) : Type 0 where
   pub choices : List Choice
   pub halt : Halt
   pub parting : Parting
-  pub ours : All (IsOurs (rules_of service.rules) c) choices
+  pub ours : All (IsOurs (rules_of service.rules) texts c) choices
   pub word : IsPartingOurs parting
   pub goes : CallerGoesOn service.setup service.default_schema
       (record { client = c; choices = choices; halt = halt; parting = parting }) old new
-  pub ruled : AreRuled (book_of service) choices halt service.setup service.default_schema c old goes.turned goes.turns
+  pub ruled : AreRuled (ruling_of service (key_at texts)) choices halt service.setup service.default_schema c old goes.turned goes.turns
   pub ended : ends ≡ true → ends_by halt parting ≡ true
 
 -- How it was ended behind its turns.
@@ -99,33 +102,33 @@ pub record MayEnd (c : ClientNo) (t : Tabled) : Type 0 where
   pub lives : MayLeave row
 
 -- And links were given back that carried its sessions.
-pub record HasFollowed (service : Service) (c : ClientNo) (ends : Bool) (old new : Tabled) : Type 0 where
+pub record HasFollowed (service : Service) (texts : Texts) (c : ClientNo) (ends : Bool) (old new : Tabled) : Type 0 where
   pub choices : List Choice
   pub halt : Halt
   pub parting : Parting
   pub links : List LinkId
-  pub ours : All (IsOurs (rules_of service.rules) c) choices
+  pub ours : All (IsOurs (rules_of service.rules) texts c) choices
   pub word : IsPartingOurs parting
   pub follows : FollowsSo service.setup service.default_schema c choices halt parting links old new
-  pub ruled : AreRuled (book_of service) choices halt service.setup service.default_schema c old follows.turned follows.turns
+  pub ruled : AreRuled (ruling_of service (key_at texts)) choices halt service.setup service.default_schema c old follows.turned follows.turns
   pub ended : ends ≡ true → ends_by halt parting ≡ true
 
 -- Several clients did, one after the other.
-pub record HaveFollowed (service : Service) (clients : List ClientNo) (old new : Tabled) : Type 0 where
+pub record HaveFollowed (service : Service) (texts : Texts) (clients : List ClientNo) (old new : Tabled) : Type 0 where
   pub callers : List Caller
   pub links : List LinkId
   pub named : map (λ (k : Caller). k.client) callers ≡ clients
-  pub ours : All (IsCallerOurs (rules_of service.rules)) callers
+  pub ours : All (IsCallerOurs (rules_of service.rules) texts) callers
   pub calls : CallsSo service.setup service.default_schema callers links old new
-  pub ruled : AreRuledAll (book_of service) callers service.setup service.default_schema old calls.turned calls.going
+  pub ruled : AreRuledAll (ruling_of service (key_at texts)) callers service.setup service.default_schema old calls.turned calls.going
 
 -- by what they were called
-pub record HaveGone (service : Service) (clients : List ClientNo) (old new : Tabled) : Type 0 where
+pub record HaveGone (service : Service) (texts : Texts) (clients : List ClientNo) (old new : Tabled) : Type 0 where
   pub callers : List Caller
   pub named : map (λ (k : Caller). k.client) callers ≡ clients
-  pub ours : All (IsCallerOurs (rules_of service.rules)) callers
+  pub ours : All (IsCallerOurs (rules_of service.rules) texts) callers
   pub going : AllGoOn callers service.setup service.default_schema old new
-  pub ruled : AreRuledAll (book_of service) callers service.setup service.default_schema old new going
+  pub ruled : AreRuledAll (ruling_of service (key_at texts)) callers service.setup service.default_schema old new going
 
 -- The router answered a client's statement itself.
 pub record HasAnswered (c : ClientNo) (old new : Tabled) : Type 0 where
@@ -167,9 +170,9 @@ abbrev pub called_by : Option SessionName → (given : Option ClientNo) → Tabl
 called_by (Some name) given t = if is_going (t.clients name.client) then Some name.client else None
 called_by None given t = given
 
-pub record HasCalled (service : Service) (name : Option SessionName) (told : Option GivenUp) (old new : Tabled) : Type 0 where
+pub record HasCalled (service : Service) (texts : Texts) (name : Option SessionName) (told : Option GivenUp) (old new : Tabled) : Type 0 where
   pub going : Option Going
   pub called : IsCalled name told old (option_map (λ (g : Going). g.client) going)
-  pub ours : AreGoingOurs (rules_of service.rules) going
+  pub ours : AreGoingOurs (rules_of service.rules) texts going
   pub goes : GoesSo going service.setup service.default_schema old new
-  pub ruled : IsRuledOn (book_of service) going service.setup service.default_schema old new goes
+  pub ruled : IsRuledOn (ruling_of service (key_at texts)) going service.setup service.default_schema old new goes

@@ -4,7 +4,8 @@ use Rattle.mx_base.specs.declared.names.LinkId.{LinkId}
 use Rattle.core_service.specs.declared.service.Service.{Service}
 use Rattle.core_laws.specs.clients.Going.{GivenUp, Going}
 use Rattle.query_rules.specs.Passing.{rules_of}
-use Rattle.core_promises.specs.Ruled.{book_of}
+use Rattle.core_promises.specs.Ruled.{ruling_of}
+use Rattle.core_texts.specs.Texts.{key_at}
 use Rattle.router_laws.specs.decisions.Rulings.{IsRuledOn}
 use Rattle.router_laws.specs.decisions.Speaks.{AreGivenOurs, AreGoingOurs}
 use Rattle.router_laws.specs.reading.Hears.{HearsSo}
@@ -16,6 +17,6 @@ pub record HasHeard (service : Service) (link : LinkId) (bytes : List ℕ) (old 
   pub given : Option GivenUp
   pub going : Option Going
   pub given_ours : AreGivenOurs given
-  pub ours : AreGoingOurs (rules_of service.rules) going
+  pub ours : AreGoingOurs (rules_of service.rules) new.texts going
   pub so : HearsSo service.setup service.default_schema link bytes old.clock given going (tables old) (tables new)
-  pub ruled : IsRuledOn (book_of service) going service.setup service.default_schema so.freed (tables new) so.goes
+  pub ruled : IsRuledOn (ruling_of service (key_at new.texts)) going service.setup service.default_schema so.freed (tables new) so.goes

@@ -16,7 +16,9 @@ use Rattle.core_laws.specs.clients.Going.{GivenUp, Going}
 use Rattle.core_laws.specs.parting.Partings.{IsAtWork}
 use Rattle.router_laws.specs.links.Loses.{GoesWithIt, LosesEnded, LosesSo}
 use Rattle.query_rules.specs.Passing.{rules_of}
-use Rattle.core_promises.specs.Ruled.{book_of}
+use Rattle.core_promises.specs.Ruled.{ruling_of}
+use Rattle.core_texts.specs.Texts.{key_at}
+use Rattle.core_texts.specs.declared.texts.Texts.{Texts}
 use Rattle.router_laws.specs.decisions.Rulings.{IsRuledOn}
 use Rattle.router_laws.specs.decisions.Speaks.{AreGivenOurs, AreGoingOurs}
 use Rattle.shared_core.specs.Follows.{MayBeGivenWith}
@@ -50,13 +52,13 @@ pub record MayLose (link : LinkId) (name : Option SessionName) (given : Option G
   pub with_it : GoesWithIt link (is_given given) t
 
 -- A statement was given up, if one was, and a client went on, if one was called.
-pub record HasLost (service : Service) (link : LinkId) (old new : Tabled) : Type 0 where
+pub record HasLost (service : Service) (texts : Texts) (link : LinkId) (old new : Tabled) : Type 0 where
   pub given : Option GivenUp
   pub going : Option Going
   pub given_ours : AreGivenOurs given
-  pub ours : AreGoingOurs (rules_of service.rules) going
+  pub ours : AreGoingOurs (rules_of service.rules) texts going
   pub so : LosesSo service.setup service.default_schema link given going old new
-  pub ruled : IsRuledOn (book_of service) going service.setup service.default_schema so.lost new so.goes
+  pub ruled : IsRuledOn (ruling_of service (key_at texts)) going service.setup service.default_schema so.lost new so.goes
 
 -- Or a client was ended with it.
 pub record HasLostEnded (link : LinkId) (c : ClientNo) (old new : Tabled) : Type 0 where

@@ -25,4 +25,5 @@ pub record ForgetsBy (without : Tabled → Tabled) (old new : Router) : Type 0 w
   pub tables : IsSame (tables new) (without (tables old))
   pub goes : GoesOn old.marked new.marked
   pub roomy : new.roomy ≡ old.roomy
+  pub texts : new.texts ≡ old.texts
   pub came : new.came ≡ old.came

@@ -1,10 +1,14 @@
 -- What is tested of clients and of links.
-use Rattle.std.specs.Prelude.{◌≡◌, ◌<◌, ◌^◌, ℕ, suc, Bool, true, false, not, ◌&&◌, nat_eq, nat_lt, ◌⊎◌, IfSome, Option, Some}
+use Rattle.std.specs.Prelude.{◌≡◌, ◌<◌, ◌^◌, ℕ, suc, Bool, true, false, not, ◌&&◌, nat_eq, nat_lt, ◌⊎◌, IfSome, Option, Some, None}
 use Rattle.std.specs.Option.{option_and_then, option_map_or}
 use Rattle.mx_base.specs.declared.names.ClientNo.{ClientNo}
 use Rattle.mx_base.specs.declared.names.Hostgroup.{Hostgroup}
 use Rattle.mx_base.specs.declared.names.LinkId.{LinkId}
 use Rattle.session_state.specs.declared.names.SessionName.{SessionName}
+use Rattle.session_state.specs.declared.place.Place.{Place}
+use Rattle.session_state.specs.declared.place.Told.{Told}
+use Rattle.session_vars.specs.Settings.{AreSettings}
+use Rattle.link_state.specs.Places.{calm_place, place_wish}
 use Rattle.client_desk.specs.Desks.{name_of, session_of}
 use Rattle.client_desk.specs.declared.desk.Desk.{Desk}
 use Rattle.client_desk.specs.declared.session.Session.{Session}
@@ -83,3 +87,9 @@ pub record WorkIsBroken (c : ClientNo) (t : Tabled) : Type 0 where
   pub work : Work
   pub at_work : IsAtWork t c row work
   pub broken : IsBroken t row work
+
+-- A link that was told this is at this place, but for autocommit, which no preparation needs.
+pub record IsToldPlace (place : Place) (told : Told) : Type 0 where
+  pub of_key : AreSettings place.settings
+  pub of_link : AreSettings told.settings
+  pub is_there : place_wish told (calm_place place told) ≡ None

@@ -11,6 +11,7 @@ use Rattle.core_service.specs.declared.service.Service.{Service}
 use Rattle.core_tables.specs.Arrivals.{forgotten}
 use Rattle.core_tables.specs.Parting.{lost_in, unlinked}
 use Rattle.core_tables.specs.Tables.{IsSame, Tabled, tables_of}
+use Rattle.core_texts.specs.declared.texts.Texts.{Texts}
 use Rattle.router_laws.specs.decisions.Routers.{IsRouter}
 use Rattle.core_laws.specs.entry.Cores.{with_entry}
 use Rattle.marked_tables.specs.Goes.{GoesOn, sends_on}
@@ -22,16 +23,17 @@ use Rattle.router_laws.specs.wakes.Settling.{Settles}
 use Rattle.shared_core.specs.declared.roomy.Roomy.{Roomy}
 use Rattle.shared_core.specs.declared.router.Router.{Router}
 
--- What it stands for a log by: its tables, who has room again, how many clients came, and what is being closed.
+-- What it stands for a log by: its tables, who has room again, how many clients came, what is being closed, and the texts that are kept.
 pub record Shown : Type 0 where
   pub marked : MarkedTables
   pub roomy : Roomy
   pub came : ℕ
   pub leaving : Option ClientNo
   pub closing : Option LinkId
+  pub texts : Texts
 
 abbrev pub shown : Router → Shown
-shown r = record { marked = r.marked; roomy = r.roomy; came = r.came; leaving = r.leaving; closing = r.closing }
+shown r = record { marked = r.marked; roomy = r.roomy; came = r.came; leaving = r.leaving; closing = r.closing; texts = r.texts }
 
 abbrev pub tables_in : Shown → Tabled
 tables_in s = tables_of s.marked.tables
@@ -43,7 +45,7 @@ abbrev pub is_roomy : Roomy → ClientNo → Bool
 is_roomy roomy c = roomy.all || list_any (nat_eq c.0) (keys roomy.some)
 
 pub record StandsBy (service : Service) (log : Log) (t : Tabled) (s : Shown) : Type 0 where
-  pub router : IsRouter service log t (is_roomy s.roomy)
+  pub router : IsRouter service s.texts log t (is_roomy s.roomy)
   pub counted : s.came ≡ length (accepted_links log)
 
 abbrev pub StandsFor : Service → Log → Router → Type 0
@@ -72,9 +74,10 @@ pub record Moves (old new : Router) : Type 0 where
 
 -- Links are lent, and what goes to them next is looked for: nothing of it is told.
 pub record SettlesSo (old new : Router) : Type 0 where
-  pub settles : Settles (tables old) (tables new)
+  pub settles : Settles old.texts (tables old) (tables new)
   pub roomy : new.roomy ≡ old.roomy
   pub came : new.came ≡ old.came
+  pub texts : new.texts ≡ old.texts
 
 -- Only what is chosen by changes, and when the router is to be woken.
 pub record Chooses (old new : Router) : Type 0 where
@@ -108,6 +111,7 @@ pub record Forgets (old new : Router) : Type 0 where
   pub closed : IsClosed (shown new)
   pub roomy : new.roomy ≡ old.roomy
   pub came : new.came ≡ old.came
+  pub texts : new.texts ≡ old.texts
 
 -- A close is asked for of a link that is open: by its end, behind a farewell or without one, the router stands for the log with it. `Before` is
 -- how it stood for the log.

@@ -7,7 +7,9 @@ use Rattle.core_tables.specs.Tables.{Tabled}
 use Rattle.core_laws.specs.clients.Going.{GivenUp, is_going}
 use Rattle.router_laws.specs.wakes.Calling.{Caller, GivesUpAll, IsThere, IsUnsent, is_given}
 use Rattle.query_rules.specs.Passing.{rules_of}
-use Rattle.core_promises.specs.Ruled.{book_of}
+use Rattle.core_promises.specs.Ruled.{ruling_of}
+use Rattle.core_texts.specs.Texts.{key_at}
+use Rattle.core_texts.specs.declared.texts.Texts.{Texts}
 use Rattle.router_laws.specs.decisions.Rulings.{AreRuledAll}
 use Rattle.router_laws.specs.decisions.Speaks.{IsGivenOurs}
 use Rattle.router_laws.specs.wakes.Deciding.{IsCallerOurs}
@@ -46,21 +48,21 @@ pub record AreCalled (called : Roomy) (clients : List ClientNo) (t : Tabled) : T
   pub all : (c : ClientNo) → is_roomy called c ≡ true → is_going (t.clients c) ≡ true → is_of clients c ≡ true
 
 -- Some were given up, and those clients and all that have room again went on.
-pub record HasWoken (service : Service) (roomy : Roomy) (old new : Tabled) : Type 0 where
+pub record HasWoken (service : Service) (texts : Texts) (roomy : Roomy) (old new : Tabled) : Type 0 where
   pub given : List GivenUp
   pub callers : List Caller
   pub links : List LinkId
   pub given_ours : All IsGivenOurs given
-  pub ours : All (IsCallerOurs (rules_of service.rules)) callers
+  pub ours : All (IsCallerOurs (rules_of service.rules) texts) callers
   pub so : WakesSo service.setup service.default_schema given callers links (is_roomy roomy) old new
-  pub ruled : AreRuledAll (book_of service) callers service.setup service.default_schema so.late so.calls.turned so.calls.going
+  pub ruled : AreRuledAll (ruling_of service (key_at texts)) callers service.setup service.default_schema so.late so.calls.turned so.calls.going
 
 -- One was given up, if one was, and its client went on.
-pub record HasFailed (service : Service) (old new : Tabled) : Type 0 where
+pub record HasFailed (service : Service) (texts : Texts) (old new : Tabled) : Type 0 where
   pub given : List GivenUp
   pub callers : List Caller
   pub links : List LinkId
   pub given_ours : All IsGivenOurs given
-  pub ours : All (IsCallerOurs (rules_of service.rules)) callers
+  pub ours : All (IsCallerOurs (rules_of service.rules) texts) callers
   pub so : FailsSo service.setup service.default_schema given callers links old new
-  pub ruled : AreRuledAll (book_of service) callers service.setup service.default_schema so.late so.calls.turned so.calls.going
+  pub ruled : AreRuledAll (ruling_of service (key_at texts)) callers service.setup service.default_schema so.late so.calls.turned so.calls.going

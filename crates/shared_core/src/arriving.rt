@@ -115,7 +115,7 @@ impl Router {
         bytes: &[u8],
     ) -> Result<(), OutOfMemory>
         ensures spoken { OnOk result ((row : Client) → IsLinkOf link client row (tables self.old)
-            → is_ended row.desk.seat.phase ≡ false → HasSpoken service.now link bytes.now client (tables self.old) (tables self.new)) }
+            → is_ended row.desk.seat.phase ≡ false → HasSpoken service.now self.new.texts link bytes.now client (tables self.old) (tables self.new)) }
         ensures keeps { OnOk result (Keeps self.old self.new) }
     {
         if self.is_there(client) {

@@ -6,7 +6,8 @@ ghost use Rattle.core_laws.specs.clients.Turns.{Rests, Waits};
 ghost use Rattle.core_tables.specs.Parting.{freed_in};
 ghost use Rattle.core_tables.specs.Tables.{IsSame};
 ghost use Rattle.core_turns.specs.Turned.{HasGoneOn, RuledTurns, halt_of};
-ghost use Rattle.core_promises.specs.Ruled.{book_of};
+ghost use Rattle.core_promises.specs.Ruled.{ruling_of};
+ghost use Rattle.core_texts.specs.Texts.{key_at};
 ghost use Rattle.core_laws.specs.entry.Freeing.{all_freed};
 ghost use Rattle.shared_core.specs.Follows.{AreAllHomes, AreRising, HasFollowed, HasGone, HasParted, HaveFollowed, HaveGone, IsRested, Keeps, MayEnd, RestsBehind, is_of, known_in, known_more};
 ghost use Rattle.shared_core.specs.Stands.{Chooses, tables};
@@ -30,7 +31,7 @@ impl Router {
         ends: bool,
     ) -> Result<(), OutOfMemory>
         ensures follows { OnOk result (is_going ((tables self.old).clients client) ≡ true
-            → HasFollowed service.now client ends (tables self.old) (tables self.new)) }
+            → HasFollowed service.now self.new.texts client ends (tables self.old) (tables self.new)) }
         ensures keeps { OnOk result (Keeps self.old self.new) }
     {
         let homes = self.homes_of(&[client])?;
@@ -48,7 +49,7 @@ impl Router {
     ) -> Result<(), OutOfMemory>
         ensures follow { OnOk result (AreRising clients.now
             → All (λ c. IsThere (tables self.old) c) clients.now
-            → HaveFollowed service.now clients.now (tables self.old) (tables self.new)) }
+            → HaveFollowed service.now self.new.texts clients.now (tables self.old) (tables self.new)) }
         ensures keeps { OnOk result (Keeps self.old self.new) }
     {
         let homes = self.homes_of(clients)?;
@@ -66,7 +67,7 @@ impl Router {
     ) -> Result<(), OutOfMemory>
         ensures go { OnOk result (AreRising clients.now
             → All (λ c. IsThere (tables self.old) c) clients.now
-            → HaveGone service.now clients.now (tables self.old) (tables self.new)) }
+            → HaveGone service.now self.new.texts clients.now (tables self.old) (tables self.new)) }
         ensures keeps { OnOk result (Keeps self.old self.new) }
     {
         for client in clients {
@@ -91,7 +92,7 @@ impl Router {
         ends: bool,
     ) -> Result<(), OutOfMemory>
         ensures goes { OnOk result (is_going ((tables self.old).clients client) ≡ true
-            → HasGone service.now client ends (tables self.old) (tables self.new)) }
+            → HasGone service.now self.new.texts client ends (tables self.old) (tables self.new)) }
         ensures keeps { OnOk result (Keeps self.old self.new) }
     {
         let took = self.takes_turns(service, client)?;
@@ -110,12 +111,13 @@ impl Router {
         service: &Service,
         client: ClientNo,
     ) -> Result<Option<Went>, OutOfMemory>
-        ensures is { IfOk result (λ went. HasGoneOn RuledTurns went (book_of service.now) service.now.setup
+        ensures is { IfOk result (λ went. HasGoneOn RuledTurns went (ruling_of service.now (key_at self.new.texts)) service.now.setup
             service.now.default_schema client (tables self.old) (tables self.new)) }
         ensures keeps { OnOk result (Keeps self.old self.new) }
     {
         let took = take_turns(
             &mut self.marked,
+            &mut self.texts,
             service,
             &self.policy.servers,
             self.clock,

@@ -147,7 +147,7 @@ impl Router {
     ) -> Result<(), OutOfMemory>
         ensures calls { OnOk result ((told : Option GivenUp) → told_client told ≡ up_client given
             → IfSome given (λ up. IsFor name up.client (tables self.old))
-            → HasCalled service.now name told (tables self.old) (tables self.new)) }
+            → HasCalled service.now self.new.texts name told (tables self.old) (tables self.new)) }
         ensures keeps { OnOk result (Keeps self.old self.new) }
     {
         match self.called_by(name, given) {

@@ -44,6 +44,7 @@ impl Router {
         let name = self.marked.carried(link);
         let cut = self.marked.says(link).is_some();
         let said = self.marked.server_says(link, bytes, self.clock)?;
+        self.keeps(link, said)?;
         let verdict = self
             .policy
             .heard(&self.marked.tables, link, name, said, cut, self.clock)?;

@@ -119,7 +119,7 @@ impl Router {
     fn leaves_going(&mut self, service: &Service, client: ClientNo) -> Result<(), OutOfMemory>
         requires { LeavesBy Leaving.GoingOn client (tables self.old) }
         ensures leaves { OnOk result ((link : LinkId) → (tables self.old).numbers link ≡ Some client
-            → HasLeftGoing service.now link client (tables self.old) (tables self.new)) }
+            → HasLeftGoing service.now self.new.texts link client (tables self.old) (tables self.new)) }
         ensures keeps { OnOk result (Keeps self.old self.new) }
     {
         if self.has_lives(client) {

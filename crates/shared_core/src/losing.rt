@@ -101,7 +101,7 @@ impl Router {
         ends: Option<ClientNo>,
     ) -> Result<(), OutOfMemory>
         ensures loses { OnOk result (MayLose link name given (tables self.old)
-            → HasLost service.now link (tables self.old) (tables self.new)) }
+            → HasLost service.now self.new.texts link (tables self.old) (tables self.new)) }
         ensures keeps { OnOk result (Keeps self.old self.new) }
     {
         self.loses(link);
@@ -113,6 +113,7 @@ impl Router {
     pub(crate) fn loses(&mut self, link: LinkId)
         ensures is { IsSame (tables self.new) (lost_in link (tables self.old)) }
         ensures keeps { Keeps self.old self.new }
+        ensures texts { self.new.texts ≡ self.old.texts }
     {
         let name = self.marked.carried(link);
         self.marked.lose(link);

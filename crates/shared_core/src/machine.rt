@@ -52,6 +52,7 @@ impl Router {
         router_laws::wakes::settling_stands();
         self.told(service, event, bytes)?;
         self.settle(service)?;
+        self.forgets_texts()?;
         self.turns();
         Ok(())
     }

@@ -70,7 +70,7 @@ impl Router {
 
     // A statement that waited for it is given up, if one is, and its client goes on.
     fn fails(&mut self, service: &Service, given: Option<GiveUp>) -> Result<(), OutOfMemory>
-        ensures fails { OnOk result (HasFailed service.now (tables self.old) (tables self.new)) }
+        ensures fails { OnOk result (HasFailed service.now self.new.texts (tables self.old) (tables self.new)) }
         ensures keeps { OnOk result (Keeps self.old self.new) }
     {
         match given {
@@ -80,7 +80,7 @@ impl Router {
     }
 
     fn refuses(&mut self, service: &Service, up: GiveUp) -> Result<(), OutOfMemory>
-        ensures fails { OnOk result (HasFailed service.now (tables self.old) (tables self.new)) }
+        ensures fails { OnOk result (HasFailed service.now self.new.texts (tables self.old) (tables self.new)) }
         ensures keeps { OnOk result (Keeps self.old self.new) }
     {
         if self.is_waiting(up.client) {

@@ -8,6 +8,7 @@ ghost use Rattle.shared_core.specs.Stands.{Chooses, IsClosed, StandsFor, shown};
 use crate::roomy::Roomy;
 use core_policy::{Asked, Policy};
 use core_service::Service;
+use core_texts::Texts;
 use marked_tables::MarkedTables;
 use mx_base::{ClientNo, LinkId, OutOfMemory};
 use mx_config::Config;
@@ -16,13 +17,14 @@ use std::alloc::Global;
 /// The links that may be open at a time, of clients and to servers: one beyond them is refused like want of memory.
 const MOST_LINKS: u32 = 14_001;
 
-/// What changes of the core: clients and links, with marks of the links that the loop has to look at; what is chosen by; how many clients came;
+/// What changes of the core: clients and links, with marks of the links that the loop has to look at; the texts that clients prepared; what is chosen by; how many clients came;
 /// who has room again; the open that was asked for last; the client, or the link to a server, whose close was; whether there may be something
 /// to ask for; the moment at which there is something to do, and that of the last wake, in milliseconds.
 #[derive(Drop)]
 pub struct Router {
     pub alloc: Global,
     pub marked: MarkedTables,
+    pub texts: Texts,
     pub policy: Policy,
     pub came: u64,
     pub roomy: Roomy,
@@ -47,6 +49,7 @@ impl Router {
         Ok(Router {
             alloc,
             marked: MarkedTables::new(alloc, MOST_LINKS)?,
+            texts: Texts::new(alloc),
             policy: Policy::new(alloc, config)?,
             came: 0,
             roomy: Roomy::new(alloc),

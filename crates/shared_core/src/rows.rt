@@ -27,7 +27,7 @@ use session_state::{SessionName, is_pinned};
 
 /// The row of a client.
 #[tactic(auto, unfolding(core_tables::specs::Tables::tables_of))]
-fn row_of(tables: &Tables, client: ClientNo) -> Option<&Client>
+pub(crate) fn row_of(tables: &Tables, client: ClientNo) -> Option<&Client>
     ensures { option_copied result ≡ (tables_of tables.now).clients client }
 {
     tables.clients.get(&client.0)
@@ -35,7 +35,7 @@ fn row_of(tables: &Tables, client: ClientNo) -> Option<&Client>
 
 /// The row of a link to a server.
 #[tactic(auto, unfolding(core_tables::specs::Tables::tables_of))]
-fn server_of(tables: &Tables, link: LinkId) -> Option<&Server>
+pub(crate) fn server_of(tables: &Tables, link: LinkId) -> Option<&Server>
     ensures { option_copied result ≡ (tables_of tables.now).links link }
 {
     tables.links.get(&link.0)
@@ -312,7 +312,7 @@ pub(crate) fn may_state(tables: &Tables, name: SessionName) -> bool
     }
 }
 
-/// Whether a step goes to a schema, to settings or to an insert id.
+/// Whether a step goes to a schema, to settings or to an insert id, or is a STMT_CLOSE or a STMT_RESET.
 pub(crate) fn is_step(wish: &Wish) -> bool
     ensures { result ≡ true → IsStepBy wish.now }
 {
@@ -323,6 +323,8 @@ pub(crate) fn is_step(wish: &Wish) -> bool
             let _id = *id;
             true
         }
+        Wish::Closes(_) => true,
+        Wish::Resets(_) => true,
         _ => false,
     }
 }

@@ -1,8 +1,10 @@
 // What is chosen between events is done.
 ghost use Rattle.std.specs.Prelude.{◌≡◌, OnOk, true};
 ghost use Rattle.row_laws.specs.Readied.{IsStepFor};
-ghost use Rattle.shared_core.specs.Stands.{Moves, SettlesSo};
+ghost use Rattle.router_laws.specs.wakes.Settling.{MayState};
+ghost use Rattle.shared_core.specs.Stands.{Moves, SettlesSo, tables};
 
+use crate::needing::{text_of_work, wants_prepared};
 use crate::router::Router;
 use crate::rows::{is_step, may_begin, may_state};
 use core_policy::Deed;
@@ -29,7 +31,9 @@ impl Router {
         ensures moves { OnOk result (Moves self.old self.new) }
     {
         'deeds: for _ in 0..u64::MAX {
-            let deed = self.policy.deed(&self.marked.tables, service, self.clock)?;
+            let deed = self
+                .policy
+                .deed(&self.marked.tables, &self.texts, service, self.clock)?;
             match deed {
                 Some(deed) => self.does(deed)?,
                 None => return Ok(()),
@@ -47,6 +51,8 @@ impl Router {
             Deed::Unready { link, client } => self.marked.unready(link, client),
             Deed::TakeBack { link } => self.marked.take_back(link),
             Deed::BeginText { link, name } => self.states(link, name),
+            Deed::BeginRun { link, name } => return self.runs(link, name),
+            Deed::BeginPrep { link, name } => return self.prepares(link, name),
             Deed::BeginStep {
                 link,
                 purpose,
@@ -67,6 +73,48 @@ impl Router {
         let tables = &self.marked.tables;
         if may_begin(tables, link) && may_state(tables, name) {
             self.marked.begin_text(link, name);
+        }
+    }
+
+    // An execute in its client's present session is, where its text is prepared there.
+    fn runs(&mut self, link: LinkId, name: SessionName) -> Result<(), OutOfMemory>
+        ensures settles { OnOk result (SettlesSo self.old self.new) }
+        ensures moves { OnOk result (Moves self.old self.new) }
+    {
+        let tables = &self.marked.tables;
+        if may_begin(tables, link) && may_state(tables, name) {
+            self.marked.begin_run(link, name)
+        } else {
+            Ok(())
+        }
+    }
+
+    // The preparation of its text is, where the link was told the place of that.
+    fn prepares(&mut self, link: LinkId, name: SessionName) -> Result<(), OutOfMemory>
+        ensures settles { OnOk result (SettlesSo self.old self.new) }
+        ensures moves { OnOk result (Moves self.old self.new) }
+    {
+        let tables = &self.marked.tables;
+        if may_begin(tables, link) && may_state(tables, name) {
+            self.prepares_stated(link, name)
+        } else {
+            Ok(())
+        }
+    }
+
+    fn prepares_stated(&mut self, link: LinkId, name: SessionName) -> Result<(), OutOfMemory>
+        requires { MayState link name (tables self.old) }
+        ensures settles { OnOk result (SettlesSo self.old self.new) }
+        ensures moves { OnOk result (Moves self.old self.new) }
+    {
+        let tables = &self.marked.tables;
+        let Some(kept) = text_of_work(tables, &self.texts, name.client) else {
+            return Ok(());
+        };
+        if wants_prepared(self.alloc, tables, link, name, kept.place())? {
+            self.marked.begin_prep(link, name, kept.text())
+        } else {
+            Ok(())
         }
     }
 

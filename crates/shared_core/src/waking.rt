@@ -51,7 +51,7 @@ impl Router {
         slow: &BTreeSet<u64>,
         roomy: Roomy,
     ) -> Result<(), OutOfMemory>
-        ensures wakes { OnOk result (HasWoken service.now roomy (tables self.old) (tables self.new)) }
+        ensures wakes { OnOk result (HasWoken service.now self.new.texts roomy (tables self.old) (tables self.new)) }
         ensures keeps { OnOk result (Keeps self.old self.new) }
     {
         let mut called = roomy;

@@ -13,6 +13,16 @@ use crate::router::Router;
 use crate::rows::is_going;
 use link_state::Purpose;
 use mx_base::{ClientNo, LinkId};
+use session_state::SessionName;
+
+// The session to which a link was lent by what began.
+fn went_for(began: Purpose) -> Option<SessionName> {
+    match began {
+        Purpose::Statement { name, .. } => Some(name),
+        Purpose::Prep { name, .. } => Some(name),
+        _ => None,
+    }
+}
 
 impl Router {
     /// So many bytes were written on a link. Takes no memory.
@@ -37,6 +47,7 @@ impl Router {
         ensures is { IsSame (tables self.new) (written_to client n (tables self.old)) }
         ensures roomy { IsRoomyAfter client n self.old self.new }
         ensures came { self.new.came ≡ self.old.came }
+        ensures texts { self.new.texts ≡ self.old.texts }
         ensures moves { Moves self.old self.new }
     {
         let was_full = !self.marked.has_room_at(client);
@@ -54,8 +65,7 @@ impl Router {
         is_going(self.marked.client(client)) && self.marked.has_room_at(client)
     }
 
-    // What is to be written there begins with the first byte. A statement that went out waits no more. No link is readied for it by then, so
-    // the policy has none left to take back.
+    // What is to be written there begins with the first byte. A statement that went out, or whose text did to be prepared, waits no more.
     fn wrote_on(&mut self, link: LinkId, n: usize)
         requires may { MayTake (sends_on self.old.marked link) n }
         requires there { IsSome ((tables self.old).links link) }
@@ -65,7 +75,20 @@ impl Router {
         router_laws::links::writes_router();
         router_laws::wakes::settling_stands();
         let began = self.marked.wrote_on(link, n, self.clock);
-        if let Some(Purpose::Statement { name, .. }) = began {
+        self.went_out(link, began);
+    }
+
+    // Of the client whose statement began, or its preparation, no link is readied any more. Nothing is heard of a STMT_CLOSE: what is behind
+    // it goes there at once.
+    fn went_out(&mut self, link: LinkId, began: Option<Purpose>)
+        ensures settles { SettlesSo self.old self.new }
+        ensures moves { Moves self.old self.new }
+    {
+        let Some(began) = began else {
+            self.policy.look_at(link);
+            return;
+        };
+        if let Some(name) = went_for(began) {
             self.leaves_readied(name.client);
             self.changed(name.client);
         }

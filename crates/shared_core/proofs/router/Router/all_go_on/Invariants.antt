@@ -8,6 +8,6 @@ use Rattle.shared_core.proofs.router.Router.all_go_on.Given as goal
 abbrev pub invariant-loop-client : goal.invariant-loop-client
 invariant-loop-client l = record {
   go : AreRising l.clients → All (λ c. IsThere (tables l.initial.self) c) l.clients
-      → HaveGoneSoFar l.service (take l.client-index l.clients) (drop l.client-index l.clients) (tables l.initial.self) (tables l.self);
+      → HaveGoneSoFar l.service l.self.texts (take l.client-index l.clients) (drop l.client-index l.clients) (tables l.initial.self) (tables l.self);
   keeps : Keeps l.initial.self l.self;
 }

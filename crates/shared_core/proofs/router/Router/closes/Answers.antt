@@ -50,4 +50,4 @@ returns-clause-acts c =
       kept = c.calls_waiting.ensures.kept;
       same = c.calls_waiting.ensures.same;
     })
-    c.lost_closes_router.ensures c.loses.new.self c.loses.ensures.is c.loses.ensures.keeps
+    c.lost_closes_router.ensures c.loses.new.self c.loses.ensures.is c.loses.ensures.keeps c.loses.ensures.texts

@@ -1,4 +1,5 @@
 use Rattle.std.proofs.Common.{refl}
+use Rattle.core_texts.proofs.Keeping.{itself_more}
 use Rattle.shared_core.specs.Stands.{tables}
 use Rattle.shared_core.proofs.Goings.{leaves-by}
 use Rattle.shared_core.proofs.Keeping.{keeps_then, same_chosen}
@@ -11,4 +12,4 @@ returns-then-may_end-clause-ends c =
 pub returns-then-may_end-clause-keeps : goal.returns-then-may_end-clause-keeps
 returns-then-may_end-clause-keeps c =
     keeps_then _ _ _ c.changed.ensures
-    (record { goes = c.end.ensures.goes; roomy = refl; came = refl; asked = refl; client = refl; link = refl })
+    (record { goes = c.end.ensures.goes; roomy = refl; came = refl; asked = refl; client = refl; link = refl; texts = itself_more _ })

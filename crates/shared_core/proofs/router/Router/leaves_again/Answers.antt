@@ -1,5 +1,6 @@
 use Rattle.std.proofs.Common.{refl}
 use Rattle.core_tables.specs.Tables.{tables_of}
+use Rattle.core_texts.proofs.Keeping.{itself_more}
 use Rattle.shared_core.proofs.ClientRows.{left_again}
 use Rattle.shared_core.proofs.router.Router.leaves_again.Goals as goal
 use Rattle.shared_core.specs.Stands.{tables}
@@ -11,4 +12,4 @@ returns-then-has_lives-clause-leaves c = λ link numbered.
 
 pub returns-then-has_lives-clause-keeps : goal.returns-then-has_lives-clause-keeps
 returns-then-has_lives-clause-keeps c =
-    record { goes = c.leave.ensures.goes; roomy = refl; came = refl; asked = refl; client = refl; link = refl }
+    record { goes = c.leave.ensures.goes; roomy = refl; came = refl; asked = refl; client = refl; link = refl; texts = itself_more _ }

@@ -8,7 +8,7 @@ use Rattle.shared_core.specs.Stands.{tables}
 
 pub returns-in_ok-goes_on-clause-leaves : goal.returns-in_ok-goes_on-clause-leaves
 returns-in_ok-goes_on-clause-leaves c = λ link numbered.
-    left_going c.args.service.now link c.args.client c.in_ok-homes.homes.items (tables c.args.self.now) (tables_of c.begin_again.new.self.tables)
+    left_going c.args.service.now _ link c.args.client c.in_ok-homes.homes.items (tables c.args.self.now) (tables_of c.begin_again.new.self.tables)
     (tables c.free_all.new.self) (tables c.goes_on.new.self) numbered c.requires (c.has_lives.ensures c.if-has_lives.true c.requires.row c.requires.there)
     c.in_ok-homes.ensures c.in_ok-begin_again.ensures.is (rw c.as_slice.ensures.value at c.free_all.ensures.is) c.in_ok-goes_on.ensures.goes
 

@@ -1,12 +1,9 @@
+use Rattle.std.specs.Prelude.{None}
 use Rattle.std.proofs.Common.{refl}
-use Rattle.core_tables.specs.Tables.{tables_of}
-use Rattle.shared_core.proofs.Readied.{unready_settles}
+use Rattle.shared_core.proofs.Settles.{notes_so}
 use Rattle.shared_core.proofs.router.Router.leaves_readied.Goals as goal
 
 pub returns-clause-settles : goal.returns-clause-settles
-returns-clause-settles c = record {
-  settles = unready_settles c.in-Some-readied.link c.args.client (tables_of c.args.self.now.marked.tables) (tables_of c.unready.new.self.tables)
-      c.unready.ensures.is;
-  roomy = refl;
-  came = refl;
-}
+returns-clause-settles c =
+    notes_so c.in-Some-readied.link None c.args.client None c.args.self.now (record c.args.self.now { marked = c.unready.new.self }) c.unready.ensures.is refl
+    refl refl

@@ -1,5 +1,6 @@
 use Rattle.std.proofs.Common.{refl}
 use Rattle.core_tables.specs.Parting.{lost_in}
+use Rattle.core_texts.proofs.Keeping.{itself_more}
 use Rattle.shared_core.specs.Stands.{tables}
 use Rattle.shared_core.proofs.Keeping.{keeps_then, same_chosen}
 use Rattle.shared_core.proofs.router.Router.loses.Goals as goal
@@ -10,4 +11,4 @@ returns-clause-is c = same_chosen _ _ (lost_in c.args.link (tables c.args.self.n
 pub returns-clause-keeps : goal.returns-clause-keeps
 returns-clause-keeps c =
     keeps_then _ _ _ c.changed_of.ensures
-    (record { goes = c.lose.ensures.goes; roomy = refl; came = refl; asked = refl; client = refl; link = refl })
+    (record { goes = c.lose.ensures.goes; roomy = refl; came = refl; asked = refl; client = refl; link = refl; texts = itself_more _ })

@@ -7,7 +7,7 @@ use Rattle.shared_core.proofs.router.Router.loses_going.Goals as goal
 pub returns-clause-loses : goal.returns-clause-loses
 returns-clause-loses c =
     on_ok_weaker c.call.result
-    (λ calls may. lost_so c.args.service.now c.args.link c.args.name c.args.given (tables c.args.self.now) _ _ (tables c.call.new.self)
+    (λ calls may. lost_so c.args.service.now _ c.args.link c.args.name c.args.given (tables c.args.self.now) _ _ (tables c.call.new.self)
     c.loses.ensures.is c.in_ok-gives.ensures.gives calls may) c.call.ensures.calls
 
 pub returns-clause-keeps : goal.returns-clause-keeps

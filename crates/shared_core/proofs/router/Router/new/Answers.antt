@@ -9,16 +9,17 @@ returns-clause-stands c = λ service.
     first_stands c.first_router.ensures service (record {
       alloc = c.args.alloc;
       marked = c.in_ok-new.field-0;
+      texts = c.new-2.result;
       policy = c.in_ok-new-2.field-0;
       came = 0;
-      roomy = c.new-3.result;
+      roomy = c.new-4.result;
       asked = None;
       leaving = None;
       closing = None;
       acting = true;
       until = 0;
       clock = 0;
-    }) c.in_ok-new.ensures.tables refl
+    }) c.in_ok-new.ensures.tables refl c.new-2.ensures.none
 
 pub returns-clause-known : goal.returns-clause-known
 returns-clause-known c = first_known c.in_ok-new.field-0 c.in_ok-new.ensures.tables

@@ -1,4 +1,5 @@
 use Rattle.std.proofs.Common.{refl}
+use Rattle.core_texts.proofs.Keeping.{itself_more}
 use Rattle.shared_core.proofs.Givings.{own-as}
 use Rattle.shared_core.proofs.Keeping.{keeps_still}
 use Rattle.shared_core.proofs.Last.{nobody-there}
@@ -19,4 +20,12 @@ returns-clause-told c = λ there. record {
 
 pub returns-clause-keeps : goal.returns-clause-keeps
 returns-clause-keeps c =
-    record { goes = c.in_ok-last_word.ensures.goes; roomy = refl; came = refl; asked = refl; client = refl; link = refl }
+    record {
+      goes = c.in_ok-last_word.ensures.goes;
+      roomy = refl;
+      came = refl;
+      asked = refl;
+      client = refl;
+      link = refl;
+      texts = itself_more _;
+    }

@@ -9,7 +9,7 @@ use Rattle.shared_core.specs.Stands.{tables}
 pub returns-in_ok-client_says-clause-spoken : goal.returns-in_ok-client_says-clause-spoken
 returns-in_ok-client_says-clause-spoken c =
     on_ok_weaker c.follow.result
-    (λ follows. spoken c.args.service.now c.args.link c.args.bytes.now c.args.client (tables c.args.self.now) (tables_of c.client_says.new.self.tables)
+    (λ follows. spoken c.args.service.now _ c.args.link c.args.bytes.now c.args.client (tables c.args.self.now) (tables_of c.client_says.new.self.tables)
     (tables c.follow.new.self) c.in_ok-client_says.ensures.is follows) c.follow.ensures.follows
 
 pub returns-in_ok-client_says-clause-keeps : goal.returns-in_ok-client_says-clause-keeps

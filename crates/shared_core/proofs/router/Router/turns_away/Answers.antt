@@ -27,4 +27,5 @@ returns-clause-keeps c =
       asked = next.asked;
       client = next.client;
       link = next.link;
+      texts = next.texts;
     }
