@@ -3,7 +3,10 @@ use Rattle.std.specs.Prelude.{◌≡◌, ℕ, zero, suc, ◌<◌, ◌&&◌, ◌|
 use Rattle.std.specs.List.{list_all, list_any}
 use Rattle.std.proofs.Common.{ap, arith, refl, subst, sym, ◌∙◌}
 use Rattle.std.proofs.lemmas.Bool.{and_parts, eqb-false, eqb-true}
+use Rattle.mx_base.specs.declared.names.Port.{Port}
+use Rattle.mx_base.specs.declared.names.Port.TheVariants.{Admin, Traffic}
 use Rattle.mx_wire.specs.Log.{Log}
+use Rattle.query_rules.specs.declared.rule.Rule.{Rule}
 use Rattle.packet_frame.specs.Packets.{Framed}
 use Rattle.log_story.specs.Owed.{messages, name_of}
 use Rattle.log_story.specs.Plan.{Plan, Route}
@@ -19,7 +22,7 @@ use Rattle.router_promises.specs.Takings.{Taking, message_in}
 use Rattle.promise_tests.proofs.Same.{all-so, same-bytes}
 use Rattle.core_promises.proofs.Texts.{keys_in}
 use Rattle.core_promises.specs.Judges.{AreJudged, IsRoutedFor, JudgesSo, Rulebook, Situation, rulebook_of, situation_of, takings_along, transaction_of}
-use Rattle.apart_cases.specs.Tests.{all_closed, all_say, are_closed, is_closed_in, says_this}
+use Rattle.apart_cases.specs.Tests.{all_closed, all_say, are_closed, is_clients, is_closed_in, says_this}
 
 same-some : {A : Type 0} (a b : A) → ◌≡◌ {A = Option A} (Some a) (Some b) → a ≡ b
 same-some a b is = cc
@@ -33,17 +36,22 @@ get-all f (y ∷ xs) zero k x all less is = absurd (omega (arith, less))
 get-all f (y ∷ xs) (suc n) zero x all less is = subst (λ z. f z ≡ true) (same-some y x is) (and_parts _ _ all).0
 get-all f (y ∷ xs) (suc n) (suc k) x all less is = get-all f xs n k x (and_parts _ _ all).1 (omega (arith, less)) is
 
--- a taking of the name is there, at which no transaction was open
+-- a taking of the name is there, of a client, at which no transaction was open
 record IsClosedIn (book : Rulebook) (setup : Setup) (plan : Plan) (takings : List Taking) (name : MessageName) : Type 0 where
   taking : Taking
   place : ℕ
   there : slice_get takings place ≡ Some taking
   named : message_in taking ≡ name
+  port : taking.client.port ≡ Traffic
   closed : transaction_of book (situation_of setup plan taking) ≡ None
 
 none-is : {A : Type 0} (o : Option A) → not (is_some o) ≡ true → o ≡ None
 none-is None is = refl
 none-is (Some a) is = absurd (cc)
+
+clients-port : (port : Port) → is_clients port ≡ true → port ≡ Traffic
+clients-port Traffic is = refl
+clients-port Admin is = absurd (cc)
 
 same-name : (a b : MessageName) → is_message a b ≡ true → a ≡ b
 same-name a b is =
@@ -57,11 +65,21 @@ closed-in book setup plan (taking ∷ takings) name any = by (is_closed_in book 
   by : (b : Bool) → is_closed_in book setup plan name taking ≡ b → (b || list_any (is_closed_in book setup plan name) takings) ≡ true
       → (list_any (is_closed_in book setup plan name) takings ≡ true → IsClosedIn book setup plan takings name) → IsClosedIn book setup plan (taking ∷ takings) name
   by true is some later =
-      let parts = and_parts (is_message (message_in taking) name) (not (is_some (transaction_of book (situation_of setup plan taking)))) is in
-      record { taking = taking; place = 0; there = refl; named = same-name (message_in taking) name parts.0; closed = none-is _ parts.1 }
+      let parts =
+      and_parts (is_message (message_in taking) name)
+      (is_clients taking.client.port && not (is_some (transaction_of book (situation_of setup plan taking)))) is in
+      let more = and_parts (is_clients taking.client.port) (not (is_some (transaction_of book (situation_of setup plan taking)))) parts.1 in
+      record {
+        taking = taking;
+        place = 0;
+        there = refl;
+        named = same-name (message_in taking) name parts.0;
+        port = clients-port taking.client.port more.0;
+        closed = none-is _ more.1;
+      }
   by false is some later =
       let found = later some in
-      record { taking = found.taking; place = suc found.place; there = found.there; named = found.named; closed = found.closed }
+      record { taking = found.taking; place = suc found.place; there = found.there; named = found.named; port = found.port; closed = found.closed }
 
 closed-at : (book : Rulebook) (setup : Setup) (plan : Plan) (takings : List Taking) (client : Client) (n k : ℕ) → are_closed book setup plan takings client n ≡ true → k < n
     → IsClosedIn book setup plan takings (name_of client (suc k))
@@ -78,16 +96,19 @@ closed-at book setup plan takings client (suc n) k all less = by (nat_eq k n) re
   by false other earlier = earlier (let apart : k ≡ n → ⊥ = eqb-false k n other in omega (arith, less, apart))
 
 module _ (terms : Terms) (log : Log) (payload : List ℕ) (route : Route) (goes : (m : MessageName) → (plan_in terms).routes m ≡ Some route)
-    (so : (c : ClientNo) (situation : Situation) → situation.user ≡ ((setup_in terms).accounts c).user
+    (so : (c : ClientNo) (situation : Situation) → situation.port ≡ Traffic → situation.user ≡ ((setup_in terms).accounts c).user
     → transaction_of (rulebook_of terms.router) situation ≡ None → IsRoutedFor (rulebook_of terms.router) situation (keys_in terms) c payload route) where
   abbrev book : Rulebook
   book = rulebook_of terms.router
+
+  abbrev rules : MessageName → List Rule
+  rules name = terms.router.rules
 
   abbrev takings : List Taking
   takings = takings_along (setup_in terms) (plan_in terms) first_tale log
 
   client-so : (client : Client) → says_this payload (plan_in terms) client ≡ true
-      → are_closed book (setup_in terms) (plan_in terms) takings client client.taken ≡ true → AreJudged book (setup_in terms) (plan_in terms) log client
+      → are_closed book (setup_in terms) (plan_in terms) takings client client.taken ≡ true → AreJudged book rules (setup_in terms) (plan_in terms) log client
   client-so client says closed k message within there =
       let same : message.payload ≡ payload =
       same-bytes _ _ (get-all (λ (m : Framed). bytes_eq m.payload payload) (messages (plan_in terms) client) client.taken k message says within there) in
@@ -99,7 +120,7 @@ module _ (terms : Terms) (log : Log) (payload : List ℕ) (route : Route) (goes 
         goes = λ other to.
             subst (IsRoutedFor book situation (keys_in terms) client.number message.payload) (same-some route other (sym (goes _) ∙ to))
             (subst (λ (p : List ℕ). IsRoutedFor book situation (keys_in terms) client.number p route) (sym same)
-            (so client.number situation (ap (λ (name : MessageName). ((setup_in terms).accounts name.client).user) found.named) found.closed));
+            (so client.number situation found.port (ap (λ (name : MessageName). ((setup_in terms).accounts name.client).user) found.named) found.closed));
         tells = λ own nowhere is. none-some route (sym nowhere ∙ goes _);
       }
 
@@ -116,10 +137,10 @@ module _ (terms : Terms) (log : Log) (payload : List ℕ) (route : Route) (goes 
       (list_all (λ (client : Client). are_closed book (setup_in terms) (plan_in terms) takings client client.taken) xs) closed in
       λ i. (one.0 i && two.0 i) && both-so xs one.1 two.1 i
 
-  pub judges-so : all_say payload (plan_in terms) (now_at terms log) ≡ true → all_closed terms log ≡ true → JudgesSo terms log
+  pub judges-so : all_say payload (plan_in terms) (now_at terms log) ≡ true → all_closed terms log ≡ true → JudgesSo terms rules log
   judges-so says closed =
-      subst (λ (t : Tale). All (AreJudged book (setup_in terms) (plan_in terms) log) t.clients) (now-tale terms log)
-      (all-so (AreJudged book (setup_in terms) (plan_in terms) log) passes (now_at terms log).tale.clients
+      subst (λ (t : Tale). All (AreJudged book rules (setup_in terms) (plan_in terms) log) t.clients) (now-tale terms log)
+      (all-so (AreJudged book rules (setup_in terms) (plan_in terms) log) passes (now_at terms log).tale.clients
       (λ client pass.
       let parts = and_parts (says_this payload (plan_in terms) client) (are_closed book (setup_in terms) (plan_in terms) takings client client.taken) pass in
       client-so client parts.0 parts.1)

@@ -1,6 +1,7 @@
 -- A query that isn't refused goes to a server of its user's hostgroup as it is, where there are no rules and a server is there.
 use Rattle.std.specs.Prelude.{◌≡◌, ℕ, Bool, true, false, not, ◌&&◌, ◌||◌, List, [], ◌∷◌, Option, Some, None, if◌then◌else◌, refl}
 use Rattle.std.proofs.Common.{sym}
+use Rattle.mx_base.specs.declared.names.Port.TheVariants.{Traffic}
 use Rattle.pin_classifier.specs.Classes.{class_of}
 use Rattle.pin_classifier.specs.declared.class.Class.{Class}
 use Rattle.pin_classifier.specs.declared.class.Refusal.{Refusal}
@@ -96,11 +97,12 @@ module _ (homes : (user : List ℕ) → Hostgroup) (hostgroups : List Hostgroup)
       is = asked (is_connection_id class.shape) plain free plain;
     }
 
-    pub goes-as-it-is : class.refusal ≡ None → is_connection_id class.shape ≡ false → transaction_of book situation ≡ None
+    pub goes-as-it-is : situation.port ≡ Traffic → class.refusal ≡ None → is_connection_id class.shape ≡ false → transaction_of book situation ≡ None
         → IsRoutedFor book situation keys c (com_query ∷ text) as_it_is
-    goes-as-it-is free plain closed = record {
+    goes-as-it-is port free plain closed = record {
       wanted = plainly;
       routed = refl;
       keyed = λ key is. absurd (let none : None ≡ Some key = is in cc);
+      port = port;
       is = for free plain closed;
     }

@@ -1,9 +1,11 @@
 -- The worked log of router_cases, where it waits, and what the router says there by itself.
-use Rattle.std.specs.Prelude.{◌≡◌, ℕ, Bool, true, false, [], ◌∷◌, Option, Some, None, if◌then◌else◌, refl}
+use Rattle.std.specs.Prelude.{◌≡◌, ℕ, Bool, true, false, List, [], ◌∷◌, Option, Some, None, if◌then◌else◌, refl}
 use Rattle.std.proofs.Common.{ap, subst}
 use Rattle.client_session.specs.Errors.{connection_refused}
 use Rattle.mx_wire.specs.Moments.{AllLawful}
-use Rattle.private_model.specs.Names.{ClientNo, Hostgroup}
+use Rattle.mx_base.specs.declared.names.Port.TheVariants.{Traffic}
+use Rattle.query_rules.specs.declared.rule.Rule.{Rule}
+use Rattle.private_model.specs.Names.{ClientNo, Hostgroup, MessageName}
 use Rattle.private_model.specs.Story.{Key, is_message}
 use Rattle.log_story.specs.Plan.{LastWord, OwnAnswer, Route, com_query}
 use Rattle.own_words.specs.Own.{GivesUp, IsOwn, NoLink, SpeaksOwn}
@@ -35,13 +37,13 @@ waits-worked stored =
 
 -- Each message is an INSERT, which goes to the one server, in its user's hostgroup.
 
-goes-there : (keys : (key : ℕ) → Option Key) (c : ClientNo) (situation : Situation) → situation.user ≡ anybody.user → transaction_of (rulebook_of router) situation ≡ None
+goes-there : (keys : (key : ℕ) → Option Key) (c : ClientNo) (situation : Situation) → situation.port ≡ Traffic → situation.user ≡ anybody.user → transaction_of (rulebook_of router) situation ≡ None
     → IsRoutedFor (rulebook_of router) situation keys c (com_query ∷ insert) route
 unfolding on_classes
-goes-there keys c situation login closed =
+goes-there keys c situation port login closed =
     subst (λ (home : Hostgroup). IsRoutedFor (rulebook_of router) situation keys c (com_query ∷ insert) (record (plain_route home) { text = Some insert }))
     (ap (home_of router) login)
-    (goes-as-it-is (home_of router) (group ∷ []) situation keys c insert refl refl refl refl closed)
+    (goes-as-it-is (home_of router) (group ∷ []) situation keys c insert refl refl port refl refl closed)
 
 said : (stored : Stored) → all_say (com_query ∷ insert) plan (now_at (terms_with stored) log) ≡ true
 unfolding on_logs
@@ -51,7 +53,11 @@ closed : (stored : Stored) → all_closed (terms_with stored) log ≡ true
 unfolding on_logs
 closed stored = refl
 
-pub judges-worked : (stored : Stored) → JudgesSo (terms_with stored) log
+-- by the configuration's rules
+abbrev pub rules : MessageName → List Rule
+rules name = router.rules
+
+pub judges-worked : (stored : Stored) → JudgesSo (terms_with stored) rules log
 judges-worked stored =
     judges-so (terms_with stored) log (com_query ∷ insert) route (λ m. refl) (goes-there (keys_in (terms_with stored))) (said stored) (closed stored)
 
@@ -78,7 +84,7 @@ answer-so : (client : ClientNo) (is_first : Bool) (answer : OwnAnswer) → ◌�
 answer-so client true answer is = subst (λ (a : OwnAnswer). IsOwn router.rules client a.payloads) (one-answer refused answer is) (GivesUp connection_refused NoLink)
 answer-so client false answer is = no-answer answer is
 
-pub speaks-worked : SpeaksOwn router.rules plan
+pub speaks-worked : SpeaksOwn rules plan
 speaks-worked = record {
   own = λ m answer is. answer-so m.client (is_message m (message 1 1)) answer is;
   words = λ c word is. no-word word is;

@@ -3,6 +3,7 @@ use Rattle.std.specs.Prelude.{Bool, true, false, not, is_some, ◌&&◌, ◌||�
 use Rattle.std.specs.List.{list_all, list_any}
 use Rattle.std.specs.Option.{option_map_or}
 use Rattle.mx_base.specs.declared.names.LinkId.{LinkId}
+use Rattle.mx_base.specs.declared.names.Port.{Port}
 use Rattle.mx_base.specs.declared.names.Port.TheVariants.{Admin, Traffic}
 use Rattle.mx_wire.specs.Log.{Log, is_open, written_of}
 use Rattle.mx_wire.specs.declared.entry.Entry.{Entry}
@@ -59,10 +60,15 @@ waits terms log now WaitFailed = is_done terms log now
 waits terms log now Over = is_done terms log now
 waits terms log now _ = true
 
--- the message of this name is one of these takings, and no transaction of its client was open then
+abbrev pub is_clients : Port → Bool
+is_clients Traffic = true
+is_clients Admin = false
+
+-- the message of this name is one of these takings, of a client, and no transaction of it was open then
 abbrev pub is_closed_in : Rulebook → Setup → Plan → MessageName → Taking → Bool
 is_closed_in book setup plan name taking =
-    is_message (message_in taking) name && not (is_some (transaction_of book (situation_of setup plan taking)))
+    is_message (message_in taking) name
+    && (is_clients taking.client.port && not (is_some (transaction_of book (situation_of setup plan taking))))
 
 abbrev pub are_closed : Rulebook → Setup → Plan → List Taking → Client → (count : ℕ) → Bool
 are_closed book setup plan takings client zero = true

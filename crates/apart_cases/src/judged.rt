@@ -1,6 +1,6 @@
 // Routers that do with a message what no verdict says.
 ghost use Rattle.std.specs.Prelude.{◌≡◌, ℕ, List, [], ◌∷◌, codes};
-ghost use Rattle.core_promises.specs.Wrong.{AnswersBy, AsksFor, SendsBy};
+ghost use Rattle.core_promises.specs.Wrong.{AnswersBy, AsksFor, SendsBy, book_up};
 ghost use Rattle.log_story.specs.Plan.{Route, com_query};
 ghost use Rattle.reply_text.specs.Replies.{ok_payload};
 ghost use Rattle.router_promises.specs.Terms.{Terms};
@@ -11,8 +11,8 @@ use core_promises::{answers_for_a_server, sends_another_command, sends_what_is_r
 /// Where there are no rules, a query is answered OK in place of a server.
 pub fn answers_ok_by_itself()
     ensures { (terms : Terms) (text info : List ℕ) (status : ℕ)
-        → AnswersBy terms (com_query ∷ text) (ok_payload status info ∷ [])
-        → terms.router.rules ≡ [] → ⊥ }
+        (answers : AnswersBy terms (com_query ∷ text) (ok_payload status info ∷ []))
+        → (book_up answers.up).rules ≡ [] → ⊥ }
 {
     answers_for_a_server();
 }

@@ -1,5 +1,9 @@
 // A log that keeps clients apart.
+ghost use Rattle.std.specs.Prelude.{List};
 ghost use Rattle.core_promises.specs.Asks.{CopiesNothing};
+ghost use Rattle.core_promises.specs.InForce.{MayRule};
+ghost use Rattle.private_model.specs.Names.{MessageName};
+ghost use Rattle.query_rules.specs.declared.rule.Rule.{Rule};
 ghost use Rattle.core_promises.specs.Judges.{JudgesSo};
 ghost use Rattle.core_promises.specs.Sessions.{KeepsApart, Separates};
 ghost use Rattle.core_promises.specs.Waits.{WaitsSo};
@@ -17,8 +21,9 @@ use router_promises::said_log;
 /// what the verdict says that serves no prepared statements, and sends none to two servers.
 pub fn kept_is_apart()
     ensures { (terms : Terms) (log : Log) → Keeps terms log
-        → SpeaksOwn terms.router.rules (plan_in terms)
-        → AllLawful (WaitsSo terms) log → JudgesSo terms log
+        → (rules : MessageName → List Rule) → ((name : MessageName) → MayRule terms.router.rules log (rules name))
+        → SpeaksOwn rules (plan_in terms)
+        → AllLawful (WaitsSo terms) log → JudgesSo terms rules log
         → CopiesNothing (plan_in terms) → KeepsApart terms log }
 {
     said_log();

@@ -19,6 +19,7 @@ use Rattle.log_story.specs.Tale.{Client}
 use Rattle.client_seat.specs.Seats.{Seat}
 use Rattle.client_seat.specs.Stands.{IsEntering, IsServed, IsWho, IsWrittenOf, Known, due_so_far}
 use Rattle.client_seat.specs.Turns.{admitted, stepped}
+use Rattle.client_session.specs.Setups.{users_at}
 
 pub goes : (plan : Plan) (client : Client) (seat : Seat) → IsWho client seat → (was : IsEntering plan client seat)
     → HasStepped (next_of seat.client.stage seat.client).step (next_of seat.client.stage seat.client).client plan.service.limit plan.service.version client.read
@@ -66,7 +67,7 @@ pub enters : (x : Known) (client : Client) (seat : Seat) (default : List ℕ) (u
     → (next_of seat.client.stage seat.client).client.framer.fault ≡ None
     → opening x.plan.service.limit client.read ≡ Says switched response first (next_of seat.client.stage seat.client).client.framer.kept
     → was.written ++ (stepped seat).outbox.due ≡ said_to (next_of seat.client.stage seat.client).client x.plan.service.version switched
-    → account_of x.plan.service.users client.salt response ≡ Some user
+    → account_of (users_at x.plan.service client.port) client.salt response ≡ Some user
     → IsServed x.plan client (admitted default user response first (stepped seat)) user
     × IsWrittenOf client (admitted default user response first (stepped seat)) (due_so_far x client)
 enters x client seat default user response first switched who was faultless is said known =
@@ -88,7 +89,7 @@ enters x client seat default user response first switched who was faultless is s
         all =
             only-front x client was.untaken ∙ ap (front_in (talk_of x.plan client)) is
             ∙ ap (λ (found : Option Account). greeted (talk_of x.plan client) switched
-            ++ spelling first (login_answer (denial_of x.plan.service.users client.salt response) found)) known
+            ++ spelling first (login_answer (denial_of (users_at x.plan.service client.port) client.salt response) found)) known
             ∙ ap (λ (bytes : List ℕ). bytes ++ spelling first own_ok)
             (sym (said-same x.plan client seat (next_of seat.client.stage seat.client).client switched who same.0 same.1) ∙ sym said)
             ∙ append_assoc was.written (stepped seat).outbox.due (spelling first own_ok);

@@ -12,7 +12,7 @@ use Rattle.client_side.specs.Client.{counted}
 use Rattle.client_side.specs.Laws.{logging-fed, opening-says-more}
 use Rattle.client_side.specs.Login.{Fails, Opening, Says, Waits}
 use Rattle.client_session.specs.Accounts.{account_of}
-use Rattle.client_session.specs.Answers.{Talk, account, account_in, commands, commands_in, front, front_in, heard_more, if_known, opening_of}
+use Rattle.client_session.specs.Answers.{Talk, account, account_in, commands, commands_in, front, front_in, heard_more, if_known, opening_of, users_of}
 use Rattle.log_story.specs.Owed.{messages, talk_of}
 use Rattle.log_story.specs.Plan.{Plan}
 use Rattle.log_story.specs.Tale.{Client}
@@ -42,12 +42,12 @@ goes-on talk more user known = by (opening_of talk) refl where
   by (Says switched response id rest) is =
       let later : opening_of (heard_more talk more) ≡ Says switched response id (rest ++ more) =
       opening-says-more talk.setup.limit talk.read more switched response id rest is in
-      let is_user : account_of talk.setup.users talk.salt response ≡ Some user = ap (account_in talk) (sym is) ∙ known in
+      let is_user : account_of (users_of talk) talk.salt response ≡ Some user = ap (account_in talk) (sym is) ∙ known in
       record {
         same = ap (account_in (heard_more talk more)) later ∙ is_user;
         commands =
             ap (commands_in (heard_more talk more)) later
-            ∙ known-in talk user (account_of talk.setup.users talk.salt response) rest more is_user
+            ∙ known-in talk user (account_of (users_of talk) talk.salt response) rest more is_user
             ∙ ap (λ (bytes : List ℕ). bytes ++ more) (ap (commands_in talk) (sym is));
         front = ap (front_in (heard_more talk more)) later ∙ ap (front_in talk) (sym is);
       }

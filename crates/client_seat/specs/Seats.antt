@@ -1,6 +1,6 @@
 -- A client's seat, and what is asked of it.
 use Rattle.std.specs.Prelude.{ℕ, Bool, true, false, ◌&&◌, ◌||◌, List, [], ◌∷◌, length, nat_eq, nat_lt, not, Option, Some, None}
-use Rattle.mx_base.specs.declared.names.{ClientNo.ClientNo, LinkId.LinkId, Port.Port, Port.TheVariants.Admin, Port.TheVariants.Traffic}
+use Rattle.mx_base.specs.declared.names.{ClientNo.ClientNo, LinkId.LinkId, Port.Port}
 use Rattle.packet_frame.specs.Packets.{spelling}
 use Rattle.handshake.specs.declared.response.Response.{Response}
 use Rattle.server_side.specs.Account.{Account}
@@ -37,9 +37,10 @@ place_by class ok place = record {
 
 -- A client that comes.
 
-abbrev pub seat_of : LinkId → ClientState → ClientStatements → Seat
-seat_of link client statements = record {
+abbrev pub seat_of : LinkId → Port → ClientState → ClientStatements → Seat
+seat_of link port client statements = record {
   link = link;
+  port = port;
   client = client;
   phase = phase.LoggingIn;
   switched = false;
@@ -60,9 +61,9 @@ drained seat = record seat {
   outbox = said seat.client.outgoing seat.outbox;
 }
 
-abbrev pub new_seat : LinkId → ClientNo → (salt : List ℕ) → Setup → ClientStatements → Seat
-new_seat link number salt setup statements =
-    record (seat_of link (told_first number salt setup.limit []) statements) {
+abbrev pub new_seat : LinkId → ClientNo → (salt : List ℕ) → Port → Setup → ClientStatements → Seat
+new_seat link number salt port setup statements =
+    record (seat_of link port (told_first number salt setup.limit []) statements) {
       outbox = record { due = greeting_said number.0 salt setup.version; coming = [] };
     }
 
@@ -70,15 +71,14 @@ new_seat link number salt setup statements =
 abbrev pub ended : Seat → Seat
 ended seat = record seat { phase = phase.Ended }
 
-abbrev pub away_bytes : Port → List ℕ
-away_bytes Traffic = spelling 0 too_many_connections
-away_bytes Admin = []
+abbrev pub away_bytes : List ℕ
+away_bytes = spelling 0 too_many_connections
 
 abbrev pub turned_away : LinkId → ClientNo → (salt : List ℕ) → Port → ClientStatements → Seat
 turned_away link number salt port statements =
-    record (seat_of link (told_first number salt 0 []) statements) {
+    record (seat_of link port (told_first number salt 0 []) statements) {
       phase = phase.Ended;
-      outbox = record { due = away_bytes port; coming = [] };
+      outbox = record { due = away_bytes; coming = [] };
     }
 
 -- Bytes come and go.

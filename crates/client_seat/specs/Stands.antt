@@ -40,6 +40,7 @@ answer_to x client ordinal message =
 pub record IsWho (client : Client) (seat : Seat) : Type 0 where
   pub link : seat.link ≡ client.link
   pub number : seat.client.number ≡ client.number
+  pub port : seat.port ≡ client.port
   pub salt : seat.client.salt ≡ client.salt
   pub drained : seat.client.outgoing ≡ []
 

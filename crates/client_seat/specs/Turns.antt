@@ -13,7 +13,7 @@ use Rattle.client_side.specs.declared.step.ClientStep.TheVariants as says
 use Rattle.client_session.specs.Accounts.{account_of, denial_of}
 use Rattle.client_session.specs.Answers.{fault_error}
 use Rattle.client_session.specs.Errors.{own_ok}
-use Rattle.client_session.specs.Setups.{Setup}
+use Rattle.client_session.specs.Setups.{Setup, users_at}
 use Rattle.client_seat.specs.Outgoing.{said}
 use Rattle.client_seat.specs.Seats.{Seat, drained, first_place, has_room}
 use Rattle.client_seat.specs.declared.next.Next.{Next}
@@ -70,11 +70,11 @@ abbrev pub logs_in_as : Option Account → Setup → (default : List ℕ) → Re
 logs_in_as (Some account) setup default response first seat =
     next_message setup.limit (admitted default account response first seat)
 logs_in_as None setup default response first seat =
-    leaves (spelling first (denial_of setup.users seat.client.salt response)) seat
+    leaves (spelling first (denial_of (users_at setup seat.port) seat.client.salt response)) seat
 
 abbrev pub logs_in : Setup → (default : List ℕ) → Response → (first : ℕ) → Seat → Turn
 logs_in setup default response first seat =
-    logs_in_as (account_of setup.users seat.client.salt response) setup default response first seat
+    logs_in_as (account_of (users_at setup seat.port) seat.client.salt response) setup default response first seat
 
 abbrev pub logs_in_if : Setup → (default : List ℕ) → Option Response → (first : ℕ) → Seat → Turn
 logs_in_if setup default None first seat = rests seat

@@ -22,6 +22,7 @@ ghost use Rattle.client_seat.specs.Seats.{Seat, got, wrote};
 ghost use Rattle.client_seat.specs.Stands.{Answers, IsEntering, IsHeard, IsNext, IsNumbered, IsOnward, IsServed, IsWho, IsWrittenOf, Known, Makes, answer_to, due_so_far, is_refused};
 ghost use Rattle.client_seat.specs.Takings.{passed};
 ghost use Rattle.client_seat.specs.Turns.{admitted, stepped};
+ghost use Rattle.client_session.specs.Setups.{users_at};
 
 /// A seat stands for its client as bytes are read of it, and as its messages are taken up: what is kept stands behind those
 /// that were, so the message that is found is the client's next.
@@ -62,7 +63,7 @@ pub fn seats_log_in()
         (next_of seat.client.stage seat.client).client.framer.kept →
         was.written ++ (stepped seat).outbox.due ≡ said_to
         (next_of seat.client.stage seat.client).client x.plan.service.version switched →
-        account_of x.plan.service.users client.salt response ≡ Some user →
+        account_of (users_at x.plan.service client.port) client.salt response ≡ Some user →
         IsServed x.plan client (admitted default user response first (stepped seat)) user
         × IsWrittenOf client (admitted default user response first (stepped seat))
         (due_so_far x client) }

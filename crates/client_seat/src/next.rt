@@ -124,7 +124,7 @@ impl Seat {
         let Some(response) = self.client.login() else {
             unreachable!()
         };
-        match account_of(alloc, setup, response, self.client.salt())? {
+        match account_of(alloc, setup, self.port, response, self.client.salt())? {
             Some(account) => {
                 self.admit(alloc, first, account, default_schema)?;
                 self.next_message(alloc, setup.limit())
@@ -136,6 +136,7 @@ impl Seat {
                     &mut packet,
                     first,
                     setup,
+                    self.port,
                     response,
                     self.client.salt(),
                 )?;

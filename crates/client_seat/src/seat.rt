@@ -19,7 +19,9 @@ const AHEAD: u64 = 1_048_576;
 /// written to it.
 #[derive(Drop)]
 pub struct Seat {
+    /// The link and the port on which it came.
     pub link: LinkId,
+    pub port: Port,
     /// Its number, its login, and its messages. What it says itself to the client goes to `outbox` at once.
     pub client: Client,
     pub phase: Phase,
@@ -49,14 +51,15 @@ impl Seat {
     ghost use Rattle.client_seat.specs.Seats.{account_in, drained, ended, got, has_room, is_finished, new_seat, seat_of, turned_away, wants_read, wrote};
 
     // A seat to which nothing is to be written but what its client's link says.
-    fn of(alloc: Global, link: LinkId, client: Client) -> Result<Self, OutOfMemory>
-        ensures is { IfOk result (λ seat. seat ≡ seat_of link client seat.statements) }
+    fn of(alloc: Global, link: LinkId, port: Port, client: Client) -> Result<Self, OutOfMemory>
+        ensures is { IfOk result (λ seat. seat ≡ seat_of link port client seat.statements) }
         ensures none { IfOk result (λ seat. (number : ℕ) → statement_at seat.statements number ≡ None) }
         ensures unnumbered { IfOk result (λ seat. seat.statements.last ≡ 0) }
     {
         let settings = Settings::defaults(alloc)?;
         Ok(Seat {
             link,
+            port,
             client,
             phase: Phase::LoggingIn,
             switched: false,
@@ -91,20 +94,20 @@ impl Seat {
         link: LinkId,
         number: ClientNo,
         salt: [u8; 20],
+        port: Port,
         setup: &Setup,
     ) -> Result<Self, OutOfMemory>
-        ensures is { IfOk result (λ seat. seat ≡ new_seat link number salt setup.now seat.statements) }
+        ensures is { IfOk result (λ seat. seat ≡ new_seat link number salt port setup.now seat.statements) }
         ensures none { IfOk result (λ seat. (number : ℕ) → statement_at seat.statements number ≡ None) }
         ensures unnumbered { IfOk result (λ seat. seat.statements.last ≡ 0) }
     {
         let client = Client::new(alloc, number, salt, setup.limit(), setup.version())?;
-        let mut seat = Seat::of(alloc, link, client)?;
+        let mut seat = Seat::of(alloc, link, port, client)?;
         seat.drain()?;
         Ok(seat)
     }
 
-    /// A client that isn't served, and nothing is read of it: at the port of clients error 1040 is due to it, alone, and at
-    /// that of administrators nothing.
+    /// A client that isn't served, and nothing is read of it: error 1040 is due to it, alone.
     pub fn turned_away(
         alloc: Global,
         link: LinkId,
@@ -115,11 +118,9 @@ impl Seat {
         ensures is { IfOk result (λ seat. seat ≡ turned_away link number salt port seat.statements) }
     {
         let mut packet = Vec::new(alloc);
-        if port == Port::Traffic {
-            write_refusal(alloc, &mut packet, 0, Refusal::TooManyConnections)?;
-        }
+        write_refusal(alloc, &mut packet, 0, Refusal::TooManyConnections)?;
         let client = Client::told(alloc, number, salt, 0, &packet)?;
-        let mut seat = Seat::of(alloc, link, client)?;
+        let mut seat = Seat::of(alloc, link, port, client)?;
         seat.drain()?;
         seat.end();
         Ok(seat)

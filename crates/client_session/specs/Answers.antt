@@ -1,7 +1,8 @@
 -- What a client says, the answer to its login, and the answer to a message that can't be. What it is due in all stands in promises.
 use Rattle.std.specs.Prelude.{Bool, List, None, Ok, Option, Result, Some, [], false, true, ℕ, ◌++◌}
 use Rattle.client_session.specs.{Accounts.account_of, Accounts.denial_of, Errors.bad_handshake, Errors.own_ok, Errors.packet_out_of_order}
-use Rattle.client_session.specs.{Errors.packet_too_large, Setups.Setup}
+use Rattle.client_session.specs.{Errors.packet_too_large, Setups.Setup, Setups.User, Setups.users_at}
+use Rattle.mx_base.specs.declared.names.{Port.Port}
 use Rattle.client_side.specs.{Login.Fails, Login.Opening, Login.Says, Login.Waits, Login.fault_id, Login.login_limit, Login.opening, Reading.said}
 use Rattle.client_side.specs.{declared.step.ClientFault.ClientFault, declared.step.ClientFault.TheVariants.Frame, declared.step.ClientFault.TheVariants.Hand}
 use Rattle.command_parse.specs.{Meaning.Meaning, Meaning.parsed, Meaning.Meaning.FieldList, Meaning.Meaning.InitDb, Meaning.Meaning.Query, Meaning.Meaning.Quit}
@@ -12,12 +13,17 @@ use Rattle.{handshake.specs.declared.response.Response.Response, server_side.spe
 
 -- What a client says.
 
--- what sessions go by, the client's number and salt, and the bytes that were read of it
+-- what sessions go by, the client's port, number and salt, and the bytes that were read of it
 pub record Talk : Type 0 where
   pub setup : Setup
+  pub port : Port
   pub number : ℕ
   pub salt : List ℕ
   pub read : List ℕ
+
+-- who may log in where it came
+abbrev pub users_of : Talk → List User
+users_of talk = users_at talk.setup talk.port
 
 abbrev pub heard_more : Talk → List ℕ → Talk
 heard_more talk more = record talk { read = talk.read ++ more }
@@ -36,7 +42,7 @@ lacks_login talk = waits_in (opening_of talk)
 
 -- who it is, once it is logged in
 abbrev pub account_in : Talk → Opening → Option Account
-account_in talk (Says switched response id rest) = account_of talk.setup.users talk.salt response
+account_in talk (Says switched response id rest) = account_of (users_of talk) talk.salt response
 account_in talk _ = None
 
 abbrev pub account : Talk → Option Account
@@ -48,7 +54,7 @@ if_known None rest = []
 if_known (Some account) rest = rest
 
 abbrev pub commands_in : Talk → Opening → List ℕ
-commands_in talk (Says switched response id rest) = if_known (account_of talk.setup.users talk.salt response) rest
+commands_in talk (Says switched response id rest) = if_known (account_of (users_of talk) talk.salt response) rest
 commands_in talk _ = []
 
 abbrev pub commands : Talk → List ℕ
@@ -72,7 +78,7 @@ login_answer denial (Some account) = own_ok
 
 abbrev pub answer_to_login : Talk → Response → List ℕ
 answer_to_login talk response =
-    login_answer (denial_of talk.setup.users talk.salt response) (account_of talk.setup.users talk.salt response)
+    login_answer (denial_of (users_of talk) talk.salt response) (account_of (users_of talk) talk.salt response)
 
 abbrev pub frame_error : (limit : ℕ) → FrameFault → List ℕ
 frame_error limit (OutOfOrder expected found) = packet_out_of_order expected found

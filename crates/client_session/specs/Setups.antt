@@ -1,5 +1,6 @@
 -- What sessions go by.
-use Rattle.std.specs.Prelude.{Bool, List, Option, is_some, length, ℕ, ◌≤◌}
+use Rattle.std.specs.Prelude.{Bool, List, Option, [], is_some, length, ℕ, ◌∷◌, ◌≤◌}
+use Rattle.mx_base.specs.declared.names.{Port.Port, Port.TheVariants.Admin, Port.TheVariants.Traffic}
 use Rattle.{client_session.specs.declared.setup.ServerAt.ServerAt, handshake.specs.Spelling.IsText}
 
 -- who may log in
@@ -7,14 +8,20 @@ pub record User : Type 0 where
   pub name : List ℕ
   pub password : List ℕ
 
--- the version that clients are told, who may log in, the longest payload of a client's message, how many clients may be connected, and the
--- server that queries go to
+-- the version that clients are told, who may log in at the port of clients and at that of administrators, the longest payload of a client's
+-- message, how many clients may be connected, and the server that queries go to
 pub record Setup : Type 0 where
   pub version : List ℕ
   pub users : List User
+  pub admin : User
   pub limit : ℕ
   pub max_clients : ℕ
   pub target : Option ServerAt
+
+-- who may log in at a port
+abbrev pub users_at : Setup → Port → List User
+users_at setup Traffic = setup.users
+users_at setup Admin = setup.admin ∷ []
 
 -- a server is configured
 abbrev pub has_server : Setup → Bool

@@ -3,11 +3,12 @@ ghost use Rattle.std.specs.Prelude.{◌≡◌, ◌++◌, OnOk, IfOk};
 ghost use Rattle.std.specs.Option.{option_copied};
 ghost use Rattle.packet_frame.specs.Packets.{spelling};
 ghost use Rattle.client_session.specs.Accounts.{find_user, answers_for, account_by, known_of, account_of, denial_of};
+ghost use Rattle.client_session.specs.Setups.{users_at};
 
 use crate::refusal::{write_denied, write_unserved};
 use crate::setup::{Setup, User};
 use handshake::Response;
-use mx_base::{Bytes, OutOfMemory};
+use mx_base::{Bytes, OutOfMemory, Port};
 use native_auth::check;
 use server_side::Account;
 use session_vars::is_served_collation;
@@ -62,28 +63,30 @@ fn account_by(
 fn known_of(
     alloc: Global,
     setup: &Setup,
+    port: Port,
     response: &Response,
     salt: &[u8; 20],
 ) -> Result<Option<Account>, OutOfMemory>
-    ensures { IfOk result (λ account. account ≡ known_of setup.now.users salt.now response.now) }
+    ensures { IfOk result (λ account. account ≡ known_of (users_at setup.now port) salt.now response.now) }
 {
-    let user = find_user(setup.users(), response.user.as_slice());
+    let user = find_user(setup.users_at(port), response.user.as_slice());
     account_by(alloc, salt, response, user)
 }
 
-/// Who the client is: the user that it names, where its answer to the salt is that of the user's password, and its collation
+/// Who the client is: the user of its port that it names, where its answer to the salt is that of the user's password, and its collation
 /// is one that is served; else nobody.
 #[tactic(auto, unfolding(crate::specs::Accounts::account_of))]
 pub fn account_of(
     alloc: Global,
     setup: &Setup,
+    port: Port,
     response: &Response,
     salt: &[u8; 20],
 ) -> Result<Option<Account>, OutOfMemory>
-    ensures { IfOk result (λ account. account ≡ account_of setup.now.users salt.now response.now) }
+    ensures { IfOk result (λ account. account ≡ account_of (users_at setup.now port) salt.now response.now) }
 {
     if is_served_collation(response.collation) {
-        known_of(alloc, setup, response, salt)
+        known_of(alloc, setup, port, response, salt)
     } else {
         Ok(None)
     }
@@ -98,13 +101,14 @@ pub fn write_denial(
     out: &mut Vec<u8>,
     first: u8,
     setup: &Setup,
+    port: Port,
     response: &Response,
     salt: &[u8; 20],
 ) -> Result<(), OutOfMemory>
     ensures { OnOk result (out.new.items ≡ out.old.items
-        ++ spelling first (denial_of setup.now.users salt.now response.now)) }
+        ++ spelling first (denial_of (users_at setup.now port) salt.now response.now)) }
 {
-    match known_of(alloc, setup, response, salt)? {
+    match known_of(alloc, setup, port, response, salt)? {
         Some(_) => write_unserved(alloc, out, first, response.collation),
         None => write_denied(alloc, out, first, response.user.as_slice()),
     }

@@ -1,5 +1,5 @@
 // What sessions go by.
-use mx_base::{Address, Bytes, ServerId};
+use mx_base::{Address, Bytes, Port, ServerId};
 use std::marker::Model;
 
 /// A server, and where it stands.
@@ -59,6 +59,7 @@ impl User {
 pub struct Setup {
     version: Bytes,
     users: Vec<User>,
+    admin: User,
     limit: u64,
     max_clients: u32,
     target: Option<ServerAt>,
@@ -69,7 +70,7 @@ impl Model for Setup {
 
     ghost Value = { Setup };
 
-    ghost view = { λ s. record { version = s.version; users = s.users.items; limit = s.limit; max_clients = s.max_clients; target = s.target } };
+    ghost view = { λ s. record { version = s.version; users = s.users.items; admin = s.admin; limit = s.limit; max_clients = s.max_clients; target = s.target } };
 
     ghost invariant = { λ s. IsSound s.version s.limit };
 }
@@ -77,13 +78,15 @@ impl Model for Setup {
 impl Setup {
     ghost use Rattle.std.specs.Prelude.{◌≡◌, ◌≤◌, length, is_some};
     ghost use Rattle.handshake.specs.Spelling.{IsText};
-    ghost use Rattle.client_session.specs.Setups.{Setup, has_server, most_message};
+    ghost use Rattle.client_session.specs.Setups.{Setup, has_server, most_message, users_at};
 
-    /// The version that clients are told, at most 255 bytes without a NUL; who may log in; the longest payload of a client's message, in
-    /// bytes, 1 GiB at most; how many clients may be connected; and the server that queries go to, where one is configured.
+    /// The version that clients are told, at most 255 bytes without a NUL; who may log in at the port of clients, and who at that of
+    /// administrators; the longest payload of a client's message, in bytes, 1 GiB at most; how many clients may be connected; and the server
+    /// that queries go to, where one is configured.
     pub fn new(
         version: Bytes,
         users: Vec<User>,
+        admin: User,
         limit: u64,
         max_clients: u32,
         target: Option<ServerAt>,
@@ -91,11 +94,12 @@ impl Setup {
         requires text { IsText version }
         requires short { length version ≤ 255 }
         requires limit { limit ≤ most_message }
-        ensures { result ≡ record { version = version; users = users.items; limit = limit; max_clients = max_clients; target = target } }
+        ensures { result ≡ record { version = version; users = users.items; admin = admin; limit = limit; max_clients = max_clients; target = target } }
     {
         Setup {
             version,
             users,
+            admin,
             limit,
             max_clients,
             target,
@@ -111,11 +115,14 @@ impl Setup {
         self.version.as_slice()
     }
 
-    /// Who may log in.
-    pub fn users(&self) -> &[User]
-        ensures { result.now ≡ self.now.users }
+    /// Who may log in at a port.
+    pub fn users_at(&self, port: Port) -> &[User]
+        ensures { result.now ≡ users_at self.now port }
     {
-        &self.users
+        match port {
+            Port::Traffic => &self.users,
+            Port::Admin => std::slice::from_ref(&self.admin),
+        }
     }
 
     /// The longest payload of a client's message, in bytes.

@@ -1,3 +1,4 @@
+pub mod Knowing
 pub mod Keeping
 pub mod Rows
 pub mod Mapping

@@ -1,8 +1,7 @@
 // What is asked for: closes first, and then opens.
 
-use crate::policy::Policy;
+use crate::policy::{MOST_LINKS, Policy};
 use crate::todo::{MAY_WANT, no_room};
-use core_service::Service;
 use core_tables::Tables;
 use mx_base::{Address, ClientNo, Hostgroup, LinkId, ServerId};
 
@@ -27,14 +26,14 @@ pub enum Asks {
 
 impl Policy {
     /// What is asked for next. Takes no memory.
-    pub fn asks(&mut self, tables: &Tables, service: &Service) -> Option<Asks> {
+    pub fn asks(&mut self, tables: &Tables) -> Option<Asks> {
         if let Some(part) = self.next_parting(tables) {
             return Some(part);
         }
         if let Some(close) = self.next_close() {
             return Some(close);
         }
-        self.next_open(service)
+        self.next_open()
     }
 
     // The next client that parts.
@@ -102,24 +101,32 @@ impl Policy {
     }
 
     // What is opened next, or closed to make room for that.
-    fn next_open(&mut self, service: &Service) -> Option<Asks> {
+    fn next_open(&mut self) -> Option<Asks> {
         for _ in 0..u32::MAX {
             let key = self.next_key()?;
-            if let Some(asks) = self.open_for(service, key) {
+            if let Some(asks) = self.open_for(key) {
                 return Some(asks);
             }
         }
         None
     }
 
-    fn open_for(&mut self, service: &Service, key: u32) -> Option<Asks> {
+    // The server of which a link is opened next in a hostgroup. Links to servers that have gone count too, until they are closed.
+    fn next_server(&mut self, hostgroup: Hostgroup) -> Option<ServerId> {
+        if self.links.len() >= MOST_LINKS as usize {
+            return None;
+        }
+        self.servers.pick(hostgroup, self.pool.connections())
+    }
+
+    fn open_for(&mut self, key: u32) -> Option<Asks> {
         self.todo.keys.opens.take(key);
         if !self.wants_link(key) {
             self.may_lend(key);
             return None;
         }
         let hostgroup = self.keys.row(key)?.hostgroup;
-        if let Some(server) = self.servers.pick(hostgroup, self.pool.connections()) {
+        if let Some(server) = self.next_server(hostgroup) {
             let address = self.servers.row(server)?.address;
             self.may_want(key);
             return Some(Asks::Opens(Asked {
@@ -128,7 +135,7 @@ impl Policy {
                 key,
             }));
         }
-        if let Some(slot) = self.pool.evict(service.group(hostgroup)) {
+        if let Some(slot) = self.pool.evict(u32::from(hostgroup.0)) {
             self.todo.links.closes.put(slot);
             self.may_want(key);
             return self.next_close();

@@ -3,10 +3,14 @@
 use crate::parts::ClientPart;
 use crate::policy::Policy;
 use crate::waiting::unsent;
+use admin_port::EventKind;
 use client_seat::Phase;
 use core_service::Service;
 use core_tables::{Client, Tables};
 use mx_base::{ClientNo, OutOfMemory, Port};
+
+/// How many administrators are served at a time.
+const MOST_ADMINS: u64 = 16;
 
 /// Whether no more is read of a client.
 pub(crate) fn is_ended(row: &Client) -> bool {
@@ -19,16 +23,42 @@ pub(crate) fn is_ended(row: &Client) -> bool {
 impl Policy {
     /// Whether one more client is served that came at this port.
     pub fn serves(&self, service: &Service, port: Port) -> bool {
-        port == Port::Traffic && self.here < u64::from(service.setup.max_clients())
+        match port {
+            Port::Traffic => self.here < u64::from(service.setup.max_clients()),
+            Port::Admin => self.admins < MOST_ADMINS,
+        }
     }
 
-    /// A client comes at this moment, and is served or turned away.
-    pub fn comes(&mut self, client: ClientNo, served: bool, now: u64) -> Result<(), OutOfMemory> {
+    // One more is connected at a port.
+    fn one_more(&mut self, port: Port) {
+        match port {
+            Port::Traffic => self.here = self.here.saturating_add(1),
+            Port::Admin => self.admins = self.admins.saturating_add(1),
+        }
+    }
+
+    // One is connected there no more.
+    fn one_fewer(&mut self, port: Port) {
+        match port {
+            Port::Traffic => self.here = self.here.saturating_sub(1),
+            Port::Admin => self.admins = self.admins.saturating_sub(1),
+        }
+    }
+
+    /// A client comes at this port and moment, and is served or turned away.
+    pub fn comes(
+        &mut self,
+        client: ClientNo,
+        port: Port,
+        served: bool,
+        now: u64,
+    ) -> Result<(), OutOfMemory> {
         let Some(slot) = self.client_slots.take(client.0)? else {
             return Ok(());
         };
         let part = ClientPart {
             slot,
+            port,
             waits: None,
             stands: None,
             stood: None,
@@ -37,8 +67,12 @@ impl Policy {
             counted: 0,
         };
         self.clients.insert(client.0, part)?;
+        self.board.counts.comes(served);
+        if !served {
+            self.of_client(EventKind::TooManyConnections, client, now);
+        }
         if served {
-            self.here = self.here.saturating_add(1);
+            self.one_more(port);
             self.todo.clients.logins.put(slot, 0, now);
         }
         Ok(())
@@ -91,7 +125,7 @@ impl Policy {
             return;
         };
         if part.served {
-            self.here = self.here.saturating_sub(1);
+            self.one_fewer(part.port);
         }
         self.kept = self.kept.saturating_sub(part.counted);
         if let Some(waiting) = part.waits {

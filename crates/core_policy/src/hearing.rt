@@ -34,8 +34,8 @@ fn is_ruled(tables: &Tables, link: LinkId, name: SessionName) -> Option<bool> {
     }
 }
 
-// Its client's statement is in work in a session, which is its present one.
-fn works_in(tables: &Tables, name: SessionName) -> bool {
+/// Its client's statement is in work in a session, which is its present one.
+pub(crate) fn works_in(tables: &Tables, name: SessionName) -> bool {
     match tables.clients.get(&name.client.0) {
         Some(row) => match &row.desk.work {
             Some(work) => {
@@ -191,6 +191,7 @@ impl Policy {
                 if cut {
                     self.cuts(link);
                 }
+                self.board.counts.hears(purpose);
                 self.notes(tables, link, name, purpose);
                 Ok(answered(tables, link, name, purpose, &end, behind || cut))
             }

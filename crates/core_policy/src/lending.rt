@@ -96,6 +96,7 @@ impl Policy {
         self.unserved.take(slot);
         if let Some(part) = self.links.get_mut(&link.0) {
             part.rests = false;
+            self.board.counts.lends(part.served);
         }
         self.todo.links.looks.put(place);
         Ok(Some(Deed::Ready { link, client }))

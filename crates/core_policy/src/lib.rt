@@ -3,8 +3,10 @@
 #![tactic(auto)]
 
 mod asks;
+mod board;
 mod clients;
 mod deed;
+mod events;
 mod hearing;
 mod keys;
 mod lending;
@@ -16,6 +18,8 @@ mod losing;
 mod measure;
 mod parts;
 mod policy;
+mod reloading;
+mod shown;
 mod slots;
 mod steps;
 mod todo;
@@ -24,7 +28,10 @@ mod waiting;
 mod waking;
 
 pub use asks::{Asked, Asks};
+pub use board::{Board, Counts};
 pub use deed::Deed;
+pub use events::{Event, Events};
 pub use links::Login;
 pub use policy::Policy;
+pub use shown::Shown;
 pub use verdict::{GiveUp, Verdict};

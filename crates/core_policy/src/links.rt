@@ -2,7 +2,7 @@
 
 use crate::asks::Asked;
 use crate::parts::LinkPart;
-use crate::policy::{Policy, server_place};
+use crate::policy::{MOST_LINKS, Policy, server_place};
 use mx_base::{Hostgroup, LinkId, OutOfMemory};
 use served_link::Opening;
 
@@ -46,6 +46,7 @@ impl Policy {
         let Some(slot) = self.link_slots.take(link.0)? else {
             return Ok(());
         };
+        self.board.counts.opens();
         self.keys.hold(asked.key);
         let once = match self.keys.row(asked.key) {
             Some(key) => key.fresh,
@@ -72,6 +73,9 @@ impl Policy {
         let Some(part) = self.link(link) else {
             return;
         };
+        if self.links.len() >= MOST_LINKS as usize {
+            self.have_room();
+        }
         self.pool.close(part.slot);
         self.todo.forget_link(part.slot);
         self.link_slots.leave(part.slot);

@@ -17,8 +17,15 @@ impl Policy {
         }
     }
 
-    /// Clients whose time for their login is over at this moment; each is named once, and its link is closed next.
-    pub fn slow(&mut self, now: u64) -> Result<BTreeSet<u64>, OutOfMemory> {
+    /// Clients that are ended at this moment: those whose time for their login is over, the links of which are closed next, and those with
+    /// sessions on links that aren't to be used at all. Each is named once.
+    pub fn ending(&mut self, now: u64) -> Result<BTreeSet<u64>, OutOfMemory> {
+        let mut ending = self.slow(now)?;
+        self.ousted(&mut ending)?;
+        Ok(ending)
+    }
+
+    fn slow(&mut self, now: u64) -> Result<BTreeSet<u64>, OutOfMemory> {
         let mut slow = BTreeSet::new(self.alloc);
         for _ in 0..u32::MAX {
             let Some(slot) = self.todo.clients.logins.oldest_of_all() else {

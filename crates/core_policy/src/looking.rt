@@ -102,13 +102,15 @@ impl Policy {
             self.look_at(link);
             return Ok(Some(Deed::TakeBack { link }));
         }
-        if self.is_used_up(link, row)
-            || row.is_to_close(self.outside(service, row.link.server, now))
-        {
+        let outside = self.outside(service, row.link.server, now);
+        if outside.off && self.ousts(tables, row) {
+            return Ok(None);
+        }
+        if self.is_used_up(link, row) || row.is_to_close(outside) {
             return Ok(self.closes(tables, link, server));
         }
         if is_lendable(row) {
-            self.rests(service, link, row, now)?;
+            self.rests(link, row, now)?;
         }
         if !row.may_take() {
             return Ok(None);
@@ -177,13 +179,7 @@ impl Policy {
     }
 
     // It stands in the pool from now on, if it doesn't. One whose server isn't ONLINE stands aside.
-    fn rests(
-        &mut self,
-        service: &Service,
-        link: LinkId,
-        row: &Row,
-        now: u64,
-    ) -> Result<(), OutOfMemory> {
+    fn rests(&mut self, link: LinkId, row: &Row, now: u64) -> Result<(), OutOfMemory> {
         let Some(part) = self.links.get_mut(&link.0) else {
             return Ok(());
         };
@@ -199,7 +195,7 @@ impl Policy {
         let shelf = Shelf {
             key: row.key,
             place: spot,
-            group: service.group(row.hostgroup),
+            group: u32::from(row.hostgroup.0),
             server,
         };
         self.pool.logged_in(part.slot);

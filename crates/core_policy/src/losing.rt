@@ -2,9 +2,10 @@
 
 use crate::asks::Asked;
 use crate::hearing::{breaks, give_up_unsent};
-use crate::policy::{Policy, server_place};
+use crate::policy::Policy;
 use crate::todo::ShunnedServer;
 use crate::verdict::{GiveUp, Verdict};
+use admin_port::EventKind;
 use core_service::Failure;
 use core_tables::Tables;
 use hostgroups::ServerStatus;
@@ -51,16 +52,13 @@ impl Policy {
         if self.servers.status(server) != Some(ServerStatus::Online) {
             return Ok(());
         }
+        self.of_server(EventKind::ServerShunned, server, now);
         self.servers.open_failed(server, now);
         self.todo.shunned.push_back(ShunnedServer {
             server,
             until_ms: now.saturating_add(SHUNNED_MS),
         })?;
-        for _ in 0..u32::MAX {
-            if self.pool.put_aside(server_place(server), now).is_none() {
-                return Ok(());
-            }
-        }
+        self.put_links_aside(server, now);
         Ok(())
     }
 
@@ -75,6 +73,7 @@ impl Policy {
         let Some(at) = tables.links.get(&link.0) else {
             return Ok(Verdict::none());
         };
+        self.of_server(EventKind::ServerLoginFailed, at.row.link.server, now);
         if shuns {
             self.shun(at.row.link.server, now)?;
         }
@@ -89,6 +88,7 @@ impl Policy {
         server: ServerId,
         now: u64,
     ) -> Result<Verdict, OutOfMemory> {
+        self.of_server(EventKind::OpenFailed, server, now);
         self.shun(server, now)?;
         match asked {
             Some(asked) => Ok(Verdict::gives(self.refuse_oldest(tables, asked.key))),

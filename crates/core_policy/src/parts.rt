@@ -1,6 +1,7 @@
 // What is chosen by of clients and of links.
 
 use crate::keys::Spot;
+use mx_base::Port;
 
 /// A statement that waits for a link: which of its client's messages that is, and the key.
 #[derive(Clone, Copy)]
@@ -17,11 +18,12 @@ pub struct Standpoint {
     pub lefts: u64,
 }
 
-/// Of a client: its small number; its statement that waits for a link; where it stood at its last statement, and at the one before by another
+/// Of a client: its small number; the port that it came to; its statement that waits for a link; where it stood at its last statement, and at the one before by another
 /// key, unless that may have changed since; whether it counts as connected, and is known to have ended; and how many of its bytes count.
 #[derive(Clone, Copy)]
 pub struct ClientPart {
     pub slot: u32,
+    pub port: Port,
     pub waits: Option<Waiting>,
     pub stands: Option<Standpoint>,
     pub stood: Option<Standpoint>,

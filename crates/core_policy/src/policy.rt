@@ -3,6 +3,7 @@ ghost use Rattle.std.specs.Prelude.{◌≡◌, ◌+◌, ◌≤◌, ◌<◌, ◌^
 ghost use Rattle.conn_pool.specs.Sized.{IsSmall};
 ghost use Rattle.mx_config.specs.Lawful.{IsLawful};
 
+use crate::board::Board;
 use crate::keys::Keys;
 use crate::parts::{ClientPart, LinkPart};
 use crate::slots::Slots;
@@ -16,13 +17,16 @@ use std::alloc::Global;
 use std::collections::HashMap;
 
 /// The connections that servers allow in all, at most, and the clients that a configuration does.
-const MOST_LINKS: u32 = 10_000;
+pub(crate) const MOST_LINKS: u32 = 10_000;
 
 const MOST_CLIENTS: u32 = 4_000;
 
+/// The administrators that are served, and one on each port that is being refused.
+const OTHER_CLIENTS: u32 = 18;
+
 /// What is chosen by: servers; keys of links; small numbers and more of clients and links; links that may be lent; statements that wait and
-/// for which no link is readied, by key; what is left to do; how many clients are connected, and how many bytes of clients are kept. The
-/// pool and what is left to do are large, and stand on the heap.
+/// for which no link is readied, by key; what is left to do; how many clients and administrators are connected, and how many bytes of clients
+/// are kept; and what is kept for administrators. The pool and what is left to do are large, and stand on the heap.
 #[derive(Drop)]
 pub struct Policy {
     pub alloc: Global,
@@ -36,7 +40,9 @@ pub struct Policy {
     pub unserved: Ages,
     pub todo: Box<Todo>,
     pub here: u64,
+    pub admins: u64,
     pub kept: u64,
+    pub board: Board,
 }
 
 /// The place of a server among the counts of links.
@@ -56,7 +62,7 @@ fn servers_of(alloc: Global, config: &Config) -> Result<Servers, OutOfMemory>
 
 // How large the pool is for so many clients.
 fn sizes_for(clients: u32) -> Sizes
-    requires { clients ≤ MOST_CLIENTS + 1 }
+    requires { clients ≤ MOST_CLIENTS + OTHER_CLIENTS }
     ensures small { IsSmall result }
     ensures waiters { result.waiters ≡ clients }
     ensures keys { result.keys ≡ MOST_LINKS + clients }
@@ -67,7 +73,7 @@ fn sizes_for(clients: u32) -> Sizes
         waiters: clients,
         keys,
         places: keys,
-        groups: 1024,
+        groups: 65_536,
         servers: 65_536,
     }
 }
@@ -100,12 +106,13 @@ impl Policy {
     pub fn new(alloc: Global, config: &Config) -> Result<Self, OutOfMemory>
         requires { IsLawful config.now }
     {
-        let clients = config.proxy.max_clients.min(MOST_CLIENTS) + 1;
+        let clients = config.proxy.max_clients.min(MOST_CLIENTS) + OTHER_CLIENTS;
         let sizes = sizes_for(clients);
         let servers = servers_of(alloc, config)?;
         let pool = pool_for(alloc, sizes)?;
         let unserved = Ages::new(alloc, clients, sizes.keys)?;
         let todo = todo_for(alloc, clients, sizes.keys)?;
+        let board = Board::new(alloc, config)?;
         Ok(Policy {
             alloc,
             servers,
@@ -118,7 +125,9 @@ impl Policy {
             unserved,
             todo,
             here: 0,
+            admins: 0,
             kept: 0,
+            board,
         })
     }
 

@@ -42,13 +42,14 @@ pub struct KeyTodo {
     pub rooms: Line,
 }
 
-/// Clients that part, that ended, whose statements may wait again, and that have to log in.
+/// Clients that part, that ended, whose statements may wait again, that have to log in, and that are to be ended at the next wake.
 #[derive(Drop)]
 pub struct ClientTodo {
     pub parts: Line,
     pub leavers: Ages,
     pub anew: Line,
     pub logins: Ages,
+    pub ousted: Line,
 }
 
 /// What is left to do, the oldest first, and servers that are shunned.
@@ -95,11 +96,13 @@ fn no_clients(alloc: Global, clients: u32) -> Result<ClientTodo, OutOfMemory>
     let leavers = Ages::new(alloc, clients, 1)?;
     let anew = Line::new(alloc, clients)?;
     let logins = Ages::new(alloc, clients, 1)?;
+    let ousted = Line::new(alloc, clients)?;
     Ok(ClientTodo {
         parts,
         leavers,
         anew,
         logins,
+        ousted,
     })
 }
 
@@ -124,6 +127,7 @@ impl Todo {
     /// Whether there is something to do at once.
     pub fn is_due(&self) -> bool {
         let is_done = self.clients.anew.is_empty()
+            && self.clients.ousted.is_empty()
             && self.links.looks.is_empty()
             && self.links.unreadies.is_empty()
             && self.links.held.is_empty()
@@ -145,5 +149,6 @@ impl Todo {
         self.clients.leavers.take(slot);
         self.clients.anew.take(slot);
         self.clients.logins.take(slot);
+        self.clients.ousted.take(slot);
     }
 }

@@ -6,7 +6,8 @@ use crate::verdict::GiveUp;
 use crate::waiting::unsent;
 use core_service::{Failure, Service};
 use core_tables::Tables;
-use mx_base::{ClientNo, LinkId, OutOfMemory};
+use hostgroups::ServerStatus;
+use mx_base::{ClientNo, LinkId, OutOfMemory, ServerId};
 use std::collections::HashMap;
 
 // A statement that waited too long, for which an idle link stands: its client's small number, the key, and since when it waits.
@@ -55,15 +56,24 @@ impl Policy {
                 return;
             }
             self.todo.shunned.pop_front();
-            self.bring_links_back(server_place(shunned.server), now);
-            if let Some(row) = self.servers.row(shunned.server) {
-                let hostgroup = row.hostgroup;
-                self.has_room(hostgroup);
-            }
+            self.bring_server_back(shunned.server, now);
         }
     }
 
-    fn bring_links_back(&mut self, server: u32, now: u64) {
+    // Unless another row is in force for it by now.
+    fn bring_server_back(&mut self, server: ServerId, now: u64) {
+        if self.servers.status(server) != Some(ServerStatus::Online) {
+            return;
+        }
+        self.bring_links_back(server_place(server), now);
+        if let Some(row) = self.servers.row(server) {
+            let hostgroup = row.hostgroup;
+            self.has_room(hostgroup);
+        }
+    }
+
+    /// Links to a server may be lent again. Takes no memory.
+    pub(crate) fn bring_links_back(&mut self, server: u32, now: u64) {
         for _ in 0..u32::MAX {
             let Some(slot) = self.pool.bring_back(server, now) else {
                 return;

@@ -31,6 +31,8 @@ use Rattle.router_promises.specs.Router.{Router, service_of}
 use Rattle.router_promises.specs.Terms.{AreWhoTheySay, IsWhoItSays, Terms, plan_in, setup_in}
 use Rattle.own_words.specs.Own.{SpeaksOwn}
 use Rattle.core_promises.specs.Sessions.{KeepsApart, Separates}
+use Rattle.query_rules.specs.declared.rule.Rule.{Rule}
+use Rattle.core_promises.specs.InForce.{MayRule}
 use Rattle.core_promises.specs.Judges.{JudgesBy, JudgesSo, rulebook_of}
 use Rattle.core_promises.specs.Waits.{AreDoneBy}
 use Rattle.core_promises.proofs.Verdicts.{asks-by}
@@ -78,7 +80,8 @@ single_by routes single m route is = by (routes m) refl is where
 module _ (router : Router) (log : Log) (t : Tabled) (roomy : ClientNo → Bool)
     (core : IsCore (service_of router) router.proxy.default_schema log t roomy) (classes : AreClasses router.reads)
     (single : (m : MessageName) (route : Route) → core.decided.routes m ≡ Some (Some route) → route.mirror ≡ None)
-    (judges : JudgesBy (rulebook_of router) router.proxy.default_schema core.decided log) (speaks : SpeaksOwn router.rules (plan_of core.decided))
+    (rules : MessageName → List Rule) (force : (name : MessageName) → MayRule router.rules log (rules name))
+    (judges : JudgesBy (rulebook_of router) rules router.proxy.default_schema core.decided log) (speaks : SpeaksOwn rules (plan_of core.decided))
     (waited : AreDoneBy router.proxy.default_schema core.decided log)
     (fits : AllLawful FitsLog log) where
   abbrev plan : Plan
@@ -114,7 +117,7 @@ module _ (router : Router) (log : Log) (t : Tabled) (roomy : ClientNo → Bool)
     keeps : KeepsApart terms log
     keeps =
         let rests = core.rests (setup_in terms) its_key plan (itself core.decided (length log)) fitting in
-        let judged : JudgesSo terms log = judges (setup_in terms) its_key plan (itself core.decided (length log)) fitting in
+        let judged : JudgesSo terms rules log = judges (setup_in terms) its_key plan (itself core.decided (length log)) fitting in
         let safe = core.safe (setup_in terms) its_key plan (itself core.decided (length log)) fitting in
         record {
           router = record { service = rests.stands.service_is; room = rests.stands.room_is };
@@ -124,7 +127,9 @@ module _ (router : Router) (log : Log) (t : Tabled) (roomy : ClientNo → Bool)
           lawful = λ n. lawful_at (setup_in terms) plan n log rests.stands.lawful;
           due = safe.written;
           copies = single_by core.decided.routes single;
-          asks = asks-by terms log judged;
+          rules = rules;
+          force = force;
+          asks = asks-by terms rules log judged;
           judges = judged;
           speaks = speaks;
           waits = waited terms its_key (itself core.decided (length log)) fitting;

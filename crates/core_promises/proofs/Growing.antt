@@ -19,7 +19,7 @@ use Rattle.core_promises.proofs.Alike.{numbered_of}
 
 grown_itself : (xs : List Client) → AreGrown xs xs
 grown_itself [] = tt
-grown_itself (x ∷ xs) = (record { number = refl; salt = refl; more = []; read = sym (append-nil x.read) }, grown_itself xs)
+grown_itself (x ∷ xs) = (record { number = refl; port = refl; salt = refl; more = []; read = sym (append-nil x.read) }, grown_itself xs)
 
 grown_on : (xs ys zs : List Client) → AreGrown xs ys → AreGrown ys zs → AreGrown xs zs
 grown_on [] ys zs one two = tt
@@ -28,6 +28,7 @@ grown_on (x ∷ xs) (y ∷ ys) [] one two = absurd two
 grown_on (x ∷ xs) (y ∷ ys) (z ∷ zs) one two = (
   record {
     number = two.0.number ∙ one.0.number;
+    port = two.0.port ∙ one.0.port;
     salt = two.0.salt ∙ one.0.salt;
     more = one.0.more ++ two.0.more;
     read = two.0.read ∙ ap (λ r. r ++ two.0.more) one.0.read ∙ append_assoc x.read one.0.more two.0.more;
@@ -39,11 +40,11 @@ grown_like : (xs ys : List Client) → AreLike xs ys → AreGrown xs ys
 grown_like [] ys like = tt
 grown_like (x ∷ xs) [] like = absurd like
 grown_like (x ∷ xs) (y ∷ ys) like =
-    (record { number = like.0.number; salt = like.0.salt; more = []; read = like.0.read ∙ sym (append-nil x.read) }, grown_like xs ys like.1)
+    (record { number = like.0.number; port = like.0.port; salt = like.0.salt; more = []; read = like.0.read ∙ sym (append-nil x.read) }, grown_like xs ys like.1)
 
 grown_comes : (xs : List Client) (one : Client) → AreGrown xs (xs ++ one ∷ [])
 grown_comes [] one = tt
-grown_comes (x ∷ xs) one = (record { number = refl; salt = refl; more = []; read = sym (append-nil x.read) }, grown_comes xs one)
+grown_comes (x ∷ xs) one = (record { number = refl; port = refl; salt = refl; more = []; read = sym (append-nil x.read) }, grown_comes xs one)
 
 grown_map : (f : Client → Client) → ((c : Client) → IsGrown c (f c)) → (xs : List Client) → AreGrown xs (map f xs)
 grown_map f each [] = tt
@@ -51,18 +52,18 @@ grown_map f each (x ∷ xs) = (each x, grown_map f each xs)
 
 module _ (setup : Setup) (plan : Plan) where
   grown_by : (tale : Tale) (e : Entry) → AreGrown tale.clients (clients_by setup plan tale e)
-  grown_by tale (entry.Accepted port link salt) = grown_comes tale.clients (new_client (length tale.clients + 1) link salt)
+  grown_by tale (entry.Accepted port link salt) = grown_comes tale.clients (new_client (length tale.clients + 1) port link salt)
   grown_by tale (entry.Got link bytes) =
       either (AreGrown tale.clients) (is_to_server tale link) tale.clients (map (client_hears link bytes) tale.clients) (grown_itself tale.clients)
       (grown_map (client_hears link bytes)
-      (λ c. either (IsGrown c) (is_link_id c.link link) (record c { read = c.read ++ bytes }) c (record { number = refl; salt = refl; more = bytes; read = refl })
-      (record { number = refl; salt = refl; more = []; read = sym (append-nil c.read) })) tale.clients)
+      (λ c. either (IsGrown c) (is_link_id c.link link) (record c { read = c.read ++ bytes }) c (record { number = refl; port = refl; salt = refl; more = bytes; read = refl })
+      (record { number = refl; port = refl; salt = refl; more = []; read = sym (append-nil c.read) })) tale.clients)
   grown_by tale (entry.Wrote link tag bytes) =
       either (AreGrown tale.clients) (is_to_server tale link) tale.clients (map (client_gets link (length bytes)) tale.clients) (grown_itself tale.clients)
       (grown_map (client_gets link (length bytes))
       (λ c. either (IsGrown c) (is_link_id c.link link) (record c { written = c.written + length bytes }) c
-      (record { number = refl; salt = refl; more = []; read = sym (append-nil c.read) })
-      (record { number = refl; salt = refl; more = []; read = sym (append-nil c.read) })) tale.clients)
+      (record { number = refl; port = refl; salt = refl; more = []; read = sym (append-nil c.read) })
+      (record { number = refl; port = refl; salt = refl; more = []; read = sym (append-nil c.read) })) tale.clients)
   grown_by tale _ = grown_itself tale.clients
 
   grown_step : (tale : Tale) (e : Entry) → AreNumbered 1 tale.clients → AreGrown tale.clients (tale_step setup plan tale e).clients

@@ -6,13 +6,16 @@ use Rattle.session_state.specs.declared.pin.Pin.{Pin}
 use Rattle.private_model.specs.Names.{ClientNo, Hostgroup, LinkId}
 use Rattle.private_model.specs.Story.{Key}
 use Rattle.log_story.specs.Plan.{Route}
-use Rattle.router_promises.specs.Verdicts.{Verdict}
+use Rattle.mx_base.specs.declared.names.Port.{Port}
+use Rattle.mx_base.specs.declared.names.Port.TheVariants.{Admin, Traffic}
+use Rattle.router_promises.specs.Verdicts.{Tells, Verdict}
 use Rattle.message_judge.specs.declared.caller.Prepared.{Prepared}
-use Rattle.core_promises.specs.Judges.{IsRoutedFor, IsVerdictFor, Rulebook, Situation}
+use Rattle.core_promises.specs.Judges.{IsRoutedFor, IsToldAt, IsToldFor, IsVerdictFor, Rulebook, Situation}
 use Rattle.core_promises.specs.Statements.{number_named}
 
 -- what is so of a client in one is so in the other, but that it may have prepared more under its numbers
 pub record KnowsMore (one other : Situation) : Type 0 where
+  pub port : other.port ≡ one.port
   pub user : other.user ≡ one.user
   pub place : other.place ≡ one.place
   pub pins : other.pins ≡ one.pins
@@ -42,6 +45,16 @@ verdict_within book one other within c payload verdict for = record {
   is = for.is;
 }
 
+told_at : (port : Port) (book : Rulebook) (one other : Situation) → KnowsMore one other → (c : ClientNo) (payload : List ℕ) (payloads : List (List ℕ))
+    → IsToldAt port book one c payload payloads → IsToldAt port book other c payload payloads
+told_at Traffic book one other within c payload payloads told = verdict_within book one other within c payload (Tells payloads) told
+told_at Admin book one other within c payload payloads told = told
+
+pub told_within : (book : Rulebook) (one other : Situation) → KnowsMore one other → (c : ClientNo) (payload : List ℕ) (payloads : List (List ℕ))
+    → IsToldFor book one c payload payloads → IsToldFor book other c payload payloads
+told_within book one other within c payload payloads told =
+    subst (λ (port : Port). IsToldAt port book other c payload payloads) (sym within.port) (told_at one.port book one other within c payload payloads told)
+
 pub routed_within : (book : Rulebook) (one other : Situation) → KnowsMore one other → (keys more : (key : ℕ) → Option Key)
     → ((k : ℕ) (key : Key) → keys k ≡ Some key → more k ≡ Some key) → (c : ClientNo) (payload : List ℕ) (route : Route)
     → IsRoutedFor book one keys c payload route → IsRoutedFor book other more c payload route
@@ -49,5 +62,6 @@ routed_within book one other within keys more keep c payload route routed = reco
   wanted = routed.wanted;
   routed = routed.routed;
   keyed = λ key is. keep route.key key (routed.keyed key is);
+  port = within.port ∙ routed.port;
   is = verdict_within book one other within c payload _ routed.is;
 }

@@ -15,7 +15,7 @@ use Rattle.query_digest.specs.Digest.{digest_of}
 use Rattle.query_digest.specs.Hash.{hash_of}
 use Rattle.router_promises.proofs.Refusals.{none-some}
 use Rattle.router_promises.specs.Terms.{Terms}
-use Rattle.core_promises.specs.Wrong.{RefusesUser, SendsBy, SetsNoFlag, user_of}
+use Rattle.core_promises.specs.Wrong.{book_up, RefusesUser, SendsBy, SetsNoFlag, user_of}
 use Rattle.core_promises.proofs.Texts.{unstopped-by}
 
 module _ (user why : List ℕ) (rule : Rule) (is : RefusesUser user why rule) (ask : Ask) (login : ask.user ≡ user) (flag : ask.flag ≡ 0) where
@@ -48,8 +48,8 @@ module _ (user why : List ℕ) (rule : Rule) (is : RefusesUser user why rule) (a
       ∙ answers-so
 
 pub refused-past : (terms : Terms) (text why : List ℕ) (route : Route) (rule : Rule) (others : List Rule)
-    (sends : SendsBy terms (com_query ∷ text) route) → terms.router.rules ≡ rule ∷ others → RefusesUser (user_of sends.up) why rule
-    → SetsNoFlag terms.router.rules → ⊥
+    (sends : SendsBy terms (com_query ∷ text) route) → (book_up sends.up).rules ≡ rule ∷ others → RefusesUser (user_of sends.up) why rule
+    → SetsNoFlag (book_up sends.up).rules → ⊥
 refused-past terms text why route rule others sends are refuses unset =
     unstopped-by terms text route sends
     (λ ask own login placed first none.

@@ -12,8 +12,7 @@ use Rattle.core_tables.specs.Tables.{Tabled}
 use Rattle.core_laws.specs.clients.Found.{desk_up}
 use Rattle.core_laws.specs.clients.Turns.{Answers, Choice, Goes, Halt, IsTurn, Turns}
 use Rattle.message_judge.specs.declared.caller.Prepared.{Prepared}
-use Rattle.router_promises.specs.Verdicts.{Tells}
-use Rattle.core_promises.proofs.Knowing.{KnowsMore, routed_within, verdict_within}
+use Rattle.core_promises.proofs.Knowing.{KnowsMore, routed_within, told_within}
 use Rattle.core_promises.specs.Judges.{Rulebook}
 use Rattle.core_promises.specs.Ruled.{AreRuled, IsRuled, known_as, known_by, situation_at}
 
@@ -36,6 +35,7 @@ module _ (keys more : (key : ℕ) → Option Key) (kept : AreKept keys more) whe
 
   pub knows_more : (desk : Desk) → KnowsMore (situation_at keys desk) (situation_at more desk)
   knows_more desk = record {
+    port = refl;
     user = refl;
     place = refl;
     pins = refl;
@@ -51,7 +51,7 @@ module _ (keys more : (key : ℕ) → Option Key) (kept : AreKept keys more) whe
     ruled_more (Goes route keyed) old new turn ruled =
         routed_within book _ _ (knows_more (desk_up setup default turn.up.row)) keys more kept c turn.up.message.payload route ruled
     ruled_more (Answers payloads) old new turn ruled =
-        verdict_within book _ _ (knows_more (desk_up setup default turn.up.row)) c turn.up.message.payload (Tells payloads) ruled
+        told_within book _ _ (knows_more (desk_up setup default turn.up.row)) c turn.up.message.payload payloads ruled
 
     pub are_ruled_more : (choices : List Choice) (halt : Halt) (old new : Tabled) (turns : Turns choices halt setup default c old new)
         → AreRuled (record { book = book; keys = keys }) choices halt setup default c old new turns

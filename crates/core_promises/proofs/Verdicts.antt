@@ -23,7 +23,7 @@ use Rattle.server_rule.specs.Classes.{router_reads}
 use Rattle.session_state.specs.Pins.{reads_own}
 use Rattle.session_state.specs.declared.pin.Pin.{Pin}
 use Rattle.session_state.specs.declared.place.Place.{Place}
-use Rattle.private_model.specs.Names.{ClientNo}
+use Rattle.private_model.specs.Names.{ClientNo, MessageName}
 use Rattle.private_model.specs.Story.{Key}
 use Rattle.private_model.specs.View.{Setup}
 use Rattle.log_story.specs.Owed.{name_of}
@@ -38,7 +38,7 @@ use Rattle.message_judge.specs.Judging as judging
 use Rattle.message_judge.proofs.Commands.{split}
 use Rattle.message_judge.specs.declared.caller.Prepared.{Prepared}
 use Rattle.core_promises.specs.Asks.{AsksOwnOf, AsksSo, IsRewritten, IsTextOf}
-use Rattle.core_promises.specs.Judges.{AreJudged, IsJudged, IsRoutedFor, IsVerdictFor, JudgesSo, Knowledge, Rulebook, Situation, rulebook_of, situation_of, verdict_on}
+use Rattle.core_promises.specs.Judges.{AreJudged, IsJudged, IsRoutedFor, IsVerdictFor, JudgesSo, Knowledge, Rulebook, Situation, rulebook_of, situation_of, verdict_on, book_for}
 use Rattle.core_promises.specs.Wrong.{is_for_servers}
 use Rattle.core_promises.proofs.Commands.{IsRunOnly, IsUnsent, close-unsent, execute-runs, fetch-unsent, long-unsent, reset-unsent}
 use Rattle.core_promises.proofs.Wanted.{OfGoing, OfSending, classed as classed_so, drafted as admitted_so}
@@ -359,13 +359,13 @@ module _ (book : Rulebook) (situation : Situation) (c : ClientNo) where
 
 -- of each client
 
-asks-own : (book : Rulebook) (setup : Setup) (plan : Plan) (log : Log) (client : Client) → AreJudged book setup plan log client
-    → AsksOwnOf book.rules plan client
-asks-own book setup plan log client judged k message route within there goes =
-    let is : IsJudged book setup plan log (name_of client (suc k)) message.payload = judged k message within there in
-    asks-text book (situation_of setup plan is.taking) client.number (λ key. Some (setup.keys key)) message.payload route (is.goes route goes)
+asks-own : (book : Rulebook) (rules : MessageName → List Rule) (setup : Setup) (plan : Plan) (log : Log) (client : Client)
+    → AreJudged book rules setup plan log client → AsksOwnOf rules plan client
+asks-own book rules setup plan log client judged k message route within there goes =
+    let is : IsJudged (book_for book rules (name_of client (suc k))) setup plan log (name_of client (suc k)) message.payload = judged k message within there in
+    asks-text (book_for book rules (name_of client (suc k))) (situation_of setup plan is.taking) client.number (λ key. Some (setup.keys key)) message.payload route (is.goes route goes)
 
-pub asks-by : (terms : Terms) (log : Log) → JudgesSo terms log → AsksSo terms log
-asks-by terms log judges k d within =
-    asks-own (rulebook_of terms.router) (setup_in terms) (plan_in terms) log (slice_index_or (tale_at terms log).clients k d)
+pub asks-by : (terms : Terms) (rules : MessageName → List Rule) (log : Log) → JudgesSo terms rules log → AsksSo terms rules log
+asks-by terms rules log judges k d within =
+    asks-own (rulebook_of terms.router) rules (setup_in terms) (plan_in terms) log (slice_index_or (tale_at terms log).clients k d)
     (judges k d within)

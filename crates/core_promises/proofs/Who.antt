@@ -37,7 +37,7 @@ each_like t [] [] like who = tt
 each_like t [] (y ∷ ys) like who = absurd like
 each_like t (x ∷ xs) [] like who = absurd like
 each_like t (x ∷ xs) (y ∷ ys) like who = (
-  who_earlier t y x (record { number = sym like.0.number; salt = sym like.0.salt; more = []; read = sym like.0.read ∙ sym (append-nil y.read) }) (who x (inl refl)),
+  who_earlier t y x (record { number = sym like.0.number; port = sym like.0.port; salt = sym like.0.salt; more = []; read = sym like.0.read ∙ sym (append-nil y.read) }) (who x (inl refl)),
   each_like t xs ys like.1 (λ z there. who z (inr there)),
 )
 
@@ -71,6 +71,7 @@ module _ (router : Router) (plan : Plan) (base : Setup) (log : Log) where
     keys = base.keys;
     accounts = accounts_by;
     places = places_by;
+    administered = λ m. [];
     bare = λ link. false;
     tried = λ entry. record { login = record { user = []; password = []; found_rows = false }; bare = false };
   }

@@ -23,14 +23,14 @@ IsTextOf rules payload None = Unit {0}
 IsTextOf rules payload (Some text) = IsRewritten rules payload text
 
 -- of each message that was taken up and goes to a server
-abbrev pub AsksOwnOf : List Rule → Plan → Client → Type 0
+abbrev pub AsksOwnOf : (rules : MessageName → List Rule) → Plan → Client → Type 0
 AsksOwnOf rules plan client =
     (k : ℕ) (message : Framed) (route : Route) → k < client.taken → slice_get (messages plan client) k ≡ Some message
-    → plan.routes (name_of client (suc k)) ≡ Some route → IsTextOf rules message.payload route.text
+    → plan.routes (name_of client (suc k)) ≡ Some route → IsTextOf (rules (name_of client (suc k))) message.payload route.text
 
 -- of each client
-abbrev pub AsksSo : Terms → Log → Type 0
-AsksSo terms log = All (AsksOwnOf terms.router.rules (plan_in terms)) (tale_at terms log).clients
+abbrev pub AsksSo : Terms → (rules : MessageName → List Rule) → Log → Type 0
+AsksSo terms rules log = All (AsksOwnOf rules (plan_in terms)) (tale_at terms log).clients
 
 -- no message goes to a second server
 abbrev pub CopiesNothing : Plan → Type 0

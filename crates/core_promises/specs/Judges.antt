@@ -3,6 +3,8 @@
 use Rattle.std.specs.Prelude.{◌≡◌, ◌<◌, ℕ, suc, slice_get, Bool, true, false, All, find, is_some, length, map}
 use Rattle.std.specs.Prelude.{List, [], ◌∷◌, ◌++◌, Option, Some, None}
 use Rattle.std.specs.Option.{option_and_then}
+use Rattle.mx_base.specs.declared.names.Port.{Port}
+use Rattle.mx_base.specs.declared.names.Port.TheVariants.{Admin, Traffic}
 use Rattle.mx_wire.specs.Log.{Log}
 use Rattle.packet_frame.specs.Packets.{Framed}
 use Rattle.hostgroups.specs.declared.row.ServerRow.{ServerRow}
@@ -30,6 +32,7 @@ use Rattle.message_judge.specs.Judging.{judged, verdict_by}
 use Rattle.message_judge.specs.declared.caller.Caller.{Caller}
 use Rattle.message_judge.specs.declared.caller.Prepared.{Prepared}
 use Rattle.message_judge.specs.declared.caller.Standing.{Standing}
+use Rattle.core_promises.specs.Administers.{IsAdminAnswer}
 use Rattle.core_promises.specs.Statements.{is_given, number_named, statement_of}
 
 -- What messages are judged by: rules, each user's default hostgroup, and the hostgroups of servers in their order.
@@ -43,9 +46,10 @@ abbrev pub rulebook_of : Router → Rulebook
 rulebook_of router =
     record { rules = router.rules; home = home_of router; hostgroups = map (λ (row : ServerRow). row.hostgroup) router.servers }
 
--- What is so of a client: who it is, where it stands, why its sessions keep their links, and which links carry them; what it prepared under each
+-- What is so of a client: at which port it came, who it is, where it stands, why its sessions keep their links, and which links carry them; what it prepared under each
 -- number, and under which numbers it has.
 pub record Situation : Type 0 where
+  pub port : Port
   pub user : List ℕ
   pub place : Place
   pub pins : Hostgroup → Pin
@@ -59,6 +63,7 @@ held_of setup tale c hostgroup = (view_of setup tale).held (present (view_of set
 -- just before its message is taken up
 abbrev pub situation_of : Setup → Plan → Taking → Situation
 situation_of setup plan taking = record {
+  port = taking.client.port;
   user = (setup.accounts taking.client.number).user;
   place = (view_of setup taking.tale).places taking.client.number;
   pins = λ hostgroup. (held_of setup taking.tale taking.client.number hostgroup).pin;
@@ -100,11 +105,20 @@ pub record IsVerdictFor (book : Rulebook) (situation : Situation) (c : ClientNo)
   pub number : (n : ℕ) → known.standing.next_number ≡ Some n → situation.given n ≡ false
   pub is : verdict ≡ verdict_on book.rules known payload
 
--- It goes to a server by this route; and where it is to be prepared, or was, what is to stand under the route's key does.
+-- It is answered by the router with these: a client as the verdict says, and an administrator by what is staged and runs.
+abbrev pub IsToldAt : Port → Rulebook → Situation → ClientNo → (payload : List ℕ) → (payloads : List (List ℕ)) → Type 0
+IsToldAt Traffic book situation c payload payloads = IsVerdictFor book situation c payload (Tells payloads)
+IsToldAt Admin book situation c payload payloads = IsAdminAnswer payload payloads
+
+abbrev pub IsToldFor : Rulebook → Situation → ClientNo → (payload : List ℕ) → (payloads : List (List ℕ)) → Type 0
+IsToldFor book situation c payload payloads = IsToldAt situation.port book situation c payload payloads
+
+-- It goes to a server by this route, and so is no administrator's; and where it is to be prepared, or was, what is to stand under the route's key does.
 pub record IsRoutedFor (book : Rulebook) (situation : Situation) (keys : (key : ℕ) → Option Key) (c : ClientNo) (payload : List ℕ) (route : Route) : Type 0 where
   pub wanted : Wanted
   pub routed : record wanted.route { key = route.key } ≡ route
   pub keyed : (key : Key) → wanted.key ≡ Some key → keys route.key ≡ Some key
+  pub port : situation.port ≡ Traffic
   pub is : IsVerdictFor book situation c payload (Goes wanted)
 
 -- The messages that are taken up along a log, in order.
@@ -126,20 +140,24 @@ pub record IsJudged (book : Rulebook) (setup : Setup) (plan : Plan) (log : Log) 
   pub goes : (route : Route) → plan.routes name ≡ Some route
       → IsRoutedFor book (situation_of setup plan taking) (λ key. Some (setup.keys key)) name.client payload route
   pub tells : (payloads : List (List ℕ)) → plan.routes name ≡ None → own_at plan (length log) name ≡ Some payloads
-      → IsVerdictFor book (situation_of setup plan taking) name.client payload (Tells payloads)
+      → IsToldFor book (situation_of setup plan taking) name.client payload payloads
 
--- of each message of a client
-abbrev pub AreJudged : Rulebook → Setup → Plan → Log → Client → Type 0
-AreJudged book setup plan log client =
+-- a book with the rules by which a message is judged
+abbrev pub book_for : Rulebook → (rules : MessageName → List Rule) → MessageName → Rulebook
+book_for book rules name = record book { rules = rules name }
+
+-- of each message of a client, each by its rules
+abbrev pub AreJudged : Rulebook → (rules : MessageName → List Rule) → Setup → Plan → Log → Client → Type 0
+AreJudged book rules setup plan log client =
     (k : ℕ) (message : Framed) → k < client.taken → slice_get (messages plan client) k ≡ Some message
-    → IsJudged book setup plan log (name_of client (suc k)) message.payload
+    → IsJudged (book_for book rules (name_of client (suc k))) setup plan log (name_of client (suc k)) message.payload
 
 -- of each client
-abbrev pub JudgesSo : Terms → Log → Type 0
-JudgesSo terms log = All (AreJudged (rulebook_of terms.router) (setup_in terms) (plan_in terms) log) (tale_at terms log).clients
+abbrev pub JudgesSo : Terms → (rules : MessageName → List Rule) → Log → Type 0
+JudgesSo terms rules log = All (AreJudged (rulebook_of terms.router) rules (setup_in terms) (plan_in terms) log) (tale_at terms log).clients
 
 -- by each plan that has what was decided
-abbrev pub JudgesBy : Rulebook → (default : List ℕ) → Decided → Log → Type 0
-JudgesBy book default d log =
+abbrev pub JudgesBy : Rulebook → (rules : MessageName → List Rule) → (default : List ℕ) → Decided → Log → Type 0
+JudgesBy book rules default d log =
     (setup : Setup) (codes : Codes) (plan : Plan) → IsOf d (length log) plan → Fits d.keys setup codes plan default (tale_of setup plan log)
-    → All (AreJudged book setup plan log) (tale_of setup plan log).clients
+    → All (AreJudged book rules setup plan log) (tale_of setup plan log).clients

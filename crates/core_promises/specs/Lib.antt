@@ -1,5 +1,7 @@
 pub mod Asks
 pub mod Statements
+pub mod Administers
+pub mod InForce
 pub mod Judges
 pub mod Ruled
 pub mod Waits

@@ -3,7 +3,6 @@ use Rattle.std.specs.Prelude.{ℕ, nat_le, List, [], ◌∷◌, Option}
 use Rattle.std.specs.Option.{option_and_then, option_map}
 use Rattle.mx_base.specs.declared.names.ClientNo.{ClientNo}
 use Rattle.pin_classifier.specs.Classes.{class_of}
-use Rattle.query_rules.specs.Passing.{rules_of}
 use Rattle.client_session.specs.Setups.{Setup}
 use Rattle.client_desk.specs.Desks.{session_of}
 use Rattle.client_desk.specs.declared.desk.Desk.{Desk}
@@ -11,20 +10,19 @@ use Rattle.stmt_map.specs.Client.{statement_at}
 use Rattle.stmt_map.specs.declared.client.ClientStatements.{ClientStatements}
 use Rattle.stmt_map.specs.declared.statement.Statement.{Statement}
 use Rattle.private_model.specs.Story.{Key}
-use Rattle.core_service.specs.Serves.{home_in}
+use Rattle.core_service.specs.Serves.{home_in, rules_in}
 use Rattle.core_service.specs.declared.service.Service.{Service}
 use Rattle.core_tables.specs.Tables.{Tabled}
 use Rattle.core_tables.specs.declared.client.Client.{Client}
 use Rattle.core_laws.specs.clients.Found.{desk_up, user_in}
 use Rattle.core_laws.specs.clients.Turns.{Answers, Choice, Goes, Halt, IsTurn, Turns}
 use Rattle.router_promises.specs.Statements.{are_types}
-use Rattle.router_promises.specs.Verdicts.{Tells}
 use Rattle.message_judge.specs.declared.caller.Prepared.{Prepared}
-use Rattle.core_promises.specs.Judges.{IsRoutedFor, IsVerdictFor, Rulebook, Situation}
+use Rattle.core_promises.specs.Judges.{IsRoutedFor, IsToldFor, Rulebook, Situation}
 
 -- what the core serves by
 abbrev pub book_of : Service → Rulebook
-book_of service = record { rules = rules_of service.rules; home = home_in service.users; hostgroups = service.hostgroups }
+book_of service = record { rules = rules_in service; home = home_in service.users; hostgroups = service.hostgroups }
 
 -- What a client prepared under a number, where its key has this text and place; and by the texts that are kept.
 
@@ -49,6 +47,7 @@ known_in keys statements number = option_and_then (known_by keys) (statement_at 
 
 abbrev pub situation_at : (keys : (key : ℕ) → Option Key) → Desk → Situation
 situation_at keys desk = record {
+  port = desk.seat.port;
   user = user_in desk.seat.phase;
   place = desk.seat.place;
   pins = λ hostgroup. (session_of desk hostgroup).pin;
@@ -71,7 +70,7 @@ ruling_of service keys = record { book = book_of service; keys = keys }
 -- this choice is what the verdict says of a message
 abbrev pub IsChoiceFor : Choice → Rulebook → Situation → (keys : (key : ℕ) → Option Key) → ClientNo → (payload : List ℕ) → Type 0
 IsChoiceFor (Goes route keyed) book situation keys c payload = IsRoutedFor book situation keys c payload route
-IsChoiceFor (Answers payloads) book situation keys c payload = IsVerdictFor book situation c payload (Tells payloads)
+IsChoiceFor (Answers payloads) book situation keys c payload = IsToldFor book situation c payload payloads
 
 abbrev pub IsRuled : Ruling → (choice : Choice) → (setup : Setup) → (default : List ℕ) → (c : ClientNo) → (old new : Tabled)
     → IsTurn choice setup default c old new → Type 0

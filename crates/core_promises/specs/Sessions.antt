@@ -5,9 +5,11 @@ use Rattle.log_story.specs.Said.{IsSaidLog}
 use Rattle.mx_wire.specs.Log.{Log}
 use Rattle.mx_wire.specs.Moments.{AllLawful, AtEachMoment}
 use Rattle.mx_wire.specs.Tells.{Fits}
-use Rattle.private_model.specs.Names.{ServerId}
+use Rattle.private_model.specs.Names.{MessageName, ServerId}
+use Rattle.query_rules.specs.declared.rule.Rule.{Rule}
 use Rattle.own_words.specs.Own.{SpeaksOwn}
 use Rattle.core_promises.specs.Asks.{AsksSo, CopiesNothing}
+use Rattle.core_promises.specs.InForce.{MayRule}
 use Rattle.core_promises.specs.Judges.{JudgesSo}
 use Rattle.core_promises.specs.Waits.{WaitsSo}
 use Rattle.router_promises.specs.Due.{DueSo}
@@ -18,7 +20,7 @@ use Rattle.router_promises.specs.Terms.{AreWhoTheySay, Decided, IsRouters, Terms
 -- The log is one of a wire. Of each moment: clients are who they say, and begin where they say; each question's bytes are a front of its
 -- spelling, and nothing begins on a link before what was begun there is whole; the story is lawful, so that no session is lent that another's
 -- is in; and each client's bytes are a front of what it is due. What a server is asked for a client is the client's own text, or what the rules
--- make of it. What becomes of each message is what the verdict says. What the router says by itself are its own words, whatever it decided. At
+-- make of it. What becomes of each message is what the verdict says, by rules that may be in force. What the router says by itself are its own words, whatever it decided. At
 -- each wait all is done but lending.
 pub record KeepsApart (terms : Terms) (log : Log) : Type 0 where
   pub router : IsRouters terms
@@ -27,10 +29,12 @@ pub record KeepsApart (terms : Terms) (log : Log) : Type 0 where
   pub said : IsSaidLog (setup_in terms) (plan_in terms) log
   pub lawful : AtEachMoment (IsLawfulSo terms) log
   pub due : AtEachMoment (DueSo terms) log
-  pub asks : AsksSo terms log
+  pub rules : MessageName → List Rule
+  pub force : (name : MessageName) → MayRule terms.router.rules log (rules name)
+  pub asks : AsksSo terms rules log
   pub copies : CopiesNothing (plan_in terms)
-  pub judges : JudgesSo terms log
-  pub speaks : SpeaksOwn terms.router.rules (plan_in terms)
+  pub judges : JudgesSo terms rules log
+  pub speaks : SpeaksOwn rules (plan_in terms)
   pub waits : AllLawful (WaitsSo terms) log
 
 -- All by one decision for the whole log, whatever servers have stored.

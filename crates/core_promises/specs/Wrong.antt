@@ -1,5 +1,6 @@
 -- Words for routers that are wrong: what no log has that keeps clients apart.
 use Rattle.std.specs.Prelude.{◌≡◌, ℕ, suc, ◌<◌, Bool, true, false, ◌||◌, nat_eq, List, ◌∷◌, ◌++◌, length, slice_get, slice_index_or, unwrap_or, Option, Some, None}
+use Rattle.mx_base.specs.declared.names.Port.TheVariants.{Traffic}
 use Rattle.mx_wire.specs.Log.{Log, is_open}
 use Rattle.mx_wire.specs.declared.entry.Entry.{Entry}
 use Rattle.packet_frame.specs.Packets.{Framed}
@@ -20,7 +21,7 @@ use Rattle.router_promises.specs.Wakes.{has_ended}
 use Rattle.router_promises.specs.Wrong.{IsWait}
 use Rattle.router_promises.specs.Takings.{Taking}
 use Rattle.message_judge.specs.declared.caller.Prepared.{Prepared}
-use Rattle.core_promises.specs.Judges.{Situation, WasTaken, situation_of}
+use Rattle.core_promises.specs.Judges.{Rulebook, Situation, WasTaken, book_for, rulebook_of, situation_of}
 use Rattle.core_promises.specs.Sessions.{KeepsApart}
 
 -- the entry is one of a log that keeps clients apart, behind these
@@ -82,6 +83,10 @@ taken_up up = name_of up.client (suc up.count)
 abbrev pub user_of : {terms : Terms} {payload : List ℕ} → TakesUp terms payload → List ℕ
 user_of {terms} up = ((setup_in terms).accounts up.client.number).user
 
+-- by which it was judged
+abbrev pub book_up : {terms : Terms} {payload : List ℕ} → TakesUp terms payload → Rulebook
+book_up {terms} up = book_for (rulebook_of terms.router) up.keeps.rules (taken_up up)
+
 -- this is so of its client as it was taken up
 abbrev pub AsTaken : {terms : Terms} {payload : List ℕ} → TakesUp terms payload → (Situation → Type 0) → Type 0
 AsTaken {terms} up fact =
@@ -99,9 +104,10 @@ pub record AsksFor (terms : Terms) (payload text : List ℕ) : Type 0 where
   pub sends : SendsBy terms payload route
   pub as_text : route.text ≡ Some text
 
--- or it goes to none, and was answered by these
+-- or it goes to none, and was answered by these; its client came at the port of clients
 pub record AnswersBy (terms : Terms) (payload : List ℕ) (payloads : List (List ℕ)) : Type 0 where
   pub up : TakesUp terms payload
+  pub port : AsTaken up (λ situation. situation.port ≡ Traffic)
   pub nowhere : (plan_in terms).routes (taken_up up) ≡ None
   pub answers : own_at (plan_in terms) (length up.log) (taken_up up) ≡ Some payloads
 

@@ -2,14 +2,18 @@
 ghost use Rattle.std.specs.Prelude.{◌≡◌, ◌≢◌, ℕ, false, true, List, [], ◌∷◌, slice_index_or, Option, Some, None};
 ghost use Rattle.std.specs.Option.{option_and_then};
 ghost use Rattle.core_promises.specs.Asks.{IsTextOf};
+ghost use Rattle.core_promises.specs.InForce.{has_administrator};
 ghost use Rattle.core_promises.specs.Judges.{IsRoutedFor, Rulebook, Situation, rulebook_of, situation_of, transaction_of};
+ghost use Rattle.core_promises.specs.Sessions.{KeepsApart};
 ghost use Rattle.core_promises.specs.Statements.{number_named};
-ghost use Rattle.core_promises.specs.Wrong.{AnswersBy, AsTaken, AsksFor, IsOfStatement, RefusesUser, SendsBy, SetsNoFlag, StaysIn, is_for_servers, user_of};
+ghost use Rattle.core_promises.specs.Wrong.{AnswersBy, AsTaken, AsksFor, IsOfStatement, RefusesUser, SendsBy, SetsNoFlag, StaysIn, book_up, is_for_servers, user_of};
 ghost use Rattle.message_judge.specs.declared.caller.Prepared.{Prepared};
 ghost use Rattle.log_story.specs.Plan.{Route, com_execute, com_init_db, com_prepare, com_query};
+ghost use Rattle.mx_base.specs.declared.names.Port.TheVariants.{Admin};
+ghost use Rattle.mx_wire.specs.Log.{Log};
 ghost use Rattle.pin_classifier.specs.Classes.{class_of};
 ghost use Rattle.pin_classifier.specs.declared.class.Refusal.{Refusal};
-ghost use Rattle.private_model.specs.Names.{ClientNo, Hostgroup};
+ghost use Rattle.private_model.specs.Names.{ClientNo, Hostgroup, MessageName};
 ghost use Rattle.private_model.specs.Story.{Key};
 ghost use Rattle.query_rules.specs.Effects.{is_first_flag};
 ghost use Rattle.query_rules.specs.Passing.{route_of};
@@ -78,7 +82,7 @@ pub fn runs_what_wasnt_prepared()
 /// An execute goes elsewhere than its statement was prepared, and no transaction is open.
 pub fn runs_elsewhere()
     ensures { (terms : Terms) (rest : List ℕ) (route : Route) (sends : SendsBy terms (com_execute ∷ rest) route) (hostgroup : Hostgroup)
-        → AsTaken sends.up (λ situation. transaction_of (rulebook_of terms.router) situation ≡ None)
+        → AsTaken sends.up (λ situation. transaction_of (book_up sends.up) situation ≡ None)
         → AsTaken sends.up (λ situation. (one : Prepared) → option_and_then situation.statements (number_named (com_execute ∷ rest)) ≡ Some one
         → one.hostgroup ≡ hostgroup) → route.hostgroup ≢ hostgroup → ⊥ }
 {}
@@ -92,16 +96,28 @@ pub fn gives_a_number_again()
 /// A query goes elsewhere than to its user's default hostgroup, of a client that has no transaction open as it is taken up, where the rules leave it there.
 pub fn goes_elsewhere()
     ensures { (terms : Terms) (text : List ℕ) (route : Route) (sends : SendsBy terms (com_query ∷ text) route)
-        → AsTaken sends.up (λ situation. transaction_of (rulebook_of terms.router) situation ≡ None)
+        → AsTaken sends.up (λ situation. transaction_of (book_up sends.up) situation ≡ None)
         → ((ask : Ask) → ask.text ≡ text → ask.user ≡ user_of sends.up → ask.default_hostgroup ≡ home_of terms.router (user_of sends.up)
-        → is_first_flag terms.router.rules ask.flag ≡ true → StaysIn (home_of terms.router (user_of sends.up)) (route_of terms.router.rules ask))
+        → is_first_flag (book_up sends.up).rules ask.flag ≡ true → StaysIn (home_of terms.router (user_of sends.up)) (route_of (book_up sends.up).rules ask))
         → route.hostgroup ≢ home_of terms.router (user_of sends.up) → ⊥ }
 {}
 
 /// It goes elsewhere than to the hostgroup of the transaction that its client has open.
 pub fn leaves_its_transaction()
     ensures { (terms : Terms) (text : List ℕ) (route : Route) (sends : SendsBy terms (com_query ∷ text) route) (hostgroup : Hostgroup)
-        → AsTaken sends.up (λ situation. transaction_of (rulebook_of terms.router) situation ≡ Some hostgroup) → route.hostgroup ≢ hostgroup → ⊥ }
+        → AsTaken sends.up (λ situation. transaction_of (book_up sends.up) situation ≡ Some hostgroup) → route.hostgroup ≢ hostgroup → ⊥ }
+{}
+
+/// Messages are judged by other rules than the configuration's, and no administrator came.
+pub fn changes_its_rules()
+    ensures { (terms : Terms) (log : Log) (keeps : KeepsApart terms log) (name : MessageName) → has_administrator log ≡ false
+        → keeps.rules name ≢ terms.router.rules → ⊥ }
+{}
+
+/// An administrator's message goes to a server.
+pub fn sends_for_an_administrator()
+    ensures { (terms : Terms) (payload : List ℕ) (route : Route) (sends : SendsBy terms payload route)
+        → AsTaken sends.up (λ situation. situation.port ≡ Admin) → ⊥ }
 {}
 
 /// A text goes to a server that is refused, whatever its client: a KILL, or a SET GLOBAL.
@@ -122,14 +138,14 @@ pub fn sends_another_command()
 pub fn goes_past_a_rule()
     ensures { (terms : Terms) (text : List ℕ) (route : Route) (sends : SendsBy terms (com_query ∷ text) route)
         → AsTaken sends.up (λ situation. (ask : Ask) → ask.text ≡ text → ask.user ≡ situation.user → ask.schema ≡ situation.place.schema
-        → is_first_flag terms.router.rules ask.flag ≡ true → (route_of terms.router.rules ask).stop ≢ None) → ⊥ }
+        → is_first_flag (book_up sends.up).rules ask.flag ≡ true → (route_of (book_up sends.up).rules ask).stop ≢ None) → ⊥ }
 {}
 
 /// A query goes to a server of a client whose user the first rule refuses.
 pub fn goes_past_a_rule_of_its_user()
     ensures { (terms : Terms) (text why : List ℕ) (route : Route) (rule : Rule) (others : List Rule)
-        (sends : SendsBy terms (com_query ∷ text) route) → terms.router.rules ≡ rule ∷ others → RefusesUser (user_of sends.up) why rule
-        → SetsNoFlag terms.router.rules → ⊥ }
+        (sends : SendsBy terms (com_query ∷ text) route) → (book_up sends.up).rules ≡ rule ∷ others → RefusesUser (user_of sends.up) why rule
+        → SetsNoFlag (book_up sends.up).rules → ⊥ }
 {}
 
 /// A query is answered by nothing.
@@ -143,8 +159,8 @@ pub fn answers_for_a_server()
     ensures { (terms : Terms) (text info : List ℕ) (status : ℕ)
         (answers : AnswersBy terms (com_query ∷ text) (ok_payload status info ∷ []))
         → AsTaken answers.up (λ situation. (ask : Ask) (said : List ℕ) → ask.text ≡ text → ask.user ≡ situation.user
-        → ask.schema ≡ situation.place.schema → is_first_flag terms.router.rules ask.flag ≡ true
-        → (route_of terms.router.rules ask).stop ≢ Some (OkBy said)) → ⊥ }
+        → ask.schema ≡ situation.place.schema → is_first_flag (book_up answers.up).rules ask.flag ≡ true
+        → (route_of (book_up answers.up).rules ask).stop ≢ Some (OkBy said)) → ⊥ }
 {}
 
 /// The choice of a schema is.

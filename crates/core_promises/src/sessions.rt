@@ -1,7 +1,8 @@
 // The core keeps its clients' sessions apart.
-ghost use Rattle.std.specs.Prelude.{◌≡◌, Bool, None, Some};
+ghost use Rattle.std.specs.Prelude.{◌≡◌, Bool, List, None, Some};
 ghost use Rattle.core_tables.specs.Tables.{Tabled};
 ghost use Rattle.core_promises.specs.Sessions.{KeepsApart, Separates};
+ghost use Rattle.core_promises.specs.InForce.{MayRule};
 ghost use Rattle.core_promises.specs.Judges.{JudgesBy, rulebook_of};
 ghost use Rattle.core_promises.specs.Waits.{AreDoneBy};
 ghost use Rattle.own_words.specs.Own.{SpeaksOwn};
@@ -15,6 +16,7 @@ ghost use Rattle.mx_wire.specs.Moments.{AllLawful, AtEachMoment};
 ghost use Rattle.mx_wire.specs.Tells.{Fits};
 ghost use Rattle.private_model.specs.Honest.{IsAccepted};
 ghost use Rattle.private_model.specs.Names.{ClientNo, MessageName};
+ghost use Rattle.query_rules.specs.declared.rule.Rule.{Rule};
 ghost use Rattle.router_promises.specs.Router.{Router, service_of};
 ghost use Rattle.router_promises.specs.Terms.{Terms, plan_in, setup_in};
 ghost use Rattle.row_laws.specs.Readied.{AreClasses};
@@ -24,13 +26,14 @@ ghost use Rattle.server_rule.specs.Servers.{Step, Tests};
 use log_story::written_is_private;
 
 /// Where tables stand for a log of a wire, as a core by what a router serves, no message goes to two servers, what becomes of each is what the
-/// verdict says, what was decided to be said are the router's own words, and at each wait all was done but lending, the router keeps its clients apart
+/// verdict says by rules that may be in force, what was decided to be said are the router's own words, and at each wait all was done but lending, the router keeps its clients apart
 /// in that log.
 pub fn cores_keep_apart()
     ensures { (router : Router) (log : Log) (t : Tabled) (roomy : ClientNo → Bool)
         → (core : IsCore (service_of router) router.proxy.default_schema log t roomy) → AreClasses router.reads
         → ((m : MessageName) (route : Route) → core.decided.routes m ≡ Some (Some route) → route.mirror ≡ None)
-        → JudgesBy (rulebook_of router) router.proxy.default_schema core.decided log → SpeaksOwn router.rules (plan_of core.decided)
+        → (rules : MessageName → List Rule) → ((name : MessageName) → MayRule router.rules log (rules name))
+        → JudgesBy (rulebook_of router) rules router.proxy.default_schema core.decided log → SpeaksOwn rules (plan_of core.decided)
         → AreDoneBy router.proxy.default_schema core.decided log
         → AllLawful Fits log → Separates router log }
 {}

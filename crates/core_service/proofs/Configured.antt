@@ -18,5 +18,8 @@ texts-behind before (row ∷ rows) each = All-cons (λ (r : UserRow). IsText r.n
 pub lawful_version : (config : Config) → IsLawful config → IsText config.proxy.server_version
 lawful_version config lawful = grind (arith, common_steps, none-zero config.proxy.server_version, lawful.proxy.server_version)
 
+pub lawful_admin : (config : Config) → IsLawful config → IsText config.proxy.admin_user
+lawful_admin config lawful = grind (arith, common_steps, none-zero config.proxy.admin_user, lawful.proxy.admin_user)
+
 pub lawful_names : (config : Config) → IsLawful config → AreTexts config.users
 lawful_names config lawful = texts-behind [] config.users lawful.users.each

@@ -12,6 +12,7 @@ use Rattle.mx_config.specs.declared.config.Config.{Config}
 use Rattle.mx_config.specs.declared.config.UserRow.{UserRow}
 use Rattle.query_rules.specs.Building.{IsCompiled, IsInOrder}
 use Rattle.query_rules.specs.Passing.{rows_of, rules_of}
+use Rattle.query_rules.specs.declared.rule.Rule.{Rule}
 
 -- who may log in
 
@@ -29,6 +30,7 @@ abbrev pub setup_of : Config → Setup
 setup_of config = record {
   version = config.proxy.server_version;
   users = users_of config.users;
+  admin = record { name = config.proxy.admin_user; password = config.proxy.admin_password };
   limit = config.proxy.max_packet;
   max_clients = config.proxy.max_clients;
   target = None;
@@ -47,6 +49,11 @@ home_by rows user =
 abbrev pub hostgroups_of : List ServerRow → List Hostgroup
 hostgroups_of rows = map (λ (row : ServerRow). row.hostgroup) rows
 
+-- the rules in force: those that were loaded last, and first the configuration's
+abbrev pub rules_in : Service → List Rule
+rules_in service = option_map_or rules_of service.loaded (rules_of service.configured)
+
+-- but for what was loaded
 pub record ServesBy (config : Config) (service : Service) : Type 0 where
   pub listen : service.listen ≡ config.proxy.listen
   pub admin_listen : service.admin_listen ≡ config.proxy.admin_listen
@@ -54,5 +61,5 @@ pub record ServesBy (config : Config) (service : Service) : Type 0 where
   pub default_schema : service.default_schema ≡ config.proxy.default_schema
   pub homes : (user : List ℕ) → home_in service.users user ≡ home_by config.users user
   pub hostgroups : service.hostgroups ≡ hostgroups_of config.servers
-  pub rules : IsInOrder config.rules (rows_of service.rules)
-  pub patterns : All IsCompiled (rules_of service.rules)
+  pub rules : IsInOrder config.rules (rows_of service.configured)
+  pub patterns : All IsCompiled (rules_of service.configured)

@@ -1,15 +1,17 @@
 -- How the core's tables stand for a tale.
-use Rattle.std.specs.Prelude.{◌≡◌, ◌<◌, ◌-◌, ℕ, Bool, true, false, All, is_some, take, List, Option, Some, None}
+use Rattle.std.specs.Prelude.{◌≡◌, ◌<◌, ◌-◌, ℕ, Bool, true, false, All, drop, is_some, take, List, Option, Some, None}
+use Rattle.std.specs.List.{list_any}
+use Rattle.packet_frame.specs.Packets.{Framed}
 use Rattle.mx_base.specs.declared.names.Hostgroup.{Hostgroup}
 use Rattle.client_session.specs.Setups.{Setup as Service}
 use Rattle.private_model.specs.Commands.{Command, Prepare, Run}
 use Rattle.private_model.specs.Lawful.{IsLawful}
 use Rattle.private_model.specs.Names.{ClientNo, LinkId, SessionName}
 use Rattle.private_model.specs.Story.{Due, Key, Story, is_link_id, message_of}
-use Rattle.private_model.specs.View.{Setup}
+use Rattle.private_model.specs.View.{Setup, View}
 use Rattle.server_rule.specs.Classes.{core}
 use Rattle.session_vars.specs.declared.change.SlotValue.{SlotValue}
-use Rattle.log_story.specs.Executes.{prepared_by}
+use Rattle.log_story.specs.Executes.{Prepared, prepared_by}
 use Rattle.log_story.specs.Owed.{messages}
 use Rattle.log_story.specs.Plan.{Plan, Route}
 use Rattle.log_story.specs.Tale as tales
@@ -17,7 +19,8 @@ use Rattle.log_story.specs.Tale.{is_to_server}
 use Rattle.row_laws.specs.Whose.{name_in}
 use Rattle.run_laws.specs.Becoming.{AllBecame}
 use Rattle.run_laws.specs.Reads.{HasArgs}
-use Rattle.client_seat.specs.Numbers.{Numbered, number_in}
+use Rattle.stmt_map.specs.declared.client.ClientStatements.{ClientStatements}
+use Rattle.client_seat.specs.Numbers.{Numbered, drops, number_in}
 use Rattle.client_seat.specs.Seats.{is_ended}
 use Rattle.client_seat.specs.Stands.{IsNumbered}
 use Rattle.client_desk.specs.Desks.{session_of}
@@ -67,8 +70,15 @@ pub record AreHomes (g : Ground) (t : Tabled) : Type 0 where
       → (row : Client) × (t.clients n.client ≡ Some row) × ((session_of row.desk n.hostgroup).home ≡ Some l)
       × ((session_of row.desk n.hostgroup).life ≡ n.life)
 
--- What a client that goes on has prepared stands so by its numbers, and none was given that is greater than the last: of its messages but for the
--- last, and of that once it is answered.
+-- What the first of a client's messages prepared under a number stands there, unless a message that was taken up since dropped it.
+abbrev pub KnowsFirst : View → Plan → tales.Client → ClientStatements → (n : ℕ) → Type 0
+KnowsFirst view plan client statements n =
+    (number : ℕ) (made : Prepared) → 0 < number → prepared_by view plan client number 1 (take n (messages plan client)) ≡ Some made
+    → list_any (λ (sent : Framed). drops number sent.payload) (drop made.ordinal (take client.taken (messages plan client))) ≡ false
+    → is_some (number_in statements number) ≡ true
+
+-- What a client that goes on has prepared stands so by its numbers, it stands there for as long as the client knows it, and none was given that is
+-- greater than the last: of its messages but for the last, and of that once it is answered.
 
 pub record IsPrepared (g : Ground) (client : tales.Client) (row : Client) : Type 0 where
   pub each : (number : ℕ) (one : Numbered) → number_in row.desk.seat.statements number ≡ Some one
@@ -77,6 +87,8 @@ pub record IsPrepared (g : Ground) (client : tales.Client) (row : Client) : Type
       → prepared_by (view_on g) g.plan client number 1 (take (client.taken - 1) (messages g.plan client)) ≡ None
   pub kept : row.desk.seat.answered ≡ true → (number : ℕ) → row.desk.seat.statements.last < number
       → prepared_by (view_on g) g.plan client number 1 (take client.taken (messages g.plan client)) ≡ None
+  pub known : KnowsFirst (view_on g) g.plan client row.desk.seat.statements (client.taken - 1)
+  pub stands : row.desk.seat.answered ≡ true → KnowsFirst (view_on g) g.plan client row.desk.seat.statements client.taken
 
 abbrev pub ArePrepared : Ground → Tabled → Type 0
 ArePrepared g t =

@@ -1,5 +1,5 @@
 -- Texts that come, and are forgotten.
-use Rattle.std.specs.Prelude.{◌≡◌, ◌⊎◌, ◌+◌, ◌<◌, ◌≤◌, ℕ, Bool, true, false, bytes_eq, nat_eq, if◌then◌else◌, List, Option, Some, None}
+use Rattle.std.specs.Prelude.{◌≡◌, ◌⊎◌, ◌+◌, ◌<◌, ◌≤◌, ℕ, Bool, true, false, bytes_eq, nat_eq, if◌then◌else◌, List, Some, None}
 use Rattle.std.proofs.Common.{refl, sym, ap, ◌∙◌, inl, inr, arith}
 use Rattle.std.proofs.lemmas.Bool.{ne_eqb, true≢false}
 use Rattle.std.proofs.lemmas.Slice.Eq.{bytes_eq-Decides}
@@ -7,7 +7,7 @@ use Rattle.session_vars.specs.Settings.{AreSettings}
 use Rattle.session_vars.specs.declared.change.SlotValue.{SlotValue}
 use Rattle.session_state.specs.declared.place.Place.{Place}
 use Rattle.place_keys.specs.Keys.{place_key}
-use Rattle.private_model.proofs.Maps.{number_of, same_number}
+use Rattle.private_model.proofs.Maps.{number_of}
 use Rattle.private_model.specs.Story.{Key}
 use Rattle.core_texts.specs.Texts.{AreLess, AreMore, key_at}
 use Rattle.core_texts.specs.declared.texts.Texts.{Texts}

@@ -12,9 +12,9 @@ use Rattle.stmt_map.specs.declared.statement.Statement.{Statement}
 use Rattle.router_promises.specs.Verdicts.{Verdict}
 use Rattle.message_judge.specs.declared.caller.Prepared.{Prepared}
 use Rattle.core_laws.specs.clients.Turns.{Answers, Choice, Goes, Keyed}
-use Rattle.core_promises.specs.Judges.{IsRoutedFor, IsVerdictFor, Rulebook}
+use Rattle.core_promises.specs.Judges.{IsRoutedFor, IsVerdictFor, Rulebook, IsToldFor}
 use Rattle.core_promises.specs.Ruled.{known_by, situation_at}
-use Rattle.core_promises.proofs.Knowing.{KnowsMore, routed_within, verdict_within}
+use Rattle.core_promises.proofs.Knowing.{KnowsMore, routed_within, verdict_within, told_within}
 use Rattle.core_texts.specs.Texts.{AreMore, key_at}
 use Rattle.core_texts.specs.declared.texts.Texts.{Texts}
 use Rattle.core_texts.proofs.Keeping.{same_more}
@@ -66,6 +66,7 @@ more_in keys more has (Some statement) one is = more_by keys more has statement 
 
 knows-more : (keys more : Keys) → HasKeys keys more → (desk : Desk) → KnowsMore (situation_at keys desk) (situation_at more desk)
 knows-more keys more has desk = record {
+  port = refl;
   user = refl;
   place = refl;
   pins = refl;
@@ -79,6 +80,11 @@ module _ (keys more : Keys) (has : HasKeys keys more) where
       → IsVerdictFor book (situation_at keys desk) c payload verdict → IsVerdictFor book (situation_at more desk) c payload verdict
   more_verdict book desk c payload verdict is =
       verdict_within book (situation_at keys desk) (situation_at more desk) (knows-more keys more has desk) c payload verdict is
+
+  pub more_told : (book : Rulebook) (desk : Desk) (c : ClientNo) (payload : List ℕ) (payloads : List (List ℕ))
+      → IsToldFor book (situation_at keys desk) c payload payloads → IsToldFor book (situation_at more desk) c payload payloads
+  more_told book desk c payload payloads is =
+      told_within book (situation_at keys desk) (situation_at more desk) (knows-more keys more has desk) c payload payloads is
 
   pub more_routed : (book : Rulebook) (desk : Desk) (c : ClientNo) (payload : List ℕ) (route : Route)
       → IsRoutedFor book (situation_at keys desk) keys c payload route → IsRoutedFor book (situation_at more desk) more c payload route

@@ -9,3 +9,4 @@ pub mod Prepared
 pub mod Ran
 pub mod Named
 pub mod Keys
+pub mod Administered

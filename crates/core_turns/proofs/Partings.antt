@@ -11,7 +11,7 @@ use Rattle.core_promises.specs.Ruled.{Ruling}
 use Rattle.server_side.specs.Account.{Account}
 use Rattle.handshake.specs.declared.response.Response.{Response}
 use Rattle.client_session.specs.Accounts.{account_of}
-use Rattle.client_session.specs.Setups.{Setup as Service}
+use Rattle.client_session.specs.Setups.{Setup as Service, users_at}
 use Rattle.client_side.specs.Client.{login_of}
 use Rattle.client_side.specs.Steps as steps
 use Rattle.client_side.specs.declared.step.ClientStep.{ClientStep}
@@ -32,7 +32,6 @@ use Rattle.core_tables.specs.Taking.{IsUpOr}
 use Rattle.core_tables.specs.declared.client.Client.{Client}
 use Rattle.core_laws.specs.clients.Found.{desk_up}
 use Rattle.core_laws.specs.clients.Turns.{Answers, Choice, EndsThere, Goes, Halt, QuitsThere}
-use Rattle.router_promises.specs.Verdicts.{Tells}
 use Rattle.core_texts.specs.Texts.{AreMore, key_at}
 use Rattle.core_texts.specs.declared.texts.Texts.{Texts}
 use Rattle.marked_tables.specs.Goes.{GoesOn}
@@ -42,7 +41,7 @@ use Rattle.core_turns.specs.Turned.{HasChosen, HasGone, IsRuledTurn, IsSaid, IsT
 use Rattle.core_turns.specs.declared.turn.Stop.{Stop}
 use Rattle.core_turns.specs.declared.turn.Stop.TheVariants as stops
 use Rattle.core_turns.specs.Taken.{Keys}
-use Rattle.core_turns.proofs.Keys.{HasKeys, keys_along, keys_of, more_along, more_routed, more_said, more_verdict, same_texts}
+use Rattle.core_turns.proofs.Keys.{HasKeys, keys_along, keys_of, more_along, more_routed, more_said, more_told, same_texts}
 use Rattle.core_turns.proofs.Turning.{both-same, chosen-some, not-away, seated-there}
 
 -- Who is told at a look that it ends has ended.
@@ -78,7 +77,7 @@ login-so (Some account) setup default response first seat = next-so setup.limit 
 
 if-so : (setup : Service) (default : List ℕ) (response : Option Response) (first : ℕ) (seat : Seat) → EndsSo (logs_in_if setup default response first seat)
 if-so setup default None first seat = rests-so seat
-if-so setup default (Some response) first seat = login-so (account_of setup.users seat.client.salt response) setup default response first seat
+if-so setup default (Some response) first seat = login-so (account_of (users_at setup seat.port) seat.client.salt response) setup default response first seat
 
 looks-so : (setup : Service) (default : List ℕ) (step : ClientStep) (seat : Seat) → EndsSo (looks_in setup default step seat)
 looks-so setup default (says.Login first) seat = if-so setup default (login_of seat.client.stage) first seat
@@ -217,7 +216,7 @@ more-turn : (book : Rulebook) (keys later : Keys) → HasKeys keys later → (ch
 more-turn book keys later has (Goes route keyed) service default c old new is =
     (is.0, more_routed keys later has book (desk_up service default is.0.up.row) c is.0.up.message.payload route is.1)
 more-turn book keys later has (Answers payloads) service default c old new is =
-    (is.0, more_verdict keys later has book (desk_up service default is.0.up.row) c is.0.up.message.payload (Tells payloads) is.1)
+    (is.0, more_told keys later has book (desk_up service default is.0.up.row) c is.0.up.message.payload payloads is.1)
 
 module _ (book : Rulebook) (service : Service) (default : List ℕ) (c : ClientNo) where
   none-turned : (keys : Keys) (old : Tabled) → HasTurned book keys service default c old old

@@ -7,6 +7,7 @@ use Rattle.std.proofs.lemmas.Option.{same_Some}
 use Rattle.session_state.specs.declared.place.Place.{Place}
 use Rattle.mx_base.specs.declared.names.ClientNo.{ClientNo}
 use Rattle.mx_base.specs.declared.names.Hostgroup.{Hostgroup}
+use Rattle.mx_base.specs.declared.names.Port.TheVariants.{Traffic}
 use Rattle.packet_frame.specs.Packets.{Framed, spelling}
 use Rattle.pin_classifier.specs.Classes.{class_of}
 use Rattle.pin_classifier.specs.declared.class.Class.{Class}
@@ -151,12 +152,13 @@ pub due_prepared : (book : Rulebook) (judged texts : Texts) → HasKeys (key_at 
     → OnUp c old (λ row message. (nat_eq (byte_of message.payload) com_prepare ≡ true) × (class ≡ class_of text))
     → OnUp c old (λ row message. IsInMemory row.desk.seat.statements message.payload)
     → IsDueToPrepare ordinal flag since hostgroup text multiplex class c texts old new
-    → OnUp c old (λ row message. IsPreparedSo book (situation_at (key_at judged) row.desk) (next_number row.desk.seat.statements) c message.payload hostgroup text multiplex
+    → OnUp c old (λ row message. row.desk.seat.port ≡ Traffic
+    → IsPreparedSo book (situation_at (key_at judged) row.desk) (next_number row.desk.seat.statements) c message.payload hostgroup text multiplex
     → IsDueThere hostgroup ordinal (record { book = book; keys = key_at texts }) c row message old new)
 due_prepared book judged texts more ordinal flag since hostgroup text multiplex class c old new verdict memory due =
-    on-up old c due.row (λ row message. IsPreparedSo book (situation_at (key_at judged) row.desk) (next_number row.desk.seat.statements) c message.payload hostgroup text multiplex
+    on-up old c due.row (λ row message. row.desk.seat.port ≡ Traffic → IsPreparedSo book (situation_at (key_at judged) row.desk) (next_number row.desk.seat.statements) c message.payload hostgroup text multiplex
     → IsDueThere hostgroup ordinal (record { book = book; keys = key_at texts }) c row message old new) due.there
-    (λ message found promised.
+    (λ message found port promised.
     let row_is : due.due.row ≡ due.row = same_Some due.due.row due.row (sym due.due.there ∙ due.there) in
     let asked : asked_in due.row.desk.seat.statements message.payload (Some text) ≡ Some (Says due.due.command) =
     subst (λ (r : Client). asked_in r.desk.seat.statements message.payload (Some text) ≡ Some (Says due.due.command)) row_is
@@ -187,6 +189,7 @@ due_prepared book judged texts more ordinal flag since hostgroup text multiplex 
         };
         routed = refl;
         keyed = λ key is_key. due.keyed ∙ is_key;
+        port = port;
         is = more_verdict (key_at judged) (key_at texts) more book due.row.desk c message.payload _ promised.ruled;
       };
       flag = flag;

@@ -8,6 +8,7 @@ use Rattle.std.proofs.lemmas.Option.{none-some, same_Some}
 use Rattle.mx_base.specs.Fields.{number_at}
 use Rattle.mx_base.specs.declared.names.ClientNo.{ClientNo}
 use Rattle.mx_base.specs.declared.names.Hostgroup.{Hostgroup}
+use Rattle.mx_base.specs.declared.names.Port.TheVariants.{Traffic}
 use Rattle.packet_frame.specs.Packets.{Framed}
 use Rattle.pin_classifier.specs.Classes.{class_of}
 use Rattle.pin_classifier.specs.declared.class.Class.{Class}
@@ -258,8 +259,8 @@ module _ (book : Rulebook) (judged texts : Texts) (more : HasKeys (key_at judged
     same : stays ≡ true → due.key ≡ named.key
     same = same-by stays texts named.key prepared stands due.key due.keyed
 
-    pub ran-there : IsRuledRun due.row message → IsDueThere hostgroup ordinal (record { book = book; keys = key_at texts }) c due.row message old new
-    ran-there ruled = record {
+    pub ran-there : due.row.desk.seat.port ≡ Traffic → IsRuledRun due.row message → IsDueThere hostgroup ordinal (record { book = book; keys = key_at texts }) c due.row message old new
+    ran-there port ruled = record {
       route = run_route hostgroup multiplex due.key;
       keyed = first ∷ second ∷ [];
       there = refl;
@@ -273,6 +274,7 @@ module _ (book : Rulebook) (judged texts : Texts) (more : HasKeys (key_at judged
         };
         routed = refl;
         keyed = λ key is_key. unplaced-so (key_at texts) prepared.place.schema stands (text_key prepared) due.key refl second-there key is_key;
+        port = port;
         is = more_verdict (key_at judged) (key_at texts) more book due.row.desk c message.payload _ ruled;
       };
       flag = flag;
@@ -310,9 +312,9 @@ module _ (book : Rulebook) (judged texts : Texts) (more : HasKeys (key_at judged
   pub due_run : OnUp c old (λ row message. (named_in judged row.desk.seat.statements message.payload ≡ Some named) × IsExecute prepared message.payload)
       → OnUp c old (λ row message. IsInMemory row.desk.seat.statements message.payload)
       → IsDueToRun ordinal flag since hostgroup multiplex named.key prepared c texts old new
-      → OnUp c old (λ row message. IsRuledRun row message → IsDueThere hostgroup ordinal (record { book = book; keys = key_at texts }) c row message old new)
+      → OnUp c old (λ row message. row.desk.seat.port ≡ Traffic → IsRuledRun row message → IsDueThere hostgroup ordinal (record { book = book; keys = key_at texts }) c row message old new)
   due_run verdict memory due =
-      on-up old c due.row (λ row message. IsRuledRun row message → IsDueThere hostgroup ordinal (record { book = book; keys = key_at texts }) c row message old new) due.there
+      on-up old c due.row (λ row message. row.desk.seat.port ≡ Traffic → IsRuledRun row message → IsDueThere hostgroup ordinal (record { book = book; keys = key_at texts }) c row message old new) due.there
       (λ message found.
       let on = verdict due.row due.there message found in
       ran-there due message found on.0 on.1 (memory due.row due.there message found))

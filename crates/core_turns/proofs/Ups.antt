@@ -7,8 +7,9 @@ use Rattle.std.proofs.lemmas.Option.{none-some}
 use Rattle.mx_base.specs.Fields.{number_at}
 use Rattle.mx_base.specs.declared.names.ClientNo.{ClientNo}
 use Rattle.mx_base.specs.declared.names.Hostgroup.{Hostgroup}
+use Rattle.mx_base.specs.declared.names.Port.TheVariants.{Traffic}
 use Rattle.packet_frame.specs.Packets.{Framed, spelling, spellings}
-use Rattle.own_words.specs.Own.{IsAnswer}
+use Rattle.own_words.specs.Own.{IsOwnAnswer}
 use Rattle.server_rule.specs.Classes.{Reads}
 use Rattle.private_model.specs.Commands.{Command, is_marked}
 use Rattle.log_story.specs.Plan.{com_execute, text_payload}
@@ -27,8 +28,7 @@ use Rattle.core_tables.specs.Parting.{left_in, left_row, parted_in}
 use Rattle.core_tables.specs.Tables.{IsSame, Tabled, client_put}
 use Rattle.core_tables.specs.Taking.{AreNotedIn, IsDue, IsUpOr, found_of, text_work}
 use Rattle.core_tables.specs.declared.client.Client.{Client}
-use Rattle.router_promises.specs.Verdicts.{Tells}
-use Rattle.core_promises.specs.Judges.{IsRoutedFor, IsVerdictFor, Rulebook}
+use Rattle.core_promises.specs.Judges.{IsRoutedFor, IsToldFor, IsVerdictFor, Rulebook}
 use Rattle.core_promises.specs.Ruled.{Ruling, situation_at}
 use Rattle.core_turns.specs.Judged.{IsSendable, goes_with, route_by}
 use Rattle.core_turns.specs.Taken.{IsAnswered, IsDueThere, Keys, OnUp, answered_so}
@@ -76,21 +76,21 @@ left-noted refused c t statements noted = by (t.clients c) refl where
   by (Some row) at = subst (λ (o : Option Client). AreNotedIn refused o statements) (left-there c t row at) noted
 
 -- The router answers it.
-pub answer-so : (anew : Bool) (ruling : Ruling) (c : ClientNo) (flag : ℕ) (said packets : List ℕ) (statements : ClientStatements) (payloads : List (List ℕ)) (old new : Tabled)
-    → IsAnswer ruling.book.rules c payloads → OnUp c old (λ row message. packets ≡ spellings row.desk.seat.first payloads) → said ≡ packets
+pub answer-so : (anew : Bool) (ruling : Ruling) (c : ClientNo) (flag : ℕ) (packets : List ℕ) (statements : ClientStatements) (payloads : List (List ℕ)) (old new : Tabled)
+    → IsOwnAnswer ruling.book.rules c payloads → OnUp c old (λ row message. packets ≡ spellings row.desk.seat.first payloads)
     → OnUp c old (λ row message. anew ≡ nat_eq (slice_index_or message.payload 0 0) 0x1F)
-    → AreNotedIn true (old.clients c) statements → IsSame new (answered_so anew c flag said statements old)
-    → OnUp c old (λ row message. IsVerdictFor ruling.book (situation_at ruling.keys row.desk) c message.payload (Tells payloads) → IsAnswered ruling c row message old new)
-answer-so anew ruling c flag said packets statements payloads old new own spelt same is noted made = λ row there message found ruled. record {
+    → AreNotedIn true (old.clients c) statements → IsSame new (answered_so anew c flag packets statements old)
+    → OnUp c old (λ row message. IsToldFor ruling.book (situation_at ruling.keys row.desk) c message.payload payloads → IsAnswered ruling c row message old new)
+answer-so anew ruling c flag packets statements payloads old new own spelt is noted made = λ row there message found ruled. record {
   payloads = payloads;
   own = own;
   ruled = ruled;
   flag = flag;
-  packets = said;
+  packets = packets;
   statements = statements;
-  spelt = same ∙ spelt row there message found;
+  spelt = spelt row there message found;
   noted = noted_there true old c row message statements there found noted;
-  makes = subst (λ (b : Bool). IsSame new (answered_so b c flag said statements old)) (is row there message found) made;
+  makes = subst (λ (b : Bool). IsSame new (answered_so b c flag packets statements old)) (is row there message found) made;
 }
 
 -- It goes to a server.
@@ -122,24 +122,27 @@ record IsSendsAs (form : Form) (command : Command) : Type 0 where
 
 -- it is routed so where nothing is to stand under its key
 unkeyed : (book : Rulebook) (keys : Keys) (row : Client) (c : ClientNo) (payload : List ℕ) (hostgroup : Hostgroup) (text : Option (List ℕ)) (multiplex : Option Bool)
-    → IsVerdictFor book (situation_at keys row.desk) c payload (goes_with (route_by hostgroup text multiplex) None)
+    → row.desk.seat.port ≡ Traffic → IsVerdictFor book (situation_at keys row.desk) c payload (goes_with (route_by hostgroup text multiplex) None)
     → IsRoutedFor book (situation_at keys row.desk) keys c payload (route_by hostgroup text multiplex)
-unkeyed book keys row c payload hostgroup text multiplex ruled = record {
+unkeyed book keys row c payload hostgroup text multiplex port ruled = record {
   wanted = record { route = route_by hostgroup text multiplex; key = None };
   routed = refl;
   keyed = λ key is. absurd (none-some key is);
+  port = port;
   is = ruled;
 }
 
 pub due-there : (ruling : Ruling) (hostgroup : Hostgroup) (ordinal flag since : ℕ) (text : Option (List ℕ)) (multiplex : Option Bool) (form : Form) (c : ClientNo) (old new : Tabled)
     → OnUp c old (λ row message. IsSendable message.payload text form)
     → IsDue flag text (text_work ordinal hostgroup since multiplex form) c old new
-    → OnUp c old (λ row message. IsVerdictFor ruling.book (situation_at ruling.keys row.desk) c message.payload (goes_with (route_by hostgroup text multiplex) None)
+    → OnUp c old (λ row message. row.desk.seat.port ≡ Traffic
+    → IsVerdictFor ruling.book (situation_at ruling.keys row.desk) c message.payload (goes_with (route_by hostgroup text multiplex) None)
     → IsDueThere hostgroup ordinal ruling c row message old new)
 due-there ruling hostgroup ordinal flag since text multiplex form c old new sendable due =
-    on-up old c due.row (λ row message. IsVerdictFor ruling.book (situation_at ruling.keys row.desk) c message.payload (goes_with (route_by hostgroup text multiplex) None)
+    on-up old c due.row (λ row message. row.desk.seat.port ≡ Traffic
+    → IsVerdictFor ruling.book (situation_at ruling.keys row.desk) c message.payload (goes_with (route_by hostgroup text multiplex) None)
     → IsDueThere hostgroup ordinal ruling c row message old new) due.there
-    (λ message found ruled.
+    (λ message found port ruled.
     let sends : IsSendable message.payload text form = sendable due.row due.there message found in
     let asks : asked_in due.row.desk.seat.statements message.payload text ≡ Some (Says due.command) =
     subst (λ (o : Option Framed). option_and_then (λ (m : Framed). asked_in due.row.desk.seat.statements m.payload text) o ≡ Some (Says due.command)) found due.asked in
@@ -155,7 +158,7 @@ due-there ruling hostgroup ordinal flag since text multiplex form c old new send
       there = refl;
       single = refl;
       under = All-nil (λ (one : Keyed). ruling.keys one.number ≡ Some one.key);
-      ruled = unkeyed ruling.book ruling.keys due.row c message.payload hostgroup text multiplex ruled;
+      ruled = unkeyed ruling.book ruling.keys due.row c message.payload hostgroup text multiplex port ruled;
       flag = flag;
       command = due.command;
       work = text_work ordinal hostgroup since multiplex form (spelling 0 (text_payload due.command));

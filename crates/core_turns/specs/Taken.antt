@@ -3,7 +3,7 @@ use Rattle.std.specs.Prelude.{◌≡◌, ℕ, Bool, true, false, All, List, Opti
 use Rattle.mx_base.specs.declared.names.ClientNo.{ClientNo}
 use Rattle.mx_base.specs.declared.names.Hostgroup.{Hostgroup}
 use Rattle.packet_frame.specs.Packets.{Framed, spellings}
-use Rattle.own_words.specs.Own.{IsAnswer}
+use Rattle.own_words.specs.Own.{IsOwnAnswer}
 use Rattle.server_rule.specs.Classes.{Reads}
 use Rattle.private_model.specs.Commands.{Command}
 use Rattle.private_model.specs.Story.{Due, Key}
@@ -20,8 +20,7 @@ use Rattle.core_laws.specs.taking.Takes.{IsNumberedAs, is_reset}
 use Rattle.core_tables.specs.Tables.{IsSame, Tabled, client_changed}
 use Rattle.core_tables.specs.Taking.{answers, begins_anew, found_of, goes}
 use Rattle.core_tables.specs.declared.client.Client.{Client}
-use Rattle.router_promises.specs.Verdicts.{Tells}
-use Rattle.core_promises.specs.Judges.{IsRoutedFor, IsVerdictFor}
+use Rattle.core_promises.specs.Judges.{IsRoutedFor, IsToldFor}
 use Rattle.core_promises.specs.Ruled.{Ruling, situation_at}
 use Rattle.core_turns.specs.declared.turn.Stop.{Stop}
 use Rattle.core_turns.specs.declared.turn.Stop.TheVariants as stops
@@ -49,8 +48,8 @@ answered_so false c flag packets statements t = client_changed c (answers flag p
 
 pub record IsAnswered (ruling : Ruling) (c : ClientNo) (row : Client) (message : Framed) (old new : Tabled) : Type 0 where
   pub payloads : List (List ℕ)
-  pub own : IsAnswer ruling.book.rules c payloads
-  pub ruled : IsVerdictFor ruling.book (situation_at ruling.keys row.desk) c message.payload (Tells payloads)
+  pub own : IsOwnAnswer ruling.book.rules c payloads
+  pub ruled : IsToldFor ruling.book (situation_at ruling.keys row.desk) c message.payload payloads
   pub flag : ℕ
   pub packets : List ℕ
   pub statements : ClientStatements

@@ -4,7 +4,7 @@ use Rattle.std.specs.List.{list_all}
 use Rattle.std.specs.Option.{option_map_or}
 use Rattle.mx_base.specs.declared.names.ClientNo.{ClientNo}
 use Rattle.mx_base.specs.declared.names.Hostgroup.{Hostgroup}
-use Rattle.own_words.specs.Own.{IsAnswer}
+use Rattle.own_words.specs.Own.{IsOwnAnswer}
 use Rattle.client_session.specs.Setups.{Setup as Service}
 use Rattle.client_side.specs.declared.stage.Stage.TheVariants.{Commands}
 use Rattle.client_seat.specs.Seats.{is_ended}
@@ -107,7 +107,7 @@ pub record IsDueIn (hostgroup : Hostgroup) (ruling : Ruling) (service : Service)
 abbrev pub IsTurned : Turn → Ruling → Service → (default : List ℕ) → ClientNo → (old new : Tabled) → Type 0
 IsTurned (turns.Stops stop) ruling service default c old new = StopsSo (halt_of stop) service default c old new
 IsTurned turns.Answered ruling service default c old new =
-    (payloads : List (List ℕ)) × IsAnswer ruling.book.rules c payloads × IsRuledTurn ruling (Answers payloads) service default c old new
+    (payloads : List (List ℕ)) × IsOwnAnswer ruling.book.rules c payloads × IsRuledTurn ruling (Answers payloads) service default c old new
 IsTurned (turns.Due hostgroup) ruling service default c old new = IsDueIn hostgroup ruling service default c old new
 
 -- One turn, and all that it makes as it goes on, up to where it leaves. No copies are made of its messages, what the router answers is in its
@@ -115,7 +115,7 @@ IsTurned (turns.Due hostgroup) ruling service default c old new = IsDueIn hostgr
 
 abbrev pub IsSaid : Ruling → ClientNo → Choice → Type 0
 IsSaid ruling c (Goes route keyed) = (route.mirror ≡ None) × AreUnder ruling.keys keyed
-IsSaid ruling c (Answers payloads) = IsAnswer ruling.book.rules c payloads
+IsSaid ruling c (Answers payloads) = IsOwnAnswer ruling.book.rules c payloads
 
 pub record HasChosen (ruling : Ruling) (service : Service) (default : List ℕ) (c : ClientNo) (old new : Tabled) : Type 0 where
   pub choice : Choice

@@ -8,7 +8,6 @@ ghost use Rattle.message_judge.specs.Drafts.{IsOwnDraft, class_in};
 ghost use Rattle.message_judge.specs.Told.{IsOwnTold};
 ghost use Rattle.message_judge.specs.declared.draft.Draft.TheVariants as drafts;
 ghost use Rattle.query_rules.specs.Effects.{is_first_flag};
-ghost use Rattle.query_rules.specs.Passing.{rules_of};
 ghost use Rattle.query_rules.specs.declared.rule.Rule.{Rule};
 ghost use Rattle.mx_base.specs.declared.names.ClientNo.{ClientNo};
 ghost use Rattle.private_model.specs.Story.{Key};
@@ -18,7 +17,7 @@ ghost use Rattle.core_laws.specs.clients.Found.{user_in};
 ghost use Rattle.core_promises.specs.Judges.{Rulebook};
 ghost use Rattle.core_promises.specs.Ruled.{book_of, known_as, situation_at};
 ghost use Rattle.core_promises.specs.Statements.{number_named};
-ghost use Rattle.core_service.specs.Serves.{home_in};
+ghost use Rattle.core_service.specs.Serves.{home_in, rules_in};
 ghost use Rattle.core_texts.specs.Texts.{key_at};
 ghost use Rattle.core_texts.specs.declared.texts.Texts.{Texts};
 ghost use Rattle.core_turns.specs.Judged.{IsAsPromised, IsDraftFor, IsOwnVerdict, IsVerdictOn, byte_of, form_by, sent_by, sent_plain, sent_text};
@@ -98,10 +97,10 @@ fn user_of(alloc: Global, desk: &Desk) -> Result<Bytes, OutOfMemory>
 
 // The flag by which rules are tried first for a client: the one that a rule left, or 0.
 fn flag_of(service: &Service, desk: &Desk) -> u16
-    ensures first { is_first_flag (rules_of service.now.rules) result ≡ true }
-    ensures kept { is_first_flag (rules_of service.now.rules) desk.now.seat.flag ≡ true → result ≡ desk.now.seat.flag }
+    ensures first { is_first_flag (rules_in service.now) result ≡ true }
+    ensures kept { is_first_flag (rules_in service.now) desk.now.seat.flag ≡ true → result ≡ desk.now.seat.flag }
 {
-    if service.rules.is_first_flag(desk.seat.flag) {
+    if service.rules().is_first_flag(desk.seat.flag) {
         desk.seat.flag
     } else {
         0
@@ -119,7 +118,7 @@ fn caller_of(
     ensures login { IfOk result (λ caller. caller.user ≡ user_in desk.now.seat.phase) }
     ensures home { IfOk result (λ caller. caller.home ≡ home_in service.now.users (user_in desk.now.seat.phase)) }
     ensures place { IfOk result (λ caller. caller.place ≡ desk.now.seat.place) }
-    ensures flag { IfOk result (λ caller. is_first_flag (rules_of service.now.rules) caller.flag ≡ true) }
+    ensures flag { IfOk result (λ caller. is_first_flag (rules_in service.now) caller.flag ≡ true) }
 {
     let user = user_of(alloc, desk)?;
     let home = service.home(&user);
@@ -437,7 +436,7 @@ fn drafted(
     payload: &[u8],
     named: &Option<Named>,
 ) -> Result<Judged, OutOfMemory>
-    ensures own { IfOk result (λ judged. IsOwnDraft (rules_of service.now.rules) judged.draft) }
+    ensures own { IfOk result (λ judged. IsOwnDraft (rules_in service.now) judged.draft) }
     ensures known { IfOk result (λ judged. (texts : Texts) → named.now ≡ named_in texts desk.now.seat.statements payload.now
         → IsDraftFor (book_of service.now) (situation_at (key_at texts) desk.now) (next_number desk.now.seat.statements) client payload.now
         (prepared_of named.now) judged.draft) }
@@ -449,7 +448,7 @@ fn drafted(
     };
     judge(
         alloc,
-        &service.rules,
+        service.rules(),
         &caller,
         standing,
         prepared_in(named),
@@ -468,7 +467,7 @@ pub(crate) fn judged(
     payload: &[u8],
 ) -> Result<Judgement, OutOfMemory>
     ensures is { IfOk result (λ judgement. IsVerdictOn (named_in texts.now desk.now.seat.statements payload.now) payload.now judgement.verdict) }
-    ensures own { IfOk result (λ judgement. IsOwnVerdict (rules_of service.now.rules) judgement.verdict) }
+    ensures own { IfOk result (λ judgement. IsOwnVerdict (rules_in service.now) judgement.verdict) }
     ensures promised { IfOk result (λ judgement. IsAsPromised (book_of service.now) (situation_at (key_at texts.now) desk.now)
         (next_number desk.now.seat.statements) client payload.now judgement.verdict) }
     ensures memory { OnOk result (IsInMemory desk.now.seat.statements payload.now) }

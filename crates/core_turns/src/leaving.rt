@@ -8,8 +8,10 @@ ghost use Rattle.marked_tables.specs.Goes.{GoesOn};
 ghost use Rattle.core_texts.specs.Texts.{AreMore, key_at};
 ghost use Rattle.core_turns.specs.Turned.{HasGoneOn, MayLeaveBy, RuledTurns, TurnsUntil, halt_of};
 
+use crate::administrator::Administrator;
 use crate::onward::go_on;
 use crate::turn::{Stop, Went};
+use admin_port::Running;
 use core_service::Service;
 use core_texts::Texts;
 use hostgroups::Servers;
@@ -40,8 +42,10 @@ pub fn leave(marked: &mut MarkedTables, client: ClientNo, stop: Stop) -> Result<
 pub fn take_turns(
     marked: &mut MarkedTables,
     texts: &mut Texts,
+    admin: &mut Administrator,
+    running: &Running<'_>,
     service: &Service,
-    servers: &Servers,
+    servers: &mut Servers,
     clock: u64,
     alloc: Global,
     client: ClientNo,
@@ -51,7 +55,10 @@ pub fn take_turns(
     ensures goes { OnOk result (GoesOn marked.old marked.new) }
     ensures more { OnOk result (AreMore texts.old texts.new) }
 {
-    let Some(went) = go_on(marked, texts, service, servers, clock, alloc, client)? else {
+    let Some(went) = go_on(
+        marked, texts, admin, running, service, servers, clock, alloc, client,
+    )?
+    else {
         return Ok(None);
     };
     leave(marked, client, went.stop)?;

@@ -1,8 +1,12 @@
 //! A client's messages are taken up one by one: what becomes of each, and how that ends.
 #![tactic(auto)]
 
+mod administering;
+mod administrator;
+mod answering;
 mod judged;
 mod leaving;
+mod loaded;
 mod looking;
 mod onward;
 mod preparing;
@@ -10,7 +14,9 @@ mod sending;
 mod taking;
 mod turn;
 
+pub use administrator::Administrator;
 pub use leaving::{leave, take_turns};
+pub use loaded::Loaded;
 pub use onward::go_on;
 pub use taking::take_next;
 pub use turn::{Stop, Turn, Went};

@@ -6,9 +6,11 @@ ghost use Rattle.marked_tables.specs.Goes.{GoesOn};
 ghost use Rattle.core_texts.specs.Texts.{AreMore, key_at};
 ghost use Rattle.core_turns.specs.Turned.{HasGoneFurther, HasGoneOn, MayLeaveIf, TurnsUntil};
 
+use crate::administrator::Administrator;
 use crate::looking::is_away;
 use crate::taking::take_there;
 use crate::turn::{Stop, Turn, Went};
+use admin_port::Running;
 use core_service::Service;
 use core_texts::Texts;
 use hostgroups::Servers;
@@ -20,8 +22,10 @@ use std::alloc::Global;
 fn go_further(
     marked: &mut MarkedTables,
     texts: &mut Texts,
+    admin: &mut Administrator,
+    running: &Running<'_>,
     service: &Service,
-    servers: &Servers,
+    servers: &mut Servers,
     clock: u64,
     alloc: Global,
     client: ClientNo,
@@ -34,7 +38,9 @@ fn go_further(
     ensures goes { OnOk result (GoesOn marked.old marked.new) }
     ensures more { OnOk result (AreMore texts.old texts.new) }
 {
-    match take_there(marked, texts, service, servers, clock, alloc, client)? {
+    match take_there(
+        marked, texts, admin, running, service, servers, clock, alloc, client,
+    )? {
         Turn::Stops(stop) => Ok(Some(stop)),
         Turn::Answered => Ok(None),
         Turn::Due { hostgroup } => {
@@ -50,8 +56,10 @@ fn go_further(
 pub fn go_on(
     marked: &mut MarkedTables,
     texts: &mut Texts,
+    admin: &mut Administrator,
+    running: &Running<'_>,
     service: &Service,
-    servers: &Servers,
+    servers: &mut Servers,
     clock: u64,
     alloc: Global,
     client: ClientNo,
@@ -68,7 +76,7 @@ pub fn go_on(
     let mut due = None;
     'turns: for _ in 0..u64::MAX {
         if let Some(stop) = go_further(
-            marked, texts, service, servers, clock, alloc, client, &mut due,
+            marked, texts, admin, running, service, servers, clock, alloc, client, &mut due,
         )? {
             return Ok(Some(Went { due, stop }));
         }

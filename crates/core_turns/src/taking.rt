@@ -6,9 +6,11 @@ ghost use Rattle.marked_tables.specs.Goes.{GoesOn};
 ghost use Rattle.core_texts.specs.Texts.{AreMore, key_at};
 ghost use Rattle.core_turns.specs.Turned.{IsTurned, IsTurnedIf};
 
+use crate::administrator::Administrator;
 use crate::looking::{is_away, waits};
 use crate::sending::take_up;
 use crate::turn::{Stop, Turn};
+use admin_port::Running;
 use client_seat::Next;
 use core_service::Service;
 use core_texts::Texts;
@@ -22,8 +24,10 @@ use std::alloc::Global;
 pub(crate) fn take_there(
     marked: &mut MarkedTables,
     texts: &mut Texts,
+    admin: &mut Administrator,
+    running: &Running<'_>,
     service: &Service,
-    servers: &Servers,
+    servers: &mut Servers,
     clock: u64,
     alloc: Global,
     client: ClientNo,
@@ -42,7 +46,7 @@ pub(crate) fn take_there(
         Next::Ended => Ok(Turn::Stops(Stop::Ends)),
         Next::Message { ordinal } => {
             take_up(
-                marked, texts, service, servers, clock, alloc, client, ordinal,
+                marked, texts, admin, running, service, servers, clock, alloc, client, ordinal,
             )
         }
     }
@@ -54,8 +58,10 @@ pub(crate) fn take_there(
 pub fn take_next(
     marked: &mut MarkedTables,
     texts: &mut Texts,
+    admin: &mut Administrator,
+    running: &Running<'_>,
     service: &Service,
-    servers: &Servers,
+    servers: &mut Servers,
     clock: u64,
     alloc: Global,
     client: ClientNo,
@@ -68,6 +74,8 @@ pub fn take_next(
     if is_away(&marked.tables, client) {
         return Ok(None);
     }
-    let turn = take_there(marked, texts, service, servers, clock, alloc, client)?;
+    let turn = take_there(
+        marked, texts, admin, running, service, servers, clock, alloc, client,
+    )?;
     Ok(Some(turn))
 }

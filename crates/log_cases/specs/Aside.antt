@@ -57,7 +57,7 @@ abbrev pub given_up : Story
 given_up = came 1 3 insert ∷ came 1 2 insert ∷ []
 
 abbrev pub asker : Client
-asker = record { number = client 1; link = link 1; salt = salt; read = response ++ (ping ++ (query ++ query)); written = 0; taken = 3 }
+asker = record { number = client 1; port = Traffic; link = link 1; salt = salt; read = response ++ (ping ++ (query ++ query)); written = 0; taken = 3 }
 
 -- On a link the long data of a prepared statement are dropped, and another is closed, before a client's statement is sent.
 

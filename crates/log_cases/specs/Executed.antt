@@ -61,7 +61,7 @@ execute_log =
     ∷ Wrote (link 3) (For (client 1) 4) (with_types 7 1) ∷ Got (link 3) done ∷ [])
 
 abbrev pub preparer : Client
-preparer = record { number = client 1; link = link 1; salt = salt; read = response ++ said; written = 0; taken = 4 }
+preparer = record { number = client 1; port = Traffic; link = link 1; salt = salt; read = response ++ said; written = 0; taken = 4 }
 
 -- What it tells.
 

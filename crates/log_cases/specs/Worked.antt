@@ -38,7 +38,7 @@ route = record { hostgroup = group; text = None; key = 0; number = 0; multiplex 
 
 abbrev pub plan : Plan
 plan = record {
-  service = record { version = codes "8"; users = record { name = codes "app"; password = [] } ∷ []; limit = 1000; max_clients = 9; target = None };
+  service = record { version = codes "8"; users = record { name = codes "app"; password = [] } ∷ []; admin = record { name = codes "admin"; password = [] }; limit = 1000; max_clients = 9; target = None };
   room = 1048576;
   logins = λ l. login;
   routes = λ message. Some route;
@@ -126,4 +126,4 @@ log =
 
 -- the second client, by then
 abbrev pub second_client : Client
-second_client = record { number = client 2; link = link 2; salt = salt; read = response ++ query; written = 0; taken = 1 }
+second_client = record { number = client 2; port = Traffic; link = link 2; salt = salt; read = response ++ query; written = 0; taken = 1 }

@@ -13,7 +13,7 @@ use Rattle.log_story.specs.Plan.{Alone, Behind, ForLogin, LastWord, Plan, WordPl
 use Rattle.log_story.specs.Tale.{Client}
 
 abbrev pub talk_of : Plan → Client → Talk
-talk_of plan client = record { setup = plan.service; number = client.number.0; salt = client.salt; read = client.read }
+talk_of plan client = record { setup = plan.service; port = client.port; number = client.number.0; salt = client.salt; read = client.read }
 
 -- the messages of a client behind its login
 abbrev pub messages : Plan → Client → List Framed

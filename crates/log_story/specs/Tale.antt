@@ -1,6 +1,7 @@
 -- What is known of a log as it is read: its story, and the bytes that no happening stands for yet.
 use Rattle.std.specs.Prelude.{ℕ, ◌+◌, suc, Bool, false, true, List, [], ◌∷◌, ◌++◌, map, Option, Some, None, if◌then◌else◌}
 use Rattle.std.specs.List.{list_any}
+use Rattle.mx_base.specs.declared.names.Port.{Port}
 use Rattle.private_model.specs.Names.{ClientNo, LinkId, ServerId}
 use Rattle.private_model.specs.Story.{Happening, Story, is_client, is_link_id, put}
 use Rattle.private_model.specs.View.{Link, Setup, View, view_after}
@@ -17,17 +18,18 @@ pub record Wire : Type 0 where
   pub step : Option StepText
   pub begun : ℕ
 
--- A client: the bytes read of it, how many were written to it, and how many of its messages were taken up.
+-- A client: at which port and on which link it came, the bytes read of it, how many were written to it, and how many of its messages were taken up.
 pub record Client : Type 0 where
   pub number : ClientNo
+  pub port : Port
   pub link : LinkId
   pub salt : List ℕ
   pub read : List ℕ
   pub written : ℕ
   pub taken : ℕ
 
-abbrev pub new_client : (number : ℕ) → LinkId → (salt : List ℕ) → Client
-new_client number link salt = record { number = record { 0 = number }; link = link; salt = salt; read = []; written = 0; taken = 0 }
+abbrev pub new_client : (number : ℕ) → Port → LinkId → (salt : List ℕ) → Client
+new_client number port link salt = record { number = record { 0 = number }; port = port; link = link; salt = salt; read = []; written = 0; taken = 0 }
 
 -- how many entries there were; clients, and links to servers, in the order in which they came
 pub record Tale : Type 0 where

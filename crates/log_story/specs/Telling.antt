@@ -31,7 +31,7 @@ abbrev pub is_lost_or_left : LinkId → Tale → Tale
 is_lost_or_left link tale = if is_to_server tale link then tell (Gone link) tale else fold (client_leaves link) tale tale.clients
 
 abbrev pub told : Setup → Plan → Tale → Entry → Tale
-told setup plan tale (Accepted port link salt) = record tale { clients = tale.clients ++ new_client (length tale.clients + 1) link salt ∷ [] }
+told setup plan tale (Accepted port link salt) = record tale { clients = tale.clients ++ new_client (length tale.clients + 1) port link salt ∷ [] }
 told setup plan tale (Opened server address link) = with_wire link (new_wire server) (record tale { links = tale.links ++ link ∷ [] })
 told setup plan tale (Got link bytes) =
     if is_to_server tale link then server_says setup plan link bytes tale else record tale { clients = map (client_hears link bytes) tale.clients }

@@ -3,10 +3,11 @@ use Rattle.std.specs.Prelude.{◌≡◌, ℕ, suc, ◌-◌, Bool, not, ◌||◌,
 use Rattle.hostgroups.specs.declared.server.Server.{Server}
 use Rattle.mx_base.specs.Fields.{number_at}
 use Rattle.mx_base.specs.declared.names.Hostgroup.{Hostgroup}
+use Rattle.mx_base.specs.declared.names.Port.TheVariants.{Traffic}
 use Rattle.log_story.specs.Executes.{Bound, bound_by}
 use Rattle.log_story.specs.Executes as executes
 use Rattle.log_story.specs.Owed.{messages, name_of}
-use Rattle.log_story.specs.Plan.{Plan, Route}
+use Rattle.log_story.specs.Plan.{Route}
 use Rattle.log_story.specs.Tale.{view_of}
 use Rattle.router_promises.specs.Router.{home_of}
 use Rattle.router_promises.specs.Running.{has_online}
@@ -19,6 +20,7 @@ use Rattle.message_judge.specs.declared.caller.Prepared.{Prepared}
 use Rattle.message_judge.specs.declared.caller.Standing.{Standing}
 
 pub record IsCaller (terms : Terms) (flag : ℕ) (taking : Taking) (caller : Caller) : Type 0 where
+  pub port : taking.client.port ≡ Traffic
   pub number : caller.number ≡ taking.client.number
   pub user : caller.user ≡ user_in terms taking
   pub home : caller.home ≡ home_of terms.router (user_in terms taking)

@@ -1,17 +1,22 @@
 -- Which errors the router has, and which answers are of one packet.
-use Rattle.std.specs.Prelude.{◌≡◌, ◌≢◌, ℕ, ◌+◌, ◌<◌, ◌≤◌, ◌^◌, Bool, true, false, ◌||◌, nat_lt, List, [], ◌∷◌, ◌++◌, codes, length, slice_index_or, refl}
+use Rattle.std.specs.Prelude.{◌≡◌, ◌≢◌, ℕ, ◌+◌, ◌<◌, ◌≤◌, ◌^◌, Bool, true, false, ◌||◌, nat_lt, List, [], ◌∷◌, ◌++◌, codes, length, map, slice_index_or, refl}
 use Rattle.std.specs.Fmt.{decimal}
 use Rattle.std.proofs.Common.{ap, append-nil, arith, subst, sym, ◌∙◌}
 use Rattle.std.proofs.lemmas.Fmt.{decimal_injective, length-decimal-le}
 use Rattle.client_session.specs.Errors.{bad_server_bytes, connection_lost, connection_refused, malformed_command, too_many_connections, unknown_command}
-use Rattle.reply_text.specs.Replies.{err_payload, ok_payload}
-use Rattle.reply_text.specs.Tables.{text_bytes}
+use Rattle.reply_text.specs.Replies.{eof_payload, err_payload, ok_payload}
+use Rattle.reply_text.specs.Tables.{count_payload, definition_payload, row_payload, text_bytes}
 use Rattle.query_rules.specs.declared.rule.Rule.{Rule}
-use Rattle.mx_base.specs.declared.names.Port.TheVariants.{Admin, Traffic}
+use Rattle.admin_port.specs.Answers.{Reply, code_of, text_of}
+use Rattle.admin_port.specs.Answers.Reply.{Done, Rows, Refused, Loads, ShutsDown}
+use Rattle.admin_port.specs.Payloads.{reply_payloads, sheet_payloads}
+use Rattle.admin_port.specs.Sheets.{Sheet}
+use Rattle.admin_port.specs.declared.answer.Refusal.{Refusal}
+use Rattle.admin_port.specs.declared.answer.Refusal.TheVariants as refusals
 use Rattle.private_model.specs.Names.{ClientNo}
 use Rattle.router_promises.specs.Errors.{buffers_full, diagnostics_gone, names_connection, no_connection, no_server_in, out_of_memory, refused_by_rule, replay_refused, server_offline, sets_server, too_many_statements, unknown_statement}
 use Rattle.own_words.specs.Codes.{code_in, failure_codes, is_among, is_last_code, is_own_code, refusal_codes}
-use Rattle.own_words.specs.Own.{Answers, BadBytes, BuffersFull, ByRule, DiagnosticsGone, Fails, GivesUp, IsAnswer, IsFailure, IsLastWord, IsOwn, IsRefusal, LinkLost, MalformedCommand, NamesConnection, NoConnection, NoLink, NoMemory, NoServerIn, Nothing, Number, Offline, OkByRule, Okay, Refuses, SetsServer, StepRefused, TooManyStatements, TurnedAway, UnknownCommand, UnknownStatement, is_error_text, is_ok_text, number_payloads}
+use Rattle.own_words.specs.Own.{Answers, Shows, BadBytes, BuffersFull, ByRule, DiagnosticsGone, Fails, GivesUp, IsAnswer, IsFailure, IsLastWord, IsOwn, IsRefusal, LinkLost, MalformedCommand, NamesConnection, NoConnection, NoLink, NoMemory, NoServerIn, Nothing, Number, Offline, OkByRule, Okay, Refuses, SetsServer, StepRefused, TooManyStatements, TurnedAway, UnknownCommand, UnknownStatement, is_error_text, is_ok_text, number_payloads}
 
 pub never : {A : Type 0} → true ≡ false → A
 never is = absurd (cc)
@@ -95,19 +100,67 @@ answer-error rules client _ code state text (OkByRule status other small has) is
 answer-error rules client _ code state text (Number status small) is = five-one status client.0 _ is
 answer-error rules client _ code state text (Refuses payload refuses) is = coded refusal_codes payload code state text (refusal-error rules payload refuses) is
 
+-- An administrator's.
+
+abbrev refusal_payload : Refusal → List ℕ
+refusal_payload refusal = err_payload (code_of refusal) (codes "HY000") (text_of refusal)
+
+same-info : (a b : ℕ) (text other : List ℕ) → ◌≡◌ {A = List (List ℕ)} (ok_payload a text ∷ []) (ok_payload b other ∷ []) → text ≡ other
+same-info a b text other is = cc
+
+rows-one : {A : Type 0} (s : Sheet) (payload : List ℕ) → ◌≡◌ {A = List (List ℕ)} (sheet_payloads s) (payload ∷ []) → A
+rows-one {A = A} s payload is = by (map definition_payload s.columns) is where
+  by : (columns : List (List ℕ)) → ◌≡◌ {A = List (List ℕ)} (count_payload (length s.columns) ∷ (columns ++ (eof_payload 2 ∷ (map row_payload s.rows ++ eof_payload 2 ∷ [])))) (payload ∷ []) → A
+  by [] same = one-two _ _ _ _ (sym same)
+  by (column ∷ columns) same = one-two _ _ _ _ (sym same)
+
+refused-error : (refusal : Refusal) → IsError refusal_codes (refusal_payload refusal)
+refused-error (refusals.Unknown word) = record { first = refl; code = refl }
+refused-error refusals.Rule = record { first = refl; code = refl }
+refused-error refusals.Server = record { first = refl; code = refl }
+
+shown-error : (reply : Reply) (code : ℕ) (state text : List ℕ) → reply_payloads reply ≡ err_payload code state text ∷ [] → is_among refusal_codes code ≡ true
+shown-error Done code state text is = isnt-ok _ 2 [] refl (sym is)
+shown-error (Rows s) code state text is = rows-one s _ is
+shown-error (Refused refusal) code state text is = coded refusal_codes (refusal_payload refusal) code state text (refused-error refusal) is
+shown-error (Loads table) code state text is = isnt-ok _ 2 [] refl (sym is)
+shown-error ShutsDown code state text is = isnt-ok _ 2 [] refl (sym is)
+
+shown-text : {A : Type 0} (reply : Reply) (text : List ℕ) → reply_payloads reply ≡ err_payload 1148 (codes "42000") text ∷ [] → A
+shown-text reply text is = absurd (never (sym (by reply is))) where
+  by-code : (refusal : Refusal) → ◌≡◌ {A = List (List ℕ)} (refusal_payload refusal ∷ []) (err_payload 1148 (codes "42000") text ∷ []) → true ≡ false
+  by-code (refusals.Unknown word) same = (let at : 9120 ≡ 1148 = ap code_in (one-payload _ _ same) in absurd (omega (arith, at)))
+  by-code refusals.Rule same = (let at : 9121 ≡ 1148 = ap code_in (one-payload _ _ same) in absurd (omega (arith, at)))
+  by-code refusals.Server same = (let at : 9122 ≡ 1148 = ap code_in (one-payload _ _ same) in absurd (omega (arith, at)))
+
+  by : (reply : Reply) → reply_payloads reply ≡ err_payload 1148 (codes "42000") text ∷ [] → false ≡ true
+  by Done same = isnt-ok _ 2 [] refl (sym same)
+  by (Rows s) same = rows-one s _ same
+  by (Refused refusal) same = sym (by-code refusal same)
+  by (Loads table) same = isnt-ok _ 2 [] refl (sym same)
+  by ShutsDown same = isnt-ok _ 2 [] refl (sym same)
+
+shown-info : {A : Type 0} (reply : Reply) (status : ℕ) (text : List ℕ) → reply_payloads reply ≡ ok_payload status text ∷ [] → text ≢ [] → A
+shown-info Done status text is some = absurd (some (sym (same-info 2 status [] text is)))
+shown-info (Rows s) status text is some = rows-one s _ is
+shown-info (Refused refusal) status text is some = isnt-ok (refusal_payload refusal) status text (refused-error refusal).first is
+shown-info (Loads table) status text is some = absurd (some (sym (same-info 2 status [] text is)))
+shown-info ShutsDown status text is some = absurd (some (sym (same-info 2 status [] text is)))
+
 pub own-error : (rules : List Rule) (client : ClientNo) (payloads : List (List ℕ)) (code : ℕ) (state text : List ℕ) → IsOwn rules client payloads
     → payloads ≡ err_payload code state text ∷ [] → is_own_code code ≡ false → ⊥
 own-error rules client _ code state text (Answers payloads answers) is none =
     left-out (is_among refusal_codes code) (is_among failure_codes code) none (answer-error rules client payloads code state text answers is)
+own-error rules client _ code state text (Shows reply) is none =
+    left-out (is_among refusal_codes code) (is_among failure_codes code) none (shown-error reply code state text is)
 own-error rules client _ code state text (GivesUp payload fails) is none =
     right-out (is_among refusal_codes code) (is_among failure_codes code) none (coded failure_codes payload code state text (failure-error payload fails) is)
 
 pub last-error : (payloads : List (List ℕ)) (code : ℕ) (state text : List ℕ) → IsLastWord payloads → payloads ≡ err_payload code state text ∷ [] → is_last_code code ≡ false → ⊥
 last-error _ code state text (Fails payload fails) is none =
     right-out (is_among (1040 ∷ []) code) (is_among failure_codes code) none (coded failure_codes payload code state text (failure-error payload fails) is)
-last-error _ code state text (TurnedAway Traffic) is none =
+last-error _ code state text TurnedAway is none =
     left-out (is_among (1040 ∷ []) code) (is_among failure_codes code) none (coded (1040 ∷ []) too_many_connections code state text no-room is)
-last-error _ code state text (TurnedAway Admin) is none = none-one _ _ is
 
 -- Texts.
 
@@ -125,6 +178,7 @@ failure-lost _ NoMemory at = absurd (omega (arith, at))
 pub own-lost : (rules : List Rule) (client : ClientNo) (payloads : List (List ℕ)) (state text : List ℕ) → IsOwn rules client payloads
     → payloads ≡ err_payload 9101 state text ∷ [] → err_payload 9101 state text ≡ connection_lost
 own-lost rules client _ state text (Answers payloads answers) is = never (sym (answer-error rules client payloads 9101 state text answers is))
+own-lost rules client _ state text (Shows reply) is = never (sym (shown-error reply 9101 state text is))
 own-lost rules client _ state text (GivesUp payload fails) is =
     let same : payload ≡ err_payload 9101 state text = one-payload _ _ is in
     let at : code_in payload ≡ 9101 = ap code_in same in
@@ -156,10 +210,8 @@ answer-text rules client _ text (Refuses payload refuses) is = refusal-text rule
 pub own-text : (rules : List Rule) (client : ClientNo) (payloads : List (List ℕ)) (text : List ℕ) → IsOwn rules client payloads
     → payloads ≡ err_payload 1148 (codes "42000") text ∷ [] → is_error_text rules text ≡ true
 own-text rules client _ text (Answers payloads answers) is = answer-text rules client payloads text answers is
+own-text rules client _ text (Shows reply) is = shown-text reply text is
 own-text rules client _ text (GivesUp payload fails) is = never (sym (coded failure_codes payload 1148 (codes "42000") text (failure-error payload fails) is))
-
-same-info : (a b : ℕ) (text other : List ℕ) → ◌≡◌ {A = List (List ℕ)} (ok_payload a text ∷ []) (ok_payload b other ∷ []) → text ≡ other
-same-info a b text other is = cc
 
 answer-info : (rules : List Rule) (client : ClientNo) (payloads : List (List ℕ)) (status : ℕ) (text : List ℕ) → IsAnswer rules client payloads
     → payloads ≡ ok_payload status text ∷ [] → text ≢ [] → is_ok_text rules text ≡ true
@@ -173,11 +225,12 @@ answer-info rules client _ status text (Refuses payload refuses) is some = isnt-
 pub own-info : (rules : List Rule) (client : ClientNo) (payloads : List (List ℕ)) (status : ℕ) (text : List ℕ) → IsOwn rules client payloads
     → payloads ≡ ok_payload status text ∷ [] → text ≢ [] → is_ok_text rules text ≡ true
 own-info rules client _ status text (Answers payloads answers) is some = answer-info rules client payloads status text answers is some
+own-info rules client _ status text (Shows reply) is some = shown-info reply status text is some
 own-info rules client _ status text (GivesUp payload fails) is some = isnt-ok payload status text (failure-error payload fails).first is
 
 -- More than one packet.
 
-answer-rows : (rules : List Rule) (client : ClientNo) (payloads : List (List ℕ)) (first second : List ℕ) (more : List (List ℕ)) → IsAnswer rules client payloads
+pub answer-rows : (rules : List Rule) (client : ClientNo) (payloads : List (List ℕ)) (first second : List ℕ) (more : List (List ℕ)) → IsAnswer rules client payloads
     → payloads ≡ first ∷ second ∷ more → (status : ℕ) × (payloads ≡ number_payloads status client.0)
 answer-rows rules client _ first second more Nothing is = none-one _ _ is
 answer-rows rules client _ first second more (Okay status small) is = one-two _ _ _ _ is
@@ -185,15 +238,9 @@ answer-rows rules client _ first second more (OkByRule status text small has) is
 answer-rows rules client _ first second more (Number status small) is = (status, refl)
 answer-rows rules client _ first second more (Refuses payload refuses) is = one-two _ _ _ _ is
 
-pub own-rows : (rules : List Rule) (client : ClientNo) (payloads : List (List ℕ)) (first second : List ℕ) (more : List (List ℕ)) → IsOwn rules client payloads
-    → payloads ≡ first ∷ second ∷ more → (status : ℕ) × (payloads ≡ number_payloads status client.0)
-own-rows rules client _ first second more (Answers payloads answers) is = answer-rows rules client payloads first second more answers is
-own-rows rules client _ first second more (GivesUp payload fails) is = one-two _ _ _ _ is
-
 pub last-one : (payloads : List (List ℕ)) (first second : List ℕ) (more : List (List ℕ)) → IsLastWord payloads → payloads ≡ first ∷ second ∷ more → ⊥
 last-one _ first second more (Fails payload fails) is = one-two _ _ _ _ is
-last-one _ first second more (TurnedAway Traffic) is = one-two _ _ _ _ is
-last-one _ first second more (TurnedAway Admin) is = none-one _ _ is
+last-one _ first second more TurnedAway is = one-two _ _ _ _ is
 
 -- Numbers.
 
@@ -228,4 +275,5 @@ answer-any rules client other _ (Refuses payload refuses) none = Refuses payload
 pub own-any : (rules : List Rule) (client other : ClientNo) (payloads : List (List ℕ)) → IsOwn rules client payloads
     → ((status : ℕ) → payloads ≢ number_payloads status client.0) → IsOwn rules other payloads
 own-any rules client other _ (Answers payloads answers) none = Answers payloads (answer-any rules client other payloads answers none)
+own-any rules client other _ (Shows reply) none = Shows reply
 own-any rules client other _ (GivesUp payload fails) none = GivesUp payload fails

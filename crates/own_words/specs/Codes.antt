@@ -6,9 +6,9 @@ use Rattle.std.specs.List.{list_any}
 abbrev pub code_in : (payload : List ℕ) → ℕ
 code_in payload = slice_index_or payload 1 0 + slice_index_or payload 2 0 * 256
 
--- of those that answer a message as it is taken up
+-- of those that answer a message as it is taken up, the last three an administrator's
 abbrev pub refusal_codes : List ℕ
-refusal_codes = 1047 ∷ 1148 ∷ 1243 ∷ 9100 ∷ 9106 ∷ 9107 ∷ 9108 ∷ 9109 ∷ 9113 ∷ []
+refusal_codes = 1047 ∷ 1148 ∷ 1243 ∷ 9100 ∷ 9106 ∷ 9107 ∷ 9108 ∷ 9109 ∷ 9113 ∷ 9120 ∷ 9121 ∷ 9122 ∷ []
 
 -- of those by which a statement is given up
 abbrev pub failure_codes : List ℕ

@@ -1,14 +1,15 @@
 -- What the router says to a client by itself: its own words, texts of its rules, and numbers. No other bytes are in it, so none that came of
--- another client or of a server.
-use Rattle.std.specs.Prelude.{◌≡◌, ◌≤◌, ◌<◌, ◌^◌, ℕ, Bool, true, false, bytes_eq, List, [], ◌∷◌, codes, Some}
+-- another client or of a server; but for the tables that administrators are shown.
+use Rattle.std.specs.Prelude.{◌≡◌, ◌⊎◌, ◌≤◌, ◌<◌, ◌^◌, ℕ, Bool, true, false, bytes_eq, List, [], ◌∷◌, codes, Some}
 use Rattle.std.specs.Fmt.{decimal}
 use Rattle.std.specs.List.{list_any}
 use Rattle.std.specs.Option.{option_map_or}
-use Rattle.mx_base.specs.declared.names.Port.{Port}
 use Rattle.client_session.specs.Errors.{bad_server_bytes, connection_lost, connection_refused, malformed_command, unknown_command}
 use Rattle.reply_text.specs.Replies.{ok_payload}
 use Rattle.reply_text.specs.Tables.{row_payload, table_payloads}
 use Rattle.query_rules.specs.declared.rule.Rule.{Rule}
+use Rattle.admin_port.specs.Answers.{Reply}
+use Rattle.admin_port.specs.Payloads.{reply_payloads}
 use Rattle.private_model.specs.Names.{ClientNo, MessageName}
 use Rattle.log_story.specs.Plan.{LastWord, OwnAnswer, Plan}
 use Rattle.router_promises.specs.Due.{turned_away}
@@ -48,6 +49,14 @@ pub data IsAnswer (rules : List Rule) (client : ClientNo) : (payloads : List (Li
   Number : (status : ℕ) → status ≤ 3 → IsAnswer rules client (number_payloads status client.0)
   Refuses : (payload : List ℕ) → IsRefusal rules payload → IsAnswer rules client (payload ∷ [])
 
+-- what an administrator's statement is answered: a table, an OK, or that it is refused
+abbrev pub IsShown : (payloads : List (List ℕ)) → Type 0
+IsShown payloads = (reply : Reply) × (payloads ≡ reply_payloads reply)
+
+-- the answer to a message as it is taken up, of a client or of an administrator
+abbrev pub IsOwnAnswer : List Rule → ClientNo → (payloads : List (List ℕ)) → Type 0
+IsOwnAnswer rules client payloads = IsAnswer rules client payloads ⊎ IsShown payloads
+
 -- Why a statement is given up, or a client told a last word: the link was lost; none was lent, or none could be opened; a step was refused; the
 -- server was taken offline; bytes of it are no reply; too many bytes of clients wait; or there is no memory.
 pub data IsFailure : (payload : List ℕ) → Type 0 where
@@ -63,14 +72,15 @@ pub data IsFailure : (payload : List ℕ) → Type 0 where
 -- What a message is answered in place of a reply.
 pub data IsOwn (rules : List Rule) (client : ClientNo) : (payloads : List (List ℕ)) → Type 0 where
   Answers : (payloads : List (List ℕ)) → IsAnswer rules client payloads → IsOwn rules client payloads
+  Shows : (reply : Reply) → IsOwn rules client (reply_payloads reply)
   GivesUp : (payload : List ℕ) → IsFailure payload → IsOwn rules client (payload ∷ [])
 
 -- A client's last word, or that it isn't served.
 pub data IsLastWord : (payloads : List (List ℕ)) → Type 0 where
   Fails : (payload : List ℕ) → IsFailure payload → IsLastWord (payload ∷ [])
-  TurnedAway : (port : Port) → IsLastWord (turned_away port)
+  TurnedAway : IsLastWord turned_away
 
--- All that a plan has the router say is of its own.
-pub record SpeaksOwn (rules : List Rule) (plan : Plan) : Type 0 where
-  pub own : (m : MessageName) (answer : OwnAnswer) → plan.own m ≡ Some answer → IsOwn rules m.client answer.payloads
+-- All that a plan has the router say is of its own, by each message's rules.
+pub record SpeaksOwn (rules : MessageName → List Rule) (plan : Plan) : Type 0 where
+  pub own : (m : MessageName) (answer : OwnAnswer) → plan.own m ≡ Some answer → IsOwn (rules m) m.client answer.payloads
   pub words : (c : ClientNo) (word : LastWord) → plan.words c ≡ Some word → IsLastWord word.payloads

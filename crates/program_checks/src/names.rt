@@ -11,7 +11,7 @@ pub enum Names {
 }
 
 // Names with their hexadecimal digits, the longer ones first, as one's digits may stand in another's; and how a line feed is written.
-const NAMES: [(&str, &str, Names); 32] = [
+const NAMES: [(&str, &str, Names); 33] = [
     (" | ", "\n", Names::Both),
     // The greeting to the first client of a recording. A server's is the same.
     (
@@ -40,6 +40,12 @@ const NAMES: [(&str, &str, Names); 32] = [
     (
         "{login}",
         "3b0000010da20e00000000012d000000000000000000000000000000000000000000000075000064006d7973716c5f6e61746976655f70617373776f726400",
+        Names::Recorded,
+    ),
+    // The response of the administrator, who has no password.
+    (
+        "{admin}",
+        "3d00000105a20e00000000012d000000000000000000000000000000000000000000000061646d696e00006d7973716c5f6e61746976655f70617373776f726400",
         Names::Recorded,
     ),
     // What the router says to a server as the user u.

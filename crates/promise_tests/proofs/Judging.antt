@@ -44,7 +44,6 @@ use Rattle.promise_tests.specs.Judging.{is_keyed, is_last_word, is_right_step, i
 use Rattle.promise_tests.specs.Judging.{may_drop, may_open, may_part, may_quit, may_step, may_step_for, opens_right, own_by, parts, parts_right, steps_right, word_right}
 use Rattle.promise_tests.proofs.Same.{all-so, any-so, implied, isnt, none-so, not-so, same-address, same-bytes, same-each, same-key, same-option, same-route}
 use Rattle.promise_tests.proofs.Telling.{le-so, lt-so}
-use Rattle.client_session.specs.Arrivals.{arrival_of}
 use Rattle.router_promises.specs.Due.{turned_away}
 use Rattle.router_promises.proofs.Refusals.{never}
 
@@ -383,9 +382,8 @@ word-for : (terms : Terms) (log : Log) (now ending : Now) (e : Entry) (c : Clien
 word-for terms log now ending e c Alone payloads is =
     let parts = and_parts _ _ is in
     let more = and_parts _ _ parts.1 in
-    let came = some-so _ (arrival_of c.number.0 log) more.1 in
-    subst (λ (p : List (List ℕ)). WordFor terms log now ending e c Alone p) (sym (same-each bytes_eq same-bytes payloads (turned_away came.0.port) came.2))
-    (TurnedAway came.0 parts.0 came.1 (not-so _ more.0))
+    subst (λ (p : List (List ℕ)). WordFor terms log now ending e c Alone p) (sym (same-each bytes_eq same-bytes payloads turned_away more.1))
+    (TurnedAway parts.0 (not-so _ more.0))
 word-for terms log now ending e c ForLogin payloads is = aside-for terms log now ending e c ForLogin payloads refl is
 word-for terms log now ending e c Behind payloads is = aside-for terms log now ending e c Behind payloads refl is
 
@@ -402,13 +400,9 @@ word-so terms log now later e c so =
     record {
       may = λ word is from. last-word terms log now e c word
           (subst (λ (o : Option LastWord). option_map_or (is_last_word terms log now e c) o true ≡ true) is first.0) from;
-      away = λ came comes arrived away. never (sym (implied _ _ first.1 comes) ∙ away);
+      away = λ comes away. never (sym (implied _ _ first.1 comes) ∙ away);
       must = λ measured much. implied _ _ (implied _ _ both.1 measured) much;
     }
-
-written-or : (a : Bool) (bytes : List ℕ) → (a || bytes_eq bytes []) ≡ true → (a ≡ true) ⊎ (bytes ≡ [])
-written-or true bytes is = inl refl
-written-or false bytes is = inr (same-bytes bytes [] is)
 
 part-so : (terms : Terms) (log : Log) (now : Now) (c : Client) → may_part terms log now c ≡ true → MayPart terms log now c
 part-so terms log now c is = elim (or_cases _ _ is) [
@@ -418,7 +412,7 @@ part-so terms log now c is = elim (or_cases _ _ is) [
     | inr b ↦ elim (or_cases _ _ b) [
       | inl over ↦ TimeIsOver (le-so _ _ over)
       | inr d ↦ elim (or_cases _ _ d) [
-        | inl away ↦ (let parts = and_parts _ _ away in NotServed (not-so _ parts.0) (written-or _ _ parts.1))
+        | inl away ↦ (let parts = and_parts _ _ away in NotServed (not-so _ parts.0) parts.1)
         | inr unheard ↦ Unheard unheard
       ]
     ]

@@ -38,7 +38,6 @@ use Rattle.router_promises.specs.Terms.{Terms, Tried, login_as, plan_in, setup_i
 use Rattle.router_promises.specs.Uses.{StepKind, kind_of_step, steps_of}
 use Rattle.router_promises.specs.Verdicts.{Goes, Parts, Tells, Verdict, Wanted, verdict}
 use Rattle.promise_tests.specs.Same.{are_each, is_address, is_key, is_nothing, is_option, is_route}
-use Rattle.client_session.specs.Arrivals.{Arrival, arrival_of}
 
 -- Where a message goes. What is told for want of memory isn't tested.
 
@@ -293,8 +292,7 @@ ends_right terms log now later e client =
 abbrev pub is_turned_away : Terms → Log → Entry → Client → (payloads : List (List ℕ)) → Bool
 is_turned_away terms log e client payloads =
     is_accepted e client && (not (served terms log client)
-    && option_map_or (λ (came : Arrival). are_each bytes_eq payloads (turned_away came.port))
-    (arrival_of client.number.0 log) false)
+    && are_each bytes_eq payloads turned_away)
 
 abbrev pub is_word_for : Terms → Log → (now ending : Now) → Entry → Client → WordPlace
     → (payloads : List (List ℕ)) → Bool
@@ -326,9 +324,7 @@ may_part terms log now client =
     || (list_any (λ e. is_loss e && is_link client.link (link_of e)) log
     || (nat_le (moment_in log
     ((plan_in terms).ends client.number) + terms.router.proxy.wait_ms) now.clock
-    || ((not (served terms log client)
-    && (list_any is_write (of_link client.link log) || bytes_eq (due_to terms now client) []))
-    || is_unheard terms log client)))
+    || ((not (served terms log client) && list_any is_write (of_link client.link log)) || is_unheard terms log client)))
 
 abbrev pub parts_right : Terms → Log → Now → LinkId → Client → Bool
 parts_right terms log now link client =

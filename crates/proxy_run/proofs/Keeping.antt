@@ -14,6 +14,8 @@ use Rattle.core_promises.specs.Judges.{JudgesBy, Rulebook, rulebook_of}
 use Rattle.core_promises.specs.Ruled.{book_of}
 use Rattle.core_promises.specs.Waits.{AreDoneBy}
 use Rattle.core_service.specs.Serves.{ServesBy}
+use Rattle.query_rules.specs.Passing.{rules_of}
+use Rattle.core_promises.specs.InForce.{MayRule}
 use Rattle.core_service.specs.declared.service.Service.{Service}
 use Rattle.core_texts.specs.declared.texts.Texts.{Texts}
 use Rattle.core_tables.specs.Tables.{Tabled}
@@ -27,14 +29,13 @@ use Rattle.mx_wire.specs.Tells.{Fits, MayFollow}
 use Rattle.mx_wire.specs.declared.entry.Entry.{Entry}
 use Rattle.mx_wire.specs.declared.entry.Entry.TheVariants as entry
 use Rattle.private_model.specs.Names.{ClientNo, MessageName}
-use Rattle.query_rules.specs.Passing.{rules_of}
 use Rattle.ready_loop.specs.Serving.{IsWanted, ListensFirst, Stood}
 use Rattle.router_laws.specs.decisions.Routers.{IsRouter}
 use Rattle.router_laws.specs.decisions.Speaks.{DecidesOwn}
 use Rattle.router_promises.specs.Router.{IsConfiguredBy, Router, service_of}
 use Rattle.row_laws.specs.Readied.{AreClasses}
 use Rattle.server_rule.specs.Classes.{router_reads}
-use Rattle.shared_core.specs.Machine.{IsStanding}
+use Rattle.shared_core.specs.Machine.{IsStanding, unloaded}
 use Rattle.shared_core.specs.Says.{awaits, reads, sends}
 use Rattle.shared_core.specs.declared.whole.Core.{Core}
 use Rattle.proxy_run.specs.Serve.{GoesOnWith}
@@ -45,7 +46,7 @@ router_by config service = record {
   proxy = config.proxy;
   users = config.users;
   servers = config.servers;
-  rules = rules_of service.rules;
+  rules = rules_of service.configured;
 }
 
 configured_by : (config : Config) (service : Service) → ServesBy config service → IsConfiguredBy config (router_by config service)
@@ -65,34 +66,39 @@ classes = record { class = λ text. refl; hides = λ text. refl }
 fits-of : (log : Log) → AllLawful MayFollow log → AllLawful Fits log
 fits-of log follows = lawful-each MayFollow (AllLawful Fits) log (λ l e may fit. lawful-more Fits l e fit may.fits) tt follows
 
--- what its messages are judged by is what the configuration has
-book-is : (config : Config) (service : Service) → ServesBy config service → book_of service ≡ rulebook_of (router_by config service)
-book-is config service by = λ i. record { rules = rules_of service.rules; home = λ user. by.homes user i; hostgroups = by.hostgroups i }
+-- what its messages are judged by is what the configuration has, but for rules that are loaded
+book-is : (config : Config) (service : Service) → ServesBy config service
+    → record (book_of service) { rules = rules_of service.configured } ≡ rulebook_of (router_by config service)
+book-is config service by = λ i. record { rules = rules_of service.configured; home = λ user. by.homes user i; hostgroups = by.hostgroups i }
 
 -- what a router of a log has, by how clients log in, the default schema, and what messages are judged by
 record Served (setup : Setup) (default : List ℕ) (book : Rulebook) (log : Log) (t : Tabled) (roomy : ClientNo → Bool) : Type 0 where
+  rules : MessageName → List Rule
+  force : (name : MessageName) → MayRule book.rules log (rules name)
   core : IsCore setup default log t roomy
   single : (m : MessageName) (route : Route) → core.decided.routes m ≡ Some (Some route) → route.mirror ≡ None
-  judges : JudgesBy book default core.decided log
-  speaks : SpeaksOwn book.rules (plan_of core.decided)
+  judges : JudgesBy book rules default core.decided log
+  speaks : SpeaksOwn rules (plan_of core.decided)
   waited : AreDoneBy default core.decided log
 
 -- what was decided to be said are the router's own words
-speaks_so : (rules : List Rule) (d : Decided) → DecidesOwn rules d → SpeaksOwn rules (plan_of d)
+speaks_so : (rules : MessageName → List Rule) (d : Decided) → DecidesOwn rules d → SpeaksOwn rules (plan_of d)
 speaks_so rules d spoken = record { own = λ m answer is. own m answer (d.own m) refl is; words = spoken.words } where
   own : (m : MessageName) (answer : OwnAnswer) (found : Option (Option OwnAnswer)) → d.own m ≡ found → unwrap_or found None ≡ Some answer
-      → IsOwn rules m.client answer.payloads
+      → IsOwn (rules m) m.client answer.payloads
   own m answer None there is = absurd (none-some answer is)
   own m answer (Some None) there is = absurd (none-some answer is)
   own m answer (Some (Some other)) there is = spoken.own m answer (there ∙ ap Some is)
 
 served_by : (service : Service) (texts : Texts) (log : Log) (t : Tabled) (roomy : ClientNo → Bool) → IsRouter service texts log t roomy
-    → Served service.setup service.default_schema (book_of service) log t roomy
+    → Served service.setup service.default_schema (record (book_of service) { rules = rules_of service.configured }) log t roomy
 served_by service texts log t roomy is = record {
   core = is.core;
+  rules = is.rules;
+  force = is.ruled.each;
   single = is.recorded.alone;
   judges = is.judged;
-  speaks = speaks_so (rules_of service.rules) is.core.decided is.spoken;
+  speaks = speaks_so is.rules is.core.decided is.spoken;
   waited = is.waited;
 }
 
@@ -107,18 +113,31 @@ apart_of config service texts log t roomy by stands =
     record {
       router = router;
       configured = configured_by config service by;
-      separates = apart router log t roomy is.core classes is.single is.judges is.speaks is.waited (fits-of log stands.lawful);
+      separates = apart router log t roomy is.core classes is.single is.rules is.force is.judges is.speaks is.waited (fits-of log stands.lawful);
     }
+
+-- what is loaded is none of the configuration's
+loaded-by : (config : Config) (core : Core) → ServesBy config (unloaded core) → ServesBy config core.service
+loaded-by config core by = record {
+  listen = by.listen;
+  admin_listen = by.admin_listen;
+  setup = by.setup;
+  default_schema = by.default_schema;
+  homes = by.homes;
+  hostgroups = by.hostgroups;
+  rules = by.rules;
+  patterns = by.patterns;
+}
 
 -- its log is one that the wire may tell
 pub record Ran (config : Config) (log : Log) : Type 0 where
   pub fits : AllLawful Fits log
   pub serves : ServesApart config log
 
-pub ran-of : (config : Config) (core : Core) (log : Log) → ServesBy config core.service → IsStanding core log → Ran config log
+pub ran-of : (config : Config) (core : Core) (log : Log) → ServesBy config (unloaded core) → IsStanding core log → Ran config log
 ran-of config core log by stands =
     let router = stands.stands.router in
-    record { fits = fits-of log router.lawful; serves = apart_of config core.service _ log _ _ by router }
+    record { fits = fits-of log router.lawful; serves = apart_of config core.service _ log _ _ (loaded-by config core by) router }
 
 -- Marks and the answers of calls by which memory may be refused write nothing.
 
@@ -157,8 +176,8 @@ pub record RanButLast (config : Config) (log : Log) : Type 0 where
   pub last : (log ≡ before) ⊎ GoesOnWith before log
   pub unwritten : (link : LinkId) → written_of link log ≡ written_of link before
 
-pub stood-ran : (config : Config) (core : Core) (log : Log) → ServesBy config core.service
-    → Stood IsStanding (IsWanted reads sends (λ (c : Core). c.router.acting) (λ (c : Core). c.router.until) awaits) (λ (c : Core). c.service) core log
+pub stood-ran : (config : Config) (core : Core) (log : Log) → ServesBy config (unloaded core)
+    → Stood IsStanding (IsWanted reads sends (λ (c : Core). c.router.acting) (λ (c : Core). c.router.until) awaits) unloaded core log
     → RanButLast config log
 stood-ran config core log by was =
     let ran : Ran config was.before = ran-of config was.machine was.before (subst (ServesBy config) (sym was.serves_by) by) was.stood in

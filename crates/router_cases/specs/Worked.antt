@@ -175,6 +175,7 @@ decided = record {
   keys = λ key. record { text = key ∷ []; place = place };
   accounts = λ c. anybody;
   places = λ c. place;
+  administered = λ m. [];
   bare = λ l. true;
   tried = λ entry. record { login = login; bare = true };
 }

@@ -10,6 +10,7 @@ pub mod Listing
 pub mod Gathering
 pub mod Working
 pub mod Tallying
+pub mod Forcing
 pub mod Router
 pub mod Learning
 pub mod Staying

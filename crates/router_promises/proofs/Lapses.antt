@@ -8,7 +8,6 @@ use Rattle.packet_frame.specs.PacketLaws.{nat_eq-true}
 use Rattle.mx_base.specs.declared.names.LinkId.{LinkId}
 use Rattle.mx_wire.specs.Log.{Log}
 use Rattle.mx_wire.specs.declared.entry.Entry.{Entry}
-use Rattle.mx_wire.specs.declared.entry.Entry.TheVariants as entry
 use Rattle.private_model.specs.Names.{SessionName}
 use Rattle.private_model.specs.Story.{is_name}
 use Rattle.private_model.specs.View.{Carried, Joined, present}
@@ -60,7 +59,7 @@ session-dropped terms log now link n untold carries here sound right fed (HasCau
 
 word-why : (terms : Terms) (log : Log) (now ending : Now) (e : Entry) (client : Client) (place : WordPlace) (payloads : List (List ℕ)) → WordFor terms log now ending e client place payloads
     → is_accepted e client ≡ false → is_left terms ending client ≡ false → is_at (setup_in terms) now e client ≡ false → is_too_much terms ending client ≡ false → ⊥
-word-why terms log now ending e client _ _ (TurnedAway came comes arrived away) known served far few = never (sym comes ∙ known)
+word-why terms log now ending e client _ _ (TurnedAway comes away) known served far few = never (sym comes ∙ known)
 word-why terms log now ending e client _ _ (NoMemory place behind at) known served far few = never (sym at ∙ far)
 word-why terms log now ending e client _ _ (Left is) known served far few = never (sym is ∙ served)
 word-why terms log now ending e client _ _ (TooMuch place behind much) known served far few = never (sym much ∙ few)

@@ -28,7 +28,6 @@ use Rattle.router_promises.specs.Running.{is_off, status_in}
 use Rattle.router_promises.specs.Takings.{Taking}
 use Rattle.router_promises.specs.Terms.{Terms, plan_in, setup_in}
 use Rattle.log_story.specs.Plan.{Alone, Behind, LastWord, WordPlace}
-use Rattle.client_session.specs.Arrivals.{Arrival, arrival_of}
 use Rattle.router_promises.specs.Verdicts.{Kind, Quits, kind_in}
 
 -- What ends a client.
@@ -192,8 +191,7 @@ is_left terms ending client =
 -- its last message; or too many bytes wait.
 pub data WordFor (terms : Terms) (log : Log) (now ending : Now) (e : Entry)
     (client : Client) : WordPlace → (payloads : List (List ℕ)) → Type 0 where
-  TurnedAway : (came : Arrival) → is_accepted e client ≡ true → arrival_of client.number.0 log ≡ Some came → served terms log client ≡ false
-      → WordFor terms log now ending e client Alone (turned_away came.port)
+  TurnedAway : is_accepted e client ≡ true → served terms log client ≡ false → WordFor terms log now ending e client Alone turned_away
   NoMemory : (place : WordPlace) → is_alone place ≡ false → is_at (setup_in terms) now e client ≡ true
       → WordFor terms log now ending e client place (out_of_memory ∷ [])
   Left : is_left terms ending client ≡ true → WordFor terms log now ending e client Behind (out_of_memory ∷ [])
@@ -209,8 +207,8 @@ pub record IsLastWord (terms : Terms) (log : Log) (now : Now) (e : Entry) (clien
 pub record WordRight (terms : Terms) (log : Log) (now later : Now) (e : Entry) (client : Client) : Type 0 where
   pub may : (word : LastWord) → (plan_in terms).words client.number ≡ Some word
       → word.from ≡ entry_now now → IsLastWord terms log now e client word
-  pub away : (came : Arrival) → is_accepted e client ≡ true → arrival_of client.number.0 log ≡ Some came → served terms log client ≡ false
-      → (plan_in terms).words client.number ≡ Some (record { from = entry_now now; place = Alone; payloads = turned_away came.port })
+  pub away : is_accepted e client ≡ true → served terms log client ≡ false
+      → (plan_in terms).words client.number ≡ Some (record { from = entry_now now; place = Alone; payloads = turned_away })
   pub must : is_measured terms now (while_ending terms now e) e client ≡ true → is_too_much terms (while_ending terms now e) client ≡ true
       → is_by_now later.tale.moment ((plan_in terms).ends client.number) ≡ true
 
@@ -237,8 +235,7 @@ pub data MayPart (terms : Terms) (log : Log) (now : Now) (client : Client) : Typ
   AllWritten : written_of client.link log ≡ due_to terms now client → MayPart terms log now client
   Broken : list_any (λ e. is_loss e && is_link client.link (link_of e)) log ≡ true → MayPart terms log now client
   TimeIsOver : moment_in log ((plan_in terms).ends client.number) + terms.router.proxy.wait_ms ≤ now.clock → MayPart terms log now client
-  NotServed : served terms log client ≡ false → (list_any is_write (of_link client.link log) ≡ true) ⊎ (due_to terms now client ≡ [])
-      → MayPart terms log now client
+  NotServed : served terms log client ≡ false → list_any is_write (of_link client.link log) ≡ true → MayPart terms log now client
   Unheard : is_unheard terms log client ≡ true → MayPart terms log now client
 
 pub record PartsRight (terms : Terms) (log : Log) (now : Now) (link : LinkId) (client : Client) : Type 0 where

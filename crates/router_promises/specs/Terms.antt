@@ -5,7 +5,7 @@ use Rattle.client_side.specs.Login.{Opening, Says}
 use Rattle.mx_wire.specs.Log.{Log}
 use Rattle.private_model.specs.Commands.{Account}
 use Rattle.log_story.specs.Servers.{logged_in_as}
-use Rattle.private_model.specs.Names.{ClientNo, LinkId, ServerId}
+use Rattle.private_model.specs.Names.{ClientNo, LinkId, MessageName, ServerId}
 use Rattle.private_model.specs.Story.{Key}
 use Rattle.private_model.specs.View.{Setup}
 use Rattle.server_side.specs.Account.{Account as Login}
@@ -21,13 +21,14 @@ pub record Tried : Type 0 where
   pub login : Login
   pub bare : Bool
 
--- The plan of log_story; what is prepared under each key; who each client is and where it begins; which links are kept for those who
--- stand in no schema; and for whom the open of an entry was that failed.
+-- The plan of log_story; what is prepared under each key; who each client is and where it begins; what each message of an administrator
+-- is answered; which links are kept for those who stand in no schema; and for whom the open of an entry was that failed.
 pub record Decided : Type 0 where
   pub plan : Plan
   pub keys : ℕ → Key
   pub accounts : ClientNo → Account
   pub places : ClientNo → Place
+  pub administered : MessageName → List (List ℕ)
   pub bare : LinkId → Bool
   pub tried : (entry : ℕ) → Tried
 

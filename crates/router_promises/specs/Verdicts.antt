@@ -9,6 +9,7 @@ use Rattle.client_session.specs.Errors.{malformed_command, unknown_command}
 use Rattle.hostgroups.specs.declared.row.ServerRow.{ServerRow}
 use Rattle.hostgroups.specs.declared.server.Server.{Server}
 use Rattle.mx_base.specs.Fields.{number_at}
+use Rattle.mx_base.specs.declared.names.{Port.Port, Port.TheVariants.Admin, Port.TheVariants.Traffic}
 use Rattle.pin_classifier.specs.declared.class.Class.{Class}
 use Rattle.pin_classifier.specs.declared.class.Refusal.{Refusal}
 use Rattle.pin_classifier.specs.declared.class.Refusal.TheVariants as refusal
@@ -37,7 +38,7 @@ use Rattle.router_promises.specs.Errors as error
 use Rattle.router_promises.specs.Router.{home_of}
 use Rattle.router_promises.specs.Running.{has_online}
 use Rattle.router_promises.specs.Statements.{com_close, is_full, is_whole_execute, known_statement, next_number}
-use Rattle.router_promises.specs.Takings.{Taking, ordinal_of}
+use Rattle.router_promises.specs.Takings.{Taking, message_in, ordinal_of}
 use Rattle.router_promises.specs.Terms.{Terms, plan_in, setup_in}
 
 -- What a message is.
@@ -288,5 +289,14 @@ verdict_by terms servers flag taking (Unprepared number) = tells_one (error.unkn
 verdict_by terms servers flag taking Malformed = tells_one malformed_command
 verdict_by terms servers flag taking Unknown = tells_one unknown_command
 
+-- an administrator's message goes to no server
+abbrev pub administered : Terms → Taking → Kind → Verdict
+administered terms taking Quits = Parts
+administered terms taking _ = Tells (terms.decided.administered (message_in taking))
+
+abbrev pub verdict_at : Port → Terms → List Server → (flag : ℕ) → Taking → Kind → Verdict
+verdict_at Traffic terms servers flag taking kind = verdict_by terms servers flag taking kind
+verdict_at Admin terms servers flag taking kind = administered terms taking kind
+
 abbrev pub verdict : Terms → List Server → (flag : ℕ) → Taking → Verdict
-verdict terms servers flag taking = verdict_by terms servers flag taking (kind_in terms taking)
+verdict terms servers flag taking = verdict_at taking.client.port terms servers flag taking (kind_in terms taking)

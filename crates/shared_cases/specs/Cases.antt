@@ -19,6 +19,7 @@ fixed = record {
   number_of = λ key. 0;
   accounts = λ c. anybody;
   places = λ c. place;
+  administered = λ m. [];
   stored = nothing;
   ids = λ n. if nat_eq n 0 then Some zero_id else None;
   starves = λ entry c. false;

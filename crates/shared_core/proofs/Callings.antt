@@ -14,6 +14,7 @@ use Rattle.mx_wire.specs.declared.entry.Entry.TheVariants.{OpenFailed, Woke}
 use Rattle.private_model.proofs.Maps.{client_of}
 use Rattle.private_model.specs.Story.{is_client}
 use Rattle.client_seat.specs.Seats.{is_ended}
+use Rattle.core_service.specs.Serves.{rules_in}
 use Rattle.core_service.specs.declared.service.Service.{Service}
 use Rattle.core_tables.specs.Parting.{given_row, given_up}
 use Rattle.core_tables.specs.Tables.{IsSame, Tabled}
@@ -22,7 +23,6 @@ use Rattle.core_laws.specs.clients.Going.{GivenUp, is_going}
 use Rattle.core_laws.specs.entry.Cores.{with_entry}
 use Rattle.router_laws.specs.decisions.Routers.{IsRouter}
 use Rattle.router_laws.specs.wakes.Calling.{Caller, GivesUpAll, IsThere, is_called, is_given}
-use Rattle.query_rules.specs.Passing.{rules_of}
 use Rattle.core_promises.specs.Ruled.{ruling_of}
 use Rattle.router_laws.specs.decisions.Rulings.{AreRuledAll}
 use Rattle.router_laws.specs.decisions.Speaks.{IsGivenOurs}
@@ -33,6 +33,7 @@ use Rattle.router_laws.proofs.OfWakes.Settled.{same_itself}
 use Rattle.router_laws.proofs.OfDecisions.Learning.{learns}
 use Rattle.core_texts.specs.declared.texts.Texts.{Texts}
 use Rattle.core_texts.specs.Texts.{AreMore, key_at}
+use Rattle.shared_core.proofs.Coming.{come_as, come_on}
 use Rattle.shared_core.specs.Follows.{AreRising, HasAnswered, HaveFollowed, is_of}
 use Rattle.shared_core.specs.Stands.{Carries, CarriesWhere, is_roomy, tables}
 use Rattle.shared_core.specs.Wakes.{AreCalled, HasFailed, HasWoken, HaveGivenUp, IsWaiting}
@@ -223,7 +224,7 @@ abbrev pub Fails : Type 0
 Fails = (service : Service) (texts : Texts) (log : Log) (t now : Tabled) (roomy : ClientNo → Bool) (given : List GivenUp)
     (callers : List Caller) (links : List LinkId) (server : ServerId) (address : Address) → IsRouter service texts log t roomy
     → MayFollow log (OpenFailed server address) → (fails : FailsSo service.setup service.default_schema given callers links t now) → All IsGivenOurs given
-    → All (IsCallerOurs (rules_of service.rules) texts) callers
+    → All (IsCallerOurs (rules_in service) texts) callers
     → AreRuledAll (ruling_of service (key_at texts)) callers service.setup service.default_schema fails.late fails.calls.turned fails.calls.going
     → IsRouter service texts (with_entry log (OpenFailed server address)) now roomy
 
@@ -238,7 +239,7 @@ abbrev pub Wakes : Type 0
 Wakes = (service : Service) (texts : Texts) (log : Log) (t now : Tabled) (roomy room : ClientNo → Bool) (given : List GivenUp)
     (callers : List Caller) (links : List LinkId) (until_ms now_ms : ℕ) → IsRouter service texts log t roomy → MayFollow log (Woke until_ms now_ms)
     → IsDrainedFor t log → (wakes : WakesSo service.setup service.default_schema given callers links roomy t now) → All IsGivenOurs given
-    → All (IsCallerOurs (rules_of service.rules) texts) callers
+    → All (IsCallerOurs (rules_in service) texts) callers
     → AreRuledAll (ruling_of service (key_at texts)) callers service.setup service.default_schema wakes.late wakes.calls.turned wakes.calls.going
     → IsRouter service texts (with_entry log (Woke until_ms now_ms)) now room
 
@@ -247,5 +248,5 @@ pub wakes_carries : Wakes → (service : Service) (now_ms : ℕ) (old new : Rout
 wakes_carries law service now_ms old new woken came more until_ms log drained may stands = record {
   router = law service new.texts log (tables old) (tables new) (is_roomy old.roomy) (is_roomy new.roomy) woken.given woken.callers
       woken.links until_ms now_ms (learns service old.texts new.texts log (tables old) (is_roomy old.roomy) stands.router more) may drained woken.so woken.given_ours woken.ours woken.ruled;
-  counted = came ∙ (stands.counted ∙ sym (none_come log (Woke until_ms now_ms) refl));
+  counted = come_as (with_entry log (Woke until_ms now_ms)) old.came new.came came (come_on log (Woke until_ms now_ms ∷ []) old.came refl stands.counted);
 }

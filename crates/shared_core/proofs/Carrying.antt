@@ -13,6 +13,7 @@ use Rattle.router_laws.proofs.OfDecisions.Learning.{learns}
 use Rattle.core_texts.specs.declared.texts.Texts.{Texts}
 use Rattle.core_texts.specs.Texts.{AreMore}
 use Rattle.core_texts.proofs.Keeping.{itself_more}
+use Rattle.shared_core.proofs.Coming.{come_as, come_on}
 use Rattle.shared_core.specs.Stands.{Carries, Shown, StandsBy, StandsFor, is_roomy, shown, tables, tables_in}
 use Rattle.shared_core.specs.declared.roomy.Roomy.{Roomy}
 use Rattle.shared_core.specs.declared.router.Router.{Router}
@@ -34,7 +35,7 @@ module _ (service : Service) (old new : Router) (roomy : new.roomy ≡ old.roomy
   carries_by e none goes log may stands = record {
     router = subst (λ (r : Roomy). IsRouter service new.texts (with_entry log e) (tables new) (is_roomy r)) (sym roomy)
         (goes log may (learns service old.texts new.texts log (tables old) (is_roomy old.roomy) stands.router more));
-    counted = came ∙ stands.counted ∙ sym (none_come log e none);
+    counted = come_as (with_entry log e) old.came new.came came (come_on log (e ∷ []) old.came none stands.counted);
   }
 
   -- nothing is told
@@ -43,7 +44,7 @@ module _ (service : Service) (old new : Router) (roomy : new.roomy ≡ old.roomy
   stays_by log goes stands = record {
     router = subst (λ (r : Roomy). IsRouter service new.texts log (tables new) (is_roomy r)) (sym roomy)
         (goes (learns service old.texts new.texts log (tables old) (is_roomy old.roomy) stands.router more));
-    counted = came ∙ stands.counted;
+    counted = come_as log old.came new.came came stands.counted;
   }
 
 pub carries_along : (service : Service) (e : Entry) (old mid new : Router) → Carries service e old mid

@@ -36,6 +36,8 @@ use Rattle.router_laws.specs.quiet.Quiet.{is_quiet}
 use Rattle.router_laws.specs.waits.Drained.{IsDrainedAt}
 use Rattle.router_laws.specs.routers.Somehow.{AreLinked, IsLinked}
 use Rattle.core_texts.specs.declared.texts.Texts.{Texts}
+use Rattle.shared_core.proofs.Coming.{come_on}
+use Rattle.shared_core.specs.Came.{HaveCome}
 use Rattle.shared_core.specs.Parts.{MayPart, is_homeless}
 use Rattle.shared_core.specs.Stands.{ActsSo, IsClosed, PartsFor, Shown, StandsBy}
 use Rattle.shared_core.specs.Stands.{is_roomy, parted, shown, tables, without_link}
@@ -138,10 +140,6 @@ mark_comes (entry.Exec link ∷ marks) are = mark_comes marks are.1
 mark_comes (entry.Drop link ∷ marks) are = mark_comes marks are.1
 mark_comes (_ ∷ marks) are = absurd are.0
 
-comes_more : (log more : Log) → accepted_links more ≡ [] → length (accepted_links (log ++ more)) ≡ length (accepted_links log)
-comes_more log more none =
-    ap length (filter_map-append accepted_link log more ∙ ap (λ (xs : List LinkId). accepted_links log ++ xs) none ∙ append-nil (accepted_links log))
-
 -- The laws by which the router goes on.
 
 abbrev pub Quiets : Type 0
@@ -191,7 +189,7 @@ module _ (laws : Laws) (old : Router) (link : LinkId) (c : ClientNo) (row : Clie
   new = record old { leaving = Some c }
 
   parts_so : (service : Service) (log : Log) → IsRouter service texts log (forgotten c t) roomy
-      → old.came ≡ length (accepted_links log) → PartsFor service log (shown new)
+      → HaveCome log old.came → PartsFor service log (shown new)
   parts_so service log router counted = record {
     router = subst (λ (now : Tabled). IsRouter service texts log now roomy)
         (sym (ap (λ (l : Option LinkId). without_link l (forgotten c t)) closed.link)) router;
@@ -207,7 +205,7 @@ module _ (laws : Laws) (old : Router) (link : LinkId) (c : ClientNo) (row : Clie
         its = record { numbered = numbered; there = there };
         over = is.over;
         same = same_by (forgotten c t) (forgotten c t) refl;
-      })) (was.counted ∙ sym (comes_more log (entry.Closed link ∷ []) refl))
+      })) (come_on log (entry.Closed link ∷ []) old.came refl was.counted)
 
   ends : (service : Service) (log : Log) (e : Entry) (marks : Log) → IsBehind service old.texts log e c row t roomy → StandsBy service log t (shown old) → AreMarks marks
       → MayFollow (log ++ e ∷ [] ++ marks) (entry.Closed link) → PartsFor service (log ++ e ∷ [] ++ marks ++ entry.Closed link ∷ []) (shown new)
@@ -222,9 +220,8 @@ module _ (laws : Laws) (old : Router) (link : LinkId) (c : ClientNo) (row : Clie
         over = behind.over;
         same = forgets_put c row behind.row_then t there behind.link_is;
       }))
-      (was.counted
-      ∙ sym (comes_more (with_entry log e ++ marks) (entry.Closed link ∷ []) refl ∙ comes_more (with_entry log e) marks (mark_comes marks are)
-      ∙ comes_more log (e ∷ []) behind.none))
+      (come_on (with_entry log e ++ marks) (entry.Closed link ∷ []) old.came refl
+      (come_on (with_entry log e) marks old.came (mark_comes marks are) (come_on log (e ∷ []) old.came behind.none was.counted)))
 
   -- Its farewell is written, in part or whole.
 

@@ -15,6 +15,7 @@ use Rattle.mx_wire.specs.declared.entry.Entry.TheVariants as entry
 use Rattle.private_model.proofs.Maps.{same_number}
 use Rattle.client_seat.specs.Seats.{account_in, is_ended, wants_read}
 use Rattle.core_says.specs.Says.{is_own, reads_by, reads_client, reads_in, reads_row}
+use Rattle.core_service.specs.Serves.{rules_in}
 use Rattle.core_service.specs.declared.service.Service.{Service}
 use Rattle.client_seat.specs.declared.seat.Seat.{Seat}
 use Rattle.stmt_map.specs.declared.client.ClientStatements.{ClientStatements}
@@ -34,7 +35,6 @@ use Rattle.router_laws.specs.clients.Leaves.{IsLossOf, LeavesAgain, LeavesAtOnce
 use Rattle.router_laws.specs.clients.Plans.{nobody}
 use Rattle.router_laws.specs.clients.Speaks.{IsLinkOf, SpeaksSo}
 use Rattle.router_laws.specs.entering.Rooms.{OthersLack}
-use Rattle.query_rules.specs.Passing.{rules_of}
 use Rattle.core_promises.specs.Ruled.{AreRuled, ruling_of}
 use Rattle.router_laws.specs.decisions.Speaks.{IsOurs, IsPartingOurs}
 use Rattle.router_laws.specs.decisions.Routers.{IsRouter}
@@ -44,6 +44,8 @@ use Rattle.router_laws.proofs.OfDecisions.Learning.{learns}
 use Rattle.core_texts.specs.declared.texts.Texts.{Texts}
 use Rattle.core_texts.specs.Texts.{AreMore, key_at}
 use Rattle.core_texts.proofs.Keeping.{itself_more, more_on}
+use Rattle.shared_core.proofs.Coming.{administrator_then, come_as, come_on}
+use Rattle.shared_core.specs.Came.{HaveCome, came_then}
 use Rattle.shared_core.proofs.Entrants.{lacking, lacks_itself, logging_in, others_lack, router_still}
 use Rattle.shared_core.specs.Clients.{HasLeftAtOnce, HasLeftGoing, HasSpoken}
 use Rattle.shared_core.specs.Follows.{Keeps}
@@ -71,7 +73,7 @@ Speaks = (service : Service) (texts : Texts) (log : Log) (t now : Tabled) (roomy
     (c : ClientNo) (ordinal : ℕ) (choices : List Choice) (halt : Halt) (parting : Parting) (links : List LinkId)
     → IsRouter service texts log t roomy → MayFollow log (entry.Got link bytes)
     → (so : SpeaksSo service.setup service.default_schema link bytes c ordinal choices halt parting links t now)
-    → All (IsOurs (rules_of service.rules) texts c) choices → IsPartingOurs parting
+    → All (IsOurs (rules_in service) texts c) choices → IsPartingOurs parting
     → OthersLack c roomy room
     → AreRuled (ruling_of service (key_at texts)) choices halt service.setup service.default_schema c so.heard so.follows.turned so.follows.turns
     → IsRouter service texts (with_entry log (entry.Got link bytes)) now room
@@ -91,7 +93,7 @@ Going = (service : Service) (texts : Texts) (log : Log) (e : Entry) (t now : Tab
     (c : ClientNo) (links : List LinkId) (ordinal : ℕ) (choices : List Choice) (halt : Halt) (parting : Parting)
     → IsRouter service texts log t roomy → MayFollow log e → IsLossOf link e
     → (so : LeavesGoing service.setup service.default_schema link links ordinal choices halt parting c t now)
-    → All (IsOurs (rules_of service.rules) texts c) choices → IsPartingOurs parting
+    → All (IsOurs (rules_in service) texts c) choices → IsPartingOurs parting
     → OthersLack c roomy room
     → AreRuled (ruling_of service (key_at texts)) choices halt service.setup service.default_schema c so.between so.follows.turned so.follows.turns
     → IsRouter service texts (with_entry log e) now room
@@ -128,22 +130,26 @@ behind log e =
 -- One comes.
 
 module _ (service : Service) (port : Port) (link : LinkId) (salt : List ℕ) (old new : Router) (c : ClientNo)
-    (count : c.0 ≡ min (old.came + 1) (2 ^ 64 - 1)) (came_so : new.came ≡ c.0) (roomy : new.roomy ≡ old.roomy)
+    (count : c.0 ≡ min (old.came.clients + 1) (2 ^ 64 - 1)) (came_so : new.came ≡ came_then old.came port) (roomy : new.roomy ≡ old.roomy)
     (more : AreMore old.texts new.texts) where
   abbrev e : Entry
   e = entry.Accepted port link salt
 
-  counted : (log : Log) → MayFollow log e → old.came ≡ length (accepted_links log) → c.0 ≡ length (accepted_links log) + 1
+  counted : (log : Log) → MayFollow log e → HaveCome log old.came → c.0 ≡ length (accepted_links log) + 1
   counted log may was =
       let below : length log + 1 < 281474976710656 = may.bounded in
-      let less : length (accepted_links log) ≤ length log = few log in omega (arith, count, was, below, less)
+      let less : length (accepted_links log) ≤ length log = few log in
+      let before : old.came.clients ≡ length (accepted_links log) = was.clients in omega (arith, count, before, below, less)
 
-  stands : (log : Log) (may : MayFollow log e) (was : old.came ≡ length (accepted_links log))
+  stands : (log : Log) (may : MayFollow log e) (was : HaveCome log old.came)
       → IsRouter service new.texts (with_entry log e) (tables new) (is_roomy old.roomy) → StandsFor service (with_entry log e) new
   stands log may was router = record {
     router = subst (λ (r : Roomy). IsRouter service new.texts (with_entry log e) (tables new) (is_roomy r)) (sym roomy) router;
-    counted = (let one : c.0 ≡ length (accepted_links log) + 1 = counted log may was in
-        let more : length (accepted_links (with_entry log e)) ≡ length (accepted_links log) + 1 = behind log e in omega (arith, one, more, came_so));
+    counted = come_as (with_entry log e) (came_then old.came port) new.came came_so (record {
+      clients = (let one : c.0 ≡ length (accepted_links log) + 1 = counted log may was in
+          let more : length (accepted_links (with_entry log e)) ≡ length (accepted_links log) + 1 = behind log e in omega (arith, count, one, more));
+      administrator = administrator_then log old.came port link salt was;
+    });
   }
 
   pub comes_carry : Comes → ComesSo Served service.setup port link salt c (tables old) (tables new) → Carries service e old new
@@ -198,13 +204,11 @@ learnt service old new keeps log stood = learns service old.texts new.texts log 
 -- Of entries at which nobody comes.
 
 module _ (service : Service) (e : Entry) (old new : Router) (keeps : Keeps old new) (none : accepted_links (e ∷ []) ≡ []) where
-  pub kept_stands : (log : Log) → old.came ≡ length (accepted_links log)
+  pub kept_stands : (log : Log) → HaveCome log old.came
       → IsRouter service new.texts (with_entry log e) (tables new) (is_roomy old.roomy) → StandsFor service (with_entry log e) new
   kept_stands log was router = record {
     router = subst (λ (r : Roomy). IsRouter service new.texts (with_entry log e) (tables new) (is_roomy r)) (sym keeps.roomy) router;
-    counted = (let more : length (accepted_links (with_entry log e)) ≡ length (accepted_links log) + length (accepted_links (e ∷ [])) = behind log e in
-        let nobody : length (accepted_links (e ∷ [])) ≡ 0 = ap (λ (xs : List LinkId). length xs) none in
-        let as_many : new.came ≡ old.came = keeps.came in omega (arith, was, more, nobody, as_many));
+    counted = come_as (with_entry log e) old.came new.came keeps.came (come_on log (e ∷ []) old.came none was);
   }
 
 -- Who is read is there, and goes on.

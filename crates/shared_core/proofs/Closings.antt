@@ -34,6 +34,8 @@ use Rattle.router_laws.specs.links.Closes.{ClosesSo, IsLentThere, IsUnawaited, M
 use Rattle.router_laws.specs.links.Loses.{GoesWithIt}
 use Rattle.router_laws.specs.routers.Somehow.{AreLinked}
 use Rattle.core_texts.specs.declared.texts.Texts.{Texts}
+use Rattle.shared_core.proofs.Coming.{come_as, come_on}
+use Rattle.shared_core.specs.Came.{HaveCome}
 use Rattle.shared_core.proofs.LinkWrites.{IsLent, is_lent}
 use Rattle.shared_core.proofs.Machining.{stands_parted}
 use Rattle.shared_core.specs.Follows.{Keeps}
@@ -176,13 +178,13 @@ module _ (links : Links) (l : LinkId) (old mid : Router) (is : IsClosing l old m
     may = record { server = is.server; there = is.there; own = own (t.numbers l) refl; with_it = is.with_it; unawaited = is.unawaited }
 
     -- it stands so, who is roomy and how many came being the same
-    stands_so : (now : Shown) (more : Log) (x : Tabled) → accepted_links more ≡ accepted_links log → now.came ≡ old.came → now.roomy ≡ mid.roomy
+    stands_so : (now : Shown) (more : Log) (x : Tabled) → HaveCome more old.came → now.came ≡ old.came → now.roomy ≡ mid.roomy
         → now.texts ≡ old.texts → parted now ≡ x → IsRouter service old.texts more x room → PartsFor service more now
-    stands_so now more x alone came roomy texts parts router = record {
+    stands_so now more x have came roomy texts parts router = record {
       router = subst (λ (r : Roomy). IsRouter service now.texts more (parted now) (is_roomy r)) (sym roomy)
           (subst (λ (y : Tabled). IsRouter service now.texts more y room) (sym parts)
           (subst (λ (k : Texts). IsRouter service k more x room) (sym texts) router));
-      counted = came ∙ stood.counted ∙ sym (ap length alone);
+      counted = come_as more old.came now.came came have;
     }
 
   -- what is left behind, where the link is being closed
@@ -226,24 +228,24 @@ module _ (links : Links) (l : LinkId) (old mid : Router) (is : IsClosing l old m
           subst (λ (s : Server). s.row.link.spoilt ≡ false) (same_Some lent.server server (sym lent.there ∙ there)) lent.well;
     }
 
-    alone_then : (log : Log) (e : Entry) (marks : Log) → accepted_links (e ∷ []) ≡ [] → AreMarks marks
-        → accepted_links (log ++ e ∷ [] ++ marks ++ Closed l ∷ []) ≡ accepted_links log
-    alone_then log e marks first are =
-        none_more (log ++ e ∷ [] ++ marks) (Closed l ∷ []) refl ∙ none_more (log ++ e ∷ []) marks (marks_alone marks are)
-        ∙ none_more log (e ∷ []) first
+    come_then : (log : Log) (e : Entry) (marks : Log) → accepted_links (e ∷ []) ≡ [] → AreMarks marks → HaveCome log old.came
+        → HaveCome (log ++ e ∷ [] ++ marks ++ Closed l ∷ []) old.came
+    come_then log e marks first are have =
+        come_on (log ++ e ∷ [] ++ marks) (Closed l ∷ []) old.came refl
+        (come_on (log ++ e ∷ []) marks old.came (marks_alone marks are) (come_on log (e ∷ []) old.came first have))
 
     pub farewell_closes : ClosesBy Before closing l
     farewell_closes = record {
       opened = λ service log before. is_open_then service log before;
       plain = λ none service log follows before.
-          stands_so service log before closing (log ++ Closed l ∷ []) (unlinked l (lost_in l t)) (none_more log (Closed l ∷ []) refl) came_so refl texts_so parts
+          stands_so service log before closing (log ++ Closed l ∷ []) (unlinked l (lost_in l t)) (come_on log (Closed l ∷ []) old.came refl (stood service log before).counted) came_so refl texts_so parts
           (plain service old.texts log t (unlinked l (lost_in l t)) (is_roomy old.roomy) room l
           (stood service log before).router follows rooms (record { may = may service log before; same = same_itself _ }));
       offered = λ some service log e marks says are follows next before.
           let said : IsFarewell (sends_on old.marked l) l e =
           subst (λ (m : MarkedTables). IsFarewell (sends_on m l) l e) marked_so says in
           stands_so service log before closing (log ++ e ∷ [] ++ marks ++ Closed l ∷ []) (unlinked l (lost_in l t))
-          (alone_then log e marks (farewell_alone (sends_on old.marked l) l e said) are) came_so refl texts_so parts
+          (come_then log e marks (farewell_alone (sends_on old.marked l) l e said) are (stood service log before).counted) came_so refl texts_so parts
           (offered service old.texts log marks e t (is_roomy old.roomy) room l (sends_on old.marked l)
           (stood service log before).router are rooms (may service log before) farewell lent_there said follows next);
     }
@@ -277,7 +279,7 @@ module _ (links : Links) (l : LinkId) (old mid : Router) (is : IsClosing l old m
     lost_closes = record {
       opened = λ service log before. is_open_then service log before;
       plain = λ none service log follows before.
-          stands_so service log before (shown new) (log ++ Closed l ∷ []) (unlinked l (lost_in l (tables new))) (none_more log (Closed l ∷ []) refl)
+          stands_so service log before (shown new) (log ++ Closed l ∷ []) (unlinked l (lost_in l (tables new))) (come_on log (Closed l ∷ []) old.came refl (stood service log before).counted)
           (keeps.came ∙ came_so) keeps.roomy (texts_lost ∙ texts_so) parts_lost
           (lost service old.texts log t (tables new) (is_roomy old.roomy) room l
           (stood service log before).router rooms (may service log before) lost_so follows);

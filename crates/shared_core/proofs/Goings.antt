@@ -9,8 +9,8 @@ use Rattle.private_model.proofs.Maps.{same_number}
 use Rattle.private_model.specs.Story.{is_client}
 use Rattle.client_session.specs.Setups.{Setup}
 use Rattle.client_seat.specs.Seats.{ended, is_ended}
+use Rattle.core_service.specs.Serves.{rules_in}
 use Rattle.core_service.specs.declared.service.Service.{Service}
-use Rattle.query_rules.specs.Passing.{rules_of}
 use Rattle.query_rules.specs.declared.rule.Rule.{Rule}
 use Rattle.core_promises.proofs.Ruling.{are_ruled_more}
 use Rattle.core_promises.specs.Ruled.{AreRuled, Ruling, book_of, ruling_of}
@@ -37,7 +37,7 @@ use Rattle.shared_core.proofs.Others.{still_there}
 use Rattle.shared_core.proofs.Tabling.{tables_are}
 use Rattle.shared_core.specs.Follows.{AreRising, HasFollowed, HasGone, HasParted, HaveFollowed, HaveGone, MayEnd, RestsBehind, is_of}
 use Rattle.shared_core.specs.Rows.{HasLives}
-use Rattle.shared_core.specs.Stands.{Chooses, tables}
+use Rattle.shared_core.specs.Stands.{Chooses, Shown, tables, tables_in}
 use Rattle.shared_core.specs.declared.router.Router.{Router}
 
 same-itself : (t : Tabled) → IsSame t t
@@ -46,6 +46,15 @@ same-itself t = record { clients = λ c. refl; numbers = λ l. refl; links = λ 
 or-last : (a : Bool) → (a || true) ≡ true
 or-last true = refl
 or-last false = refl
+
+-- What is chosen by behind its turns leaves what they were.
+pub went_chosen : (service : Service) (c : ClientNo) (went : Option Went) (old mid new : Router) → Chooses mid new
+    → HasGoneOn RuledTurns went (ruling_of service (key_at mid.texts)) service.setup service.default_schema c (tables old) (tables mid)
+    → HasGoneOn RuledTurns went (ruling_of service (key_at new.texts)) service.setup service.default_schema c (tables old) (tables new)
+went_chosen service c went old mid new chosen gone =
+    let P : Shown → Type 0 = λ s. HasGoneOn RuledTurns went (ruling_of service (key_at s.texts)) service.setup service.default_schema c (tables old)
+    (tables_in s) in
+    subst P (sym chosen.same) gone
 
 -- How a client is ended.
 
@@ -105,9 +114,9 @@ ours_more rules old new more c choices all = λ k d within. choice_more rules ol
 -- Its turns, and how it is ended behind them.
 
 said-ours : (service : Service) (texts : Texts) (c : ClientNo) (choices : List Choice) → All (IsSaid (ruling_of service (key_at texts)) c) choices
-    → All (IsOurs (rules_of service.rules) texts c) choices
+    → All (IsOurs (rules_in service) texts c) choices
 said-ours service texts c choices all = λ k d within. one (get_or choices k d) (all k d within) where
-  one : (choice : Choice) → IsSaid (ruling_of service (key_at texts)) c choice → IsOurs (rules_of service.rules) texts c choice
+  one : (choice : Choice) → IsSaid (ruling_of service (key_at texts)) c choice → IsOurs (rules_in service) texts c choice
   one (Goes route keyed) is = is
   one (Answers payloads) is = is
 
@@ -132,7 +141,7 @@ gone-so service took_texts texts more c ends took went old mid new is gone parts
       choices = on.choices;
       halt = halt_of went.stop;
       parting = parted.parting;
-      ours = ours_more (rules_of service.rules) took_texts texts more c on.choices (said-ours service took_texts c on.choices on.said);
+      ours = ours_more (rules_in service) took_texts texts more c on.choices (said-ours service took_texts c on.choices on.said);
       word = parted.word;
       goes = record { turned = mid; turns = on.turned.0; once = parted.once; parts = parted.parts };
       ruled = are_ruled_more (key_at took_texts) (key_at texts) more.kept (book_of service) service.setup service.default_schema c on.choices
@@ -211,7 +220,7 @@ pub gone-more : (service : Service) (before texts : Texts) → AreMore before te
 gone-more service before texts more clients old new gone = record {
   callers = gone.callers;
   named = gone.named;
-  ours = callers_more (rules_of service.rules) before texts more gone.callers gone.ours;
+  ours = callers_more (rules_in service) before texts more gone.callers gone.ours;
   going = gone.going;
   ruled = all_ruled_more service before texts more gone.callers service.setup service.default_schema old new gone.going gone.ruled;
 }
@@ -223,7 +232,7 @@ followed-more service before texts more c ends old new followed = record {
   halt = followed.halt;
   parting = followed.parting;
   links = followed.links;
-  ours = ours_more (rules_of service.rules) before texts more c followed.choices followed.ours;
+  ours = ours_more (rules_in service) before texts more c followed.choices followed.ours;
   word = followed.word;
   follows = followed.follows;
   ruled = are_ruled_more (key_at before) (key_at texts) more.kept (book_of service) service.setup service.default_schema c followed.choices followed.halt
@@ -270,7 +279,7 @@ one-more service texts clients c ends old mid new before gone =
     record {
       callers = before.callers ++ last ∷ [];
       named = named-along before.callers last ∙ ap (λ (cs : List ClientNo). cs ++ c ∷ []) before.named;
-      ours = let P : Caller → Type 0 = IsCallerOurs (rules_of service.rules) texts in
+      ours = let P : Caller → Type 0 = IsCallerOurs (rules_in service) texts in
           All-append P before.callers (last ∷ []) before.ours
           (All-cons P last [] (record { choices = gone.ours; parting = gone.word }) (All-nil P));
       going = along.0;

@@ -14,6 +14,7 @@ use Rattle.client_session.specs.Setups.{Setup}
 use Rattle.session_state.specs.declared.names.SessionName.{SessionName}
 use Rattle.core_policy.specs.declared.verdict.GiveUp.{GiveUp}
 use Rattle.core_says.specs.Says.{is_free, is_sound, reads_by}
+use Rattle.core_service.specs.Serves.{rules_in}
 use Rattle.core_service.specs.declared.service.Service.{Service}
 use Rattle.core_tables.specs.Hearing.{IsHeard}
 use Rattle.core_tables.specs.Parting.{freed_in, given_up_in, name_in}
@@ -29,7 +30,6 @@ use Rattle.router_laws.specs.decisions.Routers.{IsRouter}
 use Rattle.core_laws.specs.entry.Cores.{with_entry}
 use Rattle.router_laws.specs.reading.Givings.{MayGiveUp}
 use Rattle.router_laws.specs.reading.Givings.{MayBeGivenUp}
-use Rattle.query_rules.specs.Passing.{rules_of}
 use Rattle.core_promises.specs.Ruled.{Ruling, ruling_of}
 use Rattle.router_laws.specs.decisions.Rulings.{IsRuledOn}
 use Rattle.router_laws.specs.decisions.Speaks.{AreGivenOurs, AreGoingOurs}
@@ -65,7 +65,7 @@ Routes =
     (service : Service) (texts : Texts) (log : Log) (t now : Tabled) (roomy : ClientNo → Bool) (l : LinkId) (bytes : List ℕ) (clock : ℕ)
     (given : Option GivenUp) (going : Option Going) → IsRouter service texts log t roomy → MayFollow log (entry.Got l bytes)
     → AreBytes bytes → (so : HearsSo service.setup service.default_schema l bytes clock given going t now) → AreGivenOurs given
-    → AreGoingOurs (rules_of service.rules) texts going
+    → AreGoingOurs (rules_in service) texts going
     → IsRuledOn (ruling_of service (key_at texts)) going service.setup service.default_schema so.freed now so.goes → IsRouter service texts (with_entry log (entry.Got l bytes)) now roomy
 
 -- What is given up may be, and who is called for that goes on still.

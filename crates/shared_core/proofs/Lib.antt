@@ -14,6 +14,7 @@ mod Last
 pub mod LinkWrites
 pub mod LinkOpens
 pub mod Carrying
+pub mod Coming
 pub mod Rooming
 pub mod Writings
 pub mod Hears

@@ -16,6 +16,7 @@ use Rattle.client_seat.specs.Seats.{is_ended}
 use Rattle.client_desk.specs.declared.work.Work.{Work}
 use Rattle.core_policy.specs.declared.policy.Policy.{Policy}
 use Rattle.core_policy.specs.declared.verdict.GiveUp.{GiveUp}
+use Rattle.core_service.specs.Serves.{rules_in}
 use Rattle.core_service.specs.declared.service.Service.{Service}
 use Rattle.core_tables.specs.Parting.{changed_for, given_row, given_up_in, gone_row, lost_in, present_in}
 use Rattle.core_tables.specs.Tables.{IsSame, Tabled}
@@ -27,7 +28,6 @@ use Rattle.core_laws.specs.clients.Follows.{LeavesThere}
 use Rattle.core_laws.specs.clients.Going.{GivenUp, Going, IsCalled, is_going, told_to}
 use Rattle.core_laws.specs.entry.Cores.{with_entry}
 use Rattle.core_laws.specs.entry.Freeing.{all_freed}
-use Rattle.query_rules.specs.Passing.{rules_of}
 use Rattle.core_promises.specs.Ruled.{ruling_of}
 use Rattle.router_laws.specs.decisions.Rulings.{IsRuledOn}
 use Rattle.router_laws.specs.decisions.Speaks.{AreGivenOurs, AreGoingOurs}
@@ -51,7 +51,7 @@ abbrev pub Routes : Type 0
 Routes =
     (service : Service) (texts : Texts) (log : Log) (t now : Tabled) (roomy : ClientNo → Bool) (l : LinkId) (how : Break)
     (given : Option GivenUp) (going : Option Going) → IsRouter service texts log t roomy → MayFollow log (entry_by how l)
-    → AreGivenOurs given → AreGoingOurs (rules_of service.rules) texts going → (so : LosesSo service.setup service.default_schema l given going t now)
+    → AreGivenOurs given → AreGoingOurs (rules_in service) texts going → (so : LosesSo service.setup service.default_schema l given going t now)
     → IsRuledOn (ruling_of service (key_at texts)) going service.setup service.default_schema so.lost now so.goes
     → IsRouter service texts (with_entry log (entry_by how l)) now roomy
 

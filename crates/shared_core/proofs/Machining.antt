@@ -28,6 +28,7 @@ use Rattle.marked_tables.specs.declared.marked.MarkedTables.{MarkedTables}
 use Rattle.core_texts.specs.declared.texts.Texts.{Texts}
 use Rattle.core_texts.specs.Texts.{AreLess}
 use Rattle.router_laws.proofs.OfDecisions.Learning.{forgets}
+use Rattle.shared_core.proofs.Coming.{come_as}
 use Rattle.shared_core.specs.Machine.{Tells}
 use Rattle.shared_core.specs.Says.{target_of}
 use Rattle.shared_core.specs.Stands.{ActsBy, Carries, CarriesWhere, Chooses, IsClosed, Loses, Moves, PartsFor, SettlesSo, Shown, StandsBy, StandsFor}
@@ -73,7 +74,7 @@ pub stands_as : (service : Service) (log : Log) (t : Tabled) (a b : Shown) → b
 stands_as service log t a b roomy came texts stands = record {
   router = subst (λ (x : Texts). IsRouter service x log t (is_roomy b.roomy)) (sym texts)
       (subst (λ r. IsRouter service a.texts log t (is_roomy r)) (sym roomy) stands.router);
-  counted = came ∙ stands.counted;
+  counted = come_as log a.came b.came came stands.counted;
 }
 
 -- An entry by which a link was opened is that of the open which was asked for.

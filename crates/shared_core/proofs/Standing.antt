@@ -33,6 +33,12 @@ use Rattle.marked_tables.proofs.Going.{named_known}
 use Rattle.marked_tables.specs.declared.marked.MarkedTables.{MarkedTables}
 use Rattle.core_texts.specs.declared.texts.Texts.{Texts}
 use Rattle.core_texts.specs.Texts.{key_at}
+use Rattle.core_promises.specs.InForce.{AreLoaded, has_administrator}
+use Rattle.core_turns.specs.declared.administrator.Administrator.{Administrator}
+use Rattle.query_rules.specs.Passing.{rules_of}
+use Rattle.query_rules.specs.declared.rules.Rules.{Rules}
+use Rattle.shared_core.proofs.Coming.{come_as, come_on}
+use Rattle.shared_core.specs.declared.came.Came.{Came}
 use Rattle.shared_core.specs.Machine.{IsDueIn, IsStanding, Tells}
 use Rattle.shared_core.specs.Says.{IsAskedFor, awaits, reads, sends, target_of}
 use Rattle.shared_core.specs.Stands.{ActsSo, Carries, Chooses, IsClosed, Moves, PartsFor, Shown, StandsBy, StandsFor}
@@ -111,7 +117,7 @@ stands_moved core router log moves closed known stands =
       known = moves.goes.known known;
     }
 
-take_one : (core : Core) (router : Router) (event : Event) (bytes : List ℕ) → IsHeard (awaits core) event → HasActed (asks core) event
+pub take_one : (core : Core) (router : Router) (event : Event) (bytes : List ℕ) → IsHeard (awaits core) event → HasActed (asks core) event
     → Tells core.service event bytes core.router router → Moves core.router router → (e : Entry)
     → IsToldOf core.router.until (awaits core) event bytes e → CarriesOver IsStanding due_in core (record core { router = router }) e
 take_one core router event bytes heard acted tells moves e told = record {
@@ -245,9 +251,7 @@ quiet_carries law core e quiet = record {
     stands = record {
       router = law core.service core.router.texts log e (parted (shown core.router)) (is_roomy core.router.roomy) was.stands.router may
           quiet (drained_at core log e was quiet due);
-      counted = was.stands.counted
-          ∙ sym (ap length (filter_map-append accepted_link log (e ∷ [])
-          ∙ ap (λ (more : List LinkId). accepted_links log ++ more) (none_comes e quiet) ∙ append-nil (accepted_links log)));
+      counted = come_on log (e ∷ []) core.router.came (none_comes e quiet) was.stands.counted;
     };
     acted = was.acted;
     opening = was.opening;
@@ -255,17 +259,40 @@ quiet_carries law core e quiet = record {
   };
 }
 
+-- Rules are loaded: nothing else changes.
+
+abbrev pub LoadsRules : Type 0
+LoadsRules = (service : Service) (texts : Texts) (log : Log) (t : Tabled) (roomy : ClientNo → Bool) (loaded : Rules) → IsRouter service texts log t roomy
+    → has_administrator log ≡ true → AreLoaded (rules_of loaded) → IsRouter (record service { loaded = Some loaded }) texts log t roomy
+
+pub loads_stand : LoadsRules → (core : Core) (admin : Administrator) (rules : Rules) → core.router.came.administrator ≡ true → AreLoaded (rules_of rules)
+    → (log : Log) → IsStanding core log
+    → IsStanding (record { service = record core.service { loaded = Some rules }; router = record core.router { admin = admin } }) log
+loads_stand law core admin rules came are log was = record {
+  stands = record {
+    router = law core.service core.router.texts log (parted (shown core.router)) (is_roomy core.router.roomy) rules was.stands.router
+        (was.stands.counted.administrator came) are;
+    counted = was.stands.counted;
+  };
+  acted = λ off. was.acted off;
+  opening = λ some. was.opening some;
+  known = was.known;
+}
+
 -- It begins.
 
 abbrev pub First : Type 0
-First = (service : Service) (texts : Texts) (roomy : ClientNo → Bool) → ((number : ℕ) → key_at texts number ≡ None) → IsRouter service texts [] no_tables roomy
+First = (service : Service) (texts : Texts) (roomy : ClientNo → Bool) → service.loaded ≡ None → ((number : ℕ) → key_at texts number ≡ None) → IsRouter service texts [] no_tables roomy
 
-pub first_stands : First → (service : Service) (r : Router) → IsSame (tables r) no_tables → r.came ≡ 0
-    → ((number : ℕ) → key_at r.texts number ≡ None) → StandsFor service [] r
-first_stands law service r none came untold = record {
+abbrev pub nobody : Came
+nobody = record { clients = 0; administrator = false }
+
+pub first_stands : First → (service : Service) (r : Router) → IsSame (tables r) no_tables → r.came ≡ nobody
+    → ((number : ℕ) → key_at r.texts number ≡ None) → service.loaded ≡ None → StandsFor service [] r
+first_stands law service r none came untold unloaded = record {
   router = subst (λ (t : Tabled). IsRouter service r.texts [] t (is_roomy r.roomy)) (sym (tables_are (tables r) no_tables none))
-      (law service r.texts (is_roomy r.roomy) untold);
-  counted = came;
+      (law service r.texts (is_roomy r.roomy) unloaded untold);
+  counted = come_as [] nobody r.came came (record { clients = refl; administrator = λ is. absurd (let no : false ≡ true = is in cc) });
 }
 
 pub first_core : (core : Core) → StandsFor core.service [] core.router → IsClosed (shown core.router) → AreKnown core.router.marked

@@ -26,6 +26,7 @@ use Rattle.core_laws.specs.entry.Cores.{with_entry}
 use Rattle.router_laws.specs.clients.Writes.{WroteSo}
 use Rattle.router_laws.specs.decisions.Routers.{IsRouter}
 use Rattle.core_texts.specs.declared.texts.Texts.{Texts}
+use Rattle.shared_core.proofs.Coming.{come_as, come_on}
 use Rattle.shared_core.specs.Rooms.{IsRoomyAfter}
 use Rattle.shared_core.specs.Stands.{Carries, is_roomy, tables}
 use Rattle.shared_core.specs.declared.router.Router.{Router}
@@ -102,12 +103,6 @@ ClientWrites =
     (count : ℕ) (c : ClientNo) → IsRouter service texts log t roomy → MayFollow log (Wrote link tag bytes)
     → WroteSo link bytes count c roomy room t now → IsRouter service texts (with_entry log (Wrote link tag bytes)) now room
 
-none_came : (log : Log) (link : LinkId) (tag : Tag) (bytes : List ℕ)
-    → length (accepted_links log) ≡ length (accepted_links (with_entry log (Wrote link tag bytes)))
-none_came log link tag bytes =
-    sym (ap (λ (xs : List LinkId). length xs)
-    (filter_map-append accepted_link log (Wrote link tag bytes ∷ []) ∙ append-nil (accepted_links log)))
-
 pub client_carried : ClientWrites → (service : Service) (old new : Router) (link : LinkId) (c : ClientNo) (n : ℕ)
     → (tables old).links link ≡ None → (tables old).numbers link ≡ Some c → MayTake (sends_on old.marked link) n
     → IsSame (tables new) (written_to c n (tables old)) → IsRoomyAfter c n old new → new.came ≡ old.came → new.texts ≡ old.texts
@@ -127,5 +122,6 @@ client_carried law service old new link c n none numbered may same room came tex
             roomy_then = room to.row to.there;
             same = same;
           }));
-      counted = came ∙ stands.counted ∙ none_came log link sent.tag (take n sent.bytes);
+      counted = come_as (with_entry log (Wrote link sent.tag (take n sent.bytes))) old.came new.came came
+          (come_on log (Wrote link sent.tag (take n sent.bytes) ∷ []) old.came refl stands.counted);
     }

@@ -3,6 +3,7 @@ use Rattle.std.specs.Prelude.{◌≡◌, ◌⊎◌, ℕ, true, false, All, List,
 use Rattle.mx_base.specs.declared.names.ClientNo.{ClientNo}
 use Rattle.mx_base.specs.declared.names.LinkId.{LinkId}
 use Rattle.client_seat.specs.Seats.{account_in, is_ended}
+use Rattle.core_service.specs.Serves.{rules_in}
 use Rattle.core_service.specs.declared.service.Service.{Service}
 use Rattle.core_tables.specs.Tables.{Tabled}
 use Rattle.core_tables.specs.declared.client.Client.{Client}
@@ -11,7 +12,6 @@ use Rattle.core_laws.specs.clients.Turns.{Choice, Halt}
 use Rattle.router_laws.specs.clients.Leaves.{LeavesAtOnce, LeavesGoing, is_at_rest}
 use Rattle.router_laws.specs.clients.Plans.{nobody}
 use Rattle.router_laws.specs.clients.Speaks.{SpeaksSo}
-use Rattle.query_rules.specs.Passing.{rules_of}
 use Rattle.core_promises.specs.Ruled.{AreRuled, ruling_of}
 use Rattle.core_texts.specs.Texts.{key_at}
 use Rattle.core_texts.specs.declared.texts.Texts.{Texts}
@@ -26,7 +26,7 @@ pub record HasSpoken (service : Service) (texts : Texts) (link : LinkId) (bytes 
   pub halt : Halt
   pub parting : Parting
   pub links : List LinkId
-  pub ours : All (IsOurs (rules_of service.rules) texts c) choices
+  pub ours : All (IsOurs (rules_in service) texts c) choices
   pub word : IsPartingOurs parting
   pub so : SpeaksSo service.setup service.default_schema link bytes c ordinal choices halt parting links old new
   pub ruled : AreRuled (ruling_of service (key_at texts)) choices halt service.setup service.default_schema c so.heard so.follows.turned so.follows.turns
@@ -61,7 +61,7 @@ pub record HasLeftGoing (service : Service) (texts : Texts) (link : LinkId) (c :
   pub choices : List Choice
   pub halt : Halt
   pub parting : Parting
-  pub ours : All (IsOurs (rules_of service.rules) texts c) choices
+  pub ours : All (IsOurs (rules_in service) texts c) choices
   pub word : IsPartingOurs parting
   pub so : LeavesGoing service.setup service.default_schema link links ordinal choices halt parting c old new
   pub ruled : AreRuled (ruling_of service (key_at texts)) choices halt service.setup service.default_schema c so.between so.follows.turned so.follows.turns

@@ -8,6 +8,7 @@ use Rattle.private_model.specs.Story.{is_client}
 use Rattle.session_state.specs.declared.names.SessionName.{SessionName}
 use Rattle.client_seat.specs.Seats.{account_in}
 use Rattle.core_policy.specs.declared.verdict.GiveUp.{GiveUp}
+use Rattle.core_service.specs.Serves.{rules_in}
 use Rattle.core_service.specs.declared.service.Service.{Service}
 use Rattle.core_tables.specs.Parting.{given_up, given_up_in}
 use Rattle.core_tables.specs.Tables.{IsSame, Tabled}
@@ -16,7 +17,6 @@ use Rattle.core_laws.specs.clients.Follows.{FollowsSo, IsUnfaulty, Parting, Part
 use Rattle.core_laws.specs.clients.Going.{GivenUp, GoesSo, Going, IsCalled, is_going, told_to}
 use Rattle.core_laws.specs.clients.Turns.{Choice, Halt, MayLeave, Rests}
 use Rattle.own_words.specs.Own.{IsFailure}
-use Rattle.query_rules.specs.Passing.{rules_of}
 use Rattle.core_promises.specs.Ruled.{AreRuled, ruling_of}
 use Rattle.core_texts.specs.Texts.{AreMore, key_at}
 use Rattle.core_texts.specs.declared.texts.Texts.{Texts}
@@ -69,7 +69,7 @@ pub record HasGone (service : Service) (texts : Texts) (c : ClientNo) (ends : Bo
   pub choices : List Choice
   pub halt : Halt
   pub parting : Parting
-  pub ours : All (IsOurs (rules_of service.rules) texts c) choices
+  pub ours : All (IsOurs (rules_in service) texts c) choices
   pub word : IsPartingOurs parting
   pub goes : CallerGoesOn service.setup service.default_schema
       (record { client = c; choices = choices; halt = halt; parting = parting }) old new
@@ -107,7 +107,7 @@ pub record HasFollowed (service : Service) (texts : Texts) (c : ClientNo) (ends 
   pub halt : Halt
   pub parting : Parting
   pub links : List LinkId
-  pub ours : All (IsOurs (rules_of service.rules) texts c) choices
+  pub ours : All (IsOurs (rules_in service) texts c) choices
   pub word : IsPartingOurs parting
   pub follows : FollowsSo service.setup service.default_schema c choices halt parting links old new
   pub ruled : AreRuled (ruling_of service (key_at texts)) choices halt service.setup service.default_schema c old follows.turned follows.turns
@@ -118,7 +118,7 @@ pub record HaveFollowed (service : Service) (texts : Texts) (clients : List Clie
   pub callers : List Caller
   pub links : List LinkId
   pub named : map (λ (k : Caller). k.client) callers ≡ clients
-  pub ours : All (IsCallerOurs (rules_of service.rules) texts) callers
+  pub ours : All (IsCallerOurs (rules_in service) texts) callers
   pub calls : CallsSo service.setup service.default_schema callers links old new
   pub ruled : AreRuledAll (ruling_of service (key_at texts)) callers service.setup service.default_schema old calls.turned calls.going
 
@@ -126,7 +126,7 @@ pub record HaveFollowed (service : Service) (texts : Texts) (clients : List Clie
 pub record HaveGone (service : Service) (texts : Texts) (clients : List ClientNo) (old new : Tabled) : Type 0 where
   pub callers : List Caller
   pub named : map (λ (k : Caller). k.client) callers ≡ clients
-  pub ours : All (IsCallerOurs (rules_of service.rules) texts) callers
+  pub ours : All (IsCallerOurs (rules_in service) texts) callers
   pub going : AllGoOn callers service.setup service.default_schema old new
   pub ruled : AreRuledAll (ruling_of service (key_at texts)) callers service.setup service.default_schema old new going
 
@@ -173,6 +173,6 @@ called_by None given t = given
 pub record HasCalled (service : Service) (texts : Texts) (name : Option SessionName) (told : Option GivenUp) (old new : Tabled) : Type 0 where
   pub going : Option Going
   pub called : IsCalled name told old (option_map (λ (g : Going). g.client) going)
-  pub ours : AreGoingOurs (rules_of service.rules) texts going
+  pub ours : AreGoingOurs (rules_in service) texts going
   pub goes : GoesSo going service.setup service.default_schema old new
   pub ruled : IsRuledOn (ruling_of service (key_at texts)) going service.setup service.default_schema old new goes

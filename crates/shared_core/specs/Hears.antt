@@ -1,9 +1,9 @@
 -- What is made of the tables as bytes come on a link to a server.
 use Rattle.std.specs.Prelude.{ℕ, List, Option}
 use Rattle.mx_base.specs.declared.names.LinkId.{LinkId}
+use Rattle.core_service.specs.Serves.{rules_in}
 use Rattle.core_service.specs.declared.service.Service.{Service}
 use Rattle.core_laws.specs.clients.Going.{GivenUp, Going}
-use Rattle.query_rules.specs.Passing.{rules_of}
 use Rattle.core_promises.specs.Ruled.{ruling_of}
 use Rattle.core_texts.specs.Texts.{key_at}
 use Rattle.router_laws.specs.decisions.Rulings.{IsRuledOn}
@@ -17,6 +17,6 @@ pub record HasHeard (service : Service) (link : LinkId) (bytes : List ℕ) (old 
   pub given : Option GivenUp
   pub going : Option Going
   pub given_ours : AreGivenOurs given
-  pub ours : AreGoingOurs (rules_of service.rules) new.texts going
+  pub ours : AreGoingOurs (rules_in service) new.texts going
   pub so : HearsSo service.setup service.default_schema link bytes old.clock given going (tables old) (tables new)
   pub ruled : IsRuledOn (ruling_of service (key_at new.texts)) going service.setup service.default_schema so.freed (tables new) so.goes

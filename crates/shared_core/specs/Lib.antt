@@ -5,6 +5,7 @@ pub mod Hears
 pub mod Losses
 pub mod Clients
 pub mod Telling
+pub mod Came
 pub mod Stands
 pub mod Machine
 pub mod Links

@@ -7,6 +7,7 @@ use Rattle.private_model.specs.Story.{is_hostgroup}
 use Rattle.session_state.specs.declared.names.SessionName.{SessionName}
 use Rattle.client_desk.specs.declared.work.Work.{Work}
 use Rattle.core_policy.specs.declared.verdict.GiveUp.{GiveUp}
+use Rattle.core_service.specs.Serves.{rules_in}
 use Rattle.core_service.specs.declared.service.Service.{Service}
 use Rattle.core_tables.specs.Parting.{name_in, present_in}
 use Rattle.core_tables.specs.Tables.{Tabled}
@@ -15,7 +16,6 @@ use Rattle.core_tables.specs.declared.server.Server.{Server}
 use Rattle.core_laws.specs.clients.Going.{GivenUp, Going}
 use Rattle.core_laws.specs.parting.Partings.{IsAtWork}
 use Rattle.router_laws.specs.links.Loses.{GoesWithIt, LosesEnded, LosesSo}
-use Rattle.query_rules.specs.Passing.{rules_of}
 use Rattle.core_promises.specs.Ruled.{ruling_of}
 use Rattle.core_texts.specs.Texts.{key_at}
 use Rattle.core_texts.specs.declared.texts.Texts.{Texts}
@@ -56,7 +56,7 @@ pub record HasLost (service : Service) (texts : Texts) (link : LinkId) (old new 
   pub given : Option GivenUp
   pub going : Option Going
   pub given_ours : AreGivenOurs given
-  pub ours : AreGoingOurs (rules_of service.rules) texts going
+  pub ours : AreGoingOurs (rules_in service) texts going
   pub so : LosesSo service.setup service.default_schema link given going old new
   pub ruled : IsRuledOn (ruling_of service (key_at texts)) going service.setup service.default_schema so.lost new so.goes
 

@@ -1,5 +1,5 @@
 -- The core as a machine: how it stands for a log, and what its router is told.
-use Rattle.std.specs.Prelude.{◌≡◌, ℕ, false, true, List, Option, IsSome}
+use Rattle.std.specs.Prelude.{◌≡◌, ℕ, false, true, List, None, Option, IsSome}
 use Rattle.std.specs.Option.{option_map}
 use Rattle.mx_wire.specs.Log.{Log}
 use Rattle.mx_wire.specs.declared.entry.Entry.{Entry}
@@ -14,6 +14,14 @@ use Rattle.shared_core.specs.Says.{target_of}
 use Rattle.shared_core.specs.Stands.{CarriesWhere, IsClosed, PartsFor, shown, tables}
 use Rattle.shared_core.specs.declared.whole.Core.{Core}
 use Rattle.shared_core.specs.declared.router.Router.{Router}
+
+-- what it serves by, but for rules that were loaded
+abbrev pub unloaded : Core → Service
+unloaded core = record core.service { loaded = None }
+
+-- only what administrators work on is another
+abbrev pub IsRuledAnew : (old new : Router) → Type 0
+IsRuledAnew old new = new ≡ record old { admin = new.admin }
 
 -- It does all closes that it asks for before anything else happens.
 pub record IsStanding (core : Core) (log : Log) : Type 0 where

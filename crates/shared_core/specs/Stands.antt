@@ -20,6 +20,8 @@ use Rattle.ready_loop.specs.Machine.{IsFarewell}
 use Rattle.ready_loop.specs.declared.machines.Act.{Act}
 use Rattle.ready_loop.specs.declared.machines.Act.TheVariants as act
 use Rattle.router_laws.specs.wakes.Settling.{Settles}
+use Rattle.shared_core.specs.Came.{HaveCome}
+use Rattle.shared_core.specs.declared.came.Came.{Came}
 use Rattle.shared_core.specs.declared.roomy.Roomy.{Roomy}
 use Rattle.shared_core.specs.declared.router.Router.{Router}
 
@@ -27,7 +29,7 @@ use Rattle.shared_core.specs.declared.router.Router.{Router}
 pub record Shown : Type 0 where
   pub marked : MarkedTables
   pub roomy : Roomy
-  pub came : ℕ
+  pub came : Came
   pub leaving : Option ClientNo
   pub closing : Option LinkId
   pub texts : Texts
@@ -46,7 +48,7 @@ is_roomy roomy c = roomy.all || list_any (nat_eq c.0) (keys roomy.some)
 
 pub record StandsBy (service : Service) (log : Log) (t : Tabled) (s : Shown) : Type 0 where
   pub router : IsRouter service s.texts log t (is_roomy s.roomy)
-  pub counted : s.came ≡ length (accepted_links log)
+  pub counted : HaveCome log s.came
 
 abbrev pub StandsFor : Service → Log → Router → Type 0
 StandsFor service log r = StandsBy service log (tables r) (shown r)

@@ -2,11 +2,11 @@
 use Rattle.std.specs.Prelude.{◌≡◌, ℕ, true, All, if◌then◌else◌, List, [], ◌∷◌, ◌++◌}
 use Rattle.mx_base.specs.declared.names.ClientNo.{ClientNo}
 use Rattle.mx_base.specs.declared.names.LinkId.{LinkId}
+use Rattle.core_service.specs.Serves.{rules_in}
 use Rattle.core_service.specs.declared.service.Service.{Service}
 use Rattle.core_tables.specs.Tables.{Tabled}
 use Rattle.core_laws.specs.clients.Going.{GivenUp, is_going}
 use Rattle.router_laws.specs.wakes.Calling.{Caller, GivesUpAll, IsThere, IsUnsent, is_given}
-use Rattle.query_rules.specs.Passing.{rules_of}
 use Rattle.core_promises.specs.Ruled.{ruling_of}
 use Rattle.core_texts.specs.Texts.{key_at}
 use Rattle.core_texts.specs.declared.texts.Texts.{Texts}
@@ -53,7 +53,7 @@ pub record HasWoken (service : Service) (texts : Texts) (roomy : Roomy) (old new
   pub callers : List Caller
   pub links : List LinkId
   pub given_ours : All IsGivenOurs given
-  pub ours : All (IsCallerOurs (rules_of service.rules) texts) callers
+  pub ours : All (IsCallerOurs (rules_in service) texts) callers
   pub so : WakesSo service.setup service.default_schema given callers links (is_roomy roomy) old new
   pub ruled : AreRuledAll (ruling_of service (key_at texts)) callers service.setup service.default_schema so.late so.calls.turned so.calls.going
 
@@ -63,6 +63,6 @@ pub record HasFailed (service : Service) (texts : Texts) (old new : Tabled) : Ty
   pub callers : List Caller
   pub links : List LinkId
   pub given_ours : All IsGivenOurs given
-  pub ours : All (IsCallerOurs (rules_of service.rules) texts) callers
+  pub ours : All (IsCallerOurs (rules_in service) texts) callers
   pub so : FailsSo service.setup service.default_schema given callers links old new
   pub ruled : AreRuledAll (ruling_of service (key_at texts)) callers service.setup service.default_schema so.late so.calls.turned so.calls.going

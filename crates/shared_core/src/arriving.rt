@@ -29,7 +29,7 @@ fn no_note() -> ClientNote {
 }
 
 impl Router {
-    /// A link comes. One at the port of clients is served where there is room for it; another is turned away.
+    /// A link comes. It is served where there is room for it at its port, or turned away.
     pub(crate) fn accepted(
         &mut self,
         service: &Service,
@@ -42,10 +42,10 @@ impl Router {
     {
         router_laws::entering::comes_router();
         router_laws::entering::turned_away_router();
-        self.came = self.came.saturating_add(1);
-        let client = ClientNo(self.came);
+        self.came = self.came.then(port);
+        let client = ClientNo(self.came.clients);
         let served = self.policy.serves(service, port);
-        self.policy.comes(client, served, self.clock)?;
+        self.policy.comes(client, port, served, self.clock)?;
         if served {
             self.receives(service, port, link, salt, client)
         } else {
@@ -65,7 +65,7 @@ impl Router {
         ensures received { OnOk result (ComesSo Served service.now.setup port link salt client (tables self.old) (tables self.new)) }
         ensures keeps { OnOk result (Keeps self.old self.new) }
     {
-        let seat = Seat::new(self.alloc, link, client, salt, &service.setup)?;
+        let seat = Seat::new(self.alloc, link, client, salt, port, &service.setup)?;
         self.marked.come(client, link, seat, no_note())
     }
 

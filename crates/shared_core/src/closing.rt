@@ -14,7 +14,6 @@ ghost use Rattle.shared_core.specs.Stands.{ActsSo, IsClosed, is_roomy, shown, ta
 use crate::router::Router;
 use crate::rows::{is_farewell, is_going, name_in, present_on, waits_for_capture, works_in};
 use core_policy::Asks;
-use core_service::Service;
 use core_tables::Server;
 use link_state::Carried;
 use mx_base::LinkId;
@@ -23,7 +22,7 @@ use session_state::SessionName;
 
 impl Router {
     /// The next act. Takes no memory.
-    pub(crate) fn act(&mut self, service: &Service) -> Option<Act>
+    pub(crate) fn act(&mut self) -> Option<Act>
         requires closed { IsClosed (shown self.old) }
         requires unasked { self.old.asked ≡ None }
         ensures acts { ActsSo self.old self.new result }
@@ -31,7 +30,7 @@ impl Router {
         ensures asked { IsAskedFor self.new.asked result }
     {
         'asked: for _ in 0..u64::MAX {
-            let asks = self.policy.asks(&self.marked.tables, service)?;
+            let asks = self.policy.asks(&self.marked.tables)?;
             let act = self.asks_for(asks);
             if act.is_some() {
                 return act;

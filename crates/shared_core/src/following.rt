@@ -105,7 +105,7 @@ impl Router {
         }
     }
 
-    // Its messages are taken up, as many as can be.
+    // Its messages are taken up, as many as can be; and the policy is told what came of that.
     fn takes_turns(
         &mut self,
         service: &Service,
@@ -115,11 +115,28 @@ impl Router {
             service.now.default_schema client (tables self.old) (tables self.new)) }
         ensures keeps { OnOk result (Keeps self.old self.new) }
     {
+        let went = self.takes_up(service, client)?;
+        self.took(client, &went)?;
+        Ok(went)
+    }
+
+    // An administrator is shown what the router tells of itself.
+    fn takes_up(&mut self, service: &Service, client: ClientNo) -> Result<Option<Went>, OutOfMemory>
+        ensures is { IfOk result (λ went. HasGoneOn RuledTurns went (ruling_of service.now (key_at self.new.texts)) service.now.setup
+            service.now.default_schema client (tables self.old) (tables self.new)) }
+        ensures keeps { OnOk result (Keeps self.old self.new) }
+    {
+        let shown = self
+            .policy
+            .shown_to(&self.marked.tables, client, self.clock)?;
+        let running = self.policy.board.running(&shown);
         let took = take_turns(
             &mut self.marked,
             &mut self.texts,
+            &mut self.admin,
+            &running,
             service,
-            &self.policy.servers,
+            &mut self.policy.servers,
             self.clock,
             self.alloc,
             client,

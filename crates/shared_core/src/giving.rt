@@ -28,6 +28,7 @@ impl Router {
     {
         let payload = payload_of(self.alloc, why)?;
         self.marked.give_up(client, payload.as_slice())?;
+        self.policy.fails(client, why, self.clock);
         self.changed(client);
         Ok(())
     }

@@ -2,7 +2,9 @@
 //! chosen in it is the policy's.
 #![tactic(auto)]
 
+mod administering;
 mod arriving;
+mod came;
 mod closing;
 mod following;
 mod giving;

@@ -3,7 +3,8 @@ ghost use Rattle.std.specs.Prelude.{◌≡◌, None, OnOk, false, is_some, true}
 ghost use Rattle.core_service.specs.declared.service.Service.{Service};
 ghost use Rattle.marked_tables.specs.Goes.{GoesOn, reads_on};
 ghost use Rattle.mx_wire.specs.declared.entry.Entry.TheVariants as entry;
-ghost use Rattle.shared_core.specs.Machine.{IsStanding, Tells};
+ghost use Rattle.mx_wire.specs.Log.{Log};
+ghost use Rattle.shared_core.specs.Machine.{IsRuledAnew, IsStanding, Tells, unloaded};
 ghost use Rattle.shared_core.specs.Says.{IsAskedFor, address_of, awaits, changed, most_of, reads, sends, unnamed};
 ghost use Rattle.shared_core.specs.Stands.{ActsSo, Carries, IsClosed, Moves, shown};
 
@@ -83,9 +84,26 @@ impl Router {
         if !self.acting {
             return None;
         }
-        let act = self.act(service);
+        let act = self.act();
         self.times(service);
         act
+    }
+}
+
+impl Core {
+    // Rules that an administrator loaded come in force.
+    fn follow_rules(&mut self)
+        ensures stands { (log : Log) → IsStanding self.old log → IsStanding self.new log }
+        ensures serves { unloaded self.new ≡ unloaded self.old }
+        ensures router { IsRuledAnew self.old.router self.new.router }
+    {
+        router_laws::decisions::routers_load();
+        if !self.router.came.administrator {
+            return;
+        }
+        if let Some(loaded) = self.router.admin.loaded.take() {
+            self.service.loaded = Some(loaded.into_rules());
+        }
     }
 }
 
@@ -114,12 +132,14 @@ impl Machine for Core {
 
     ghost Service = { Service };
 
-    ghost serves_by = { λ core. core.service };
+    ghost serves_by = { unloaded };
 
     ghost owes = { λ service log link piece. Unit {0} };
 
     fn take(&mut self, event: Event, bytes: &mut [u8]) -> Result<(), OutOfMemory> {
-        self.router.take(&self.service, event, bytes)
+        self.router.take(&self.service, event, bytes)?;
+        self.follow_rules();
+        Ok(())
     }
 
     fn next_act(&mut self) -> Option<Act> {

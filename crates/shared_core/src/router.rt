@@ -5,19 +5,24 @@ ghost use Rattle.marked_tables.specs.Goes.{AreKnown};
 ghost use Rattle.mx_config.specs.Lawful.{IsLawful};
 ghost use Rattle.shared_core.specs.Stands.{Chooses, IsClosed, StandsFor, shown};
 
+use crate::administering::admin_of;
+use crate::came::Came;
 use crate::roomy::Roomy;
 use core_policy::{Asked, Policy};
 use core_service::Service;
 use core_texts::Texts;
+use core_turns::Administrator;
 use marked_tables::MarkedTables;
 use mx_base::{ClientNo, LinkId, OutOfMemory};
 use mx_config::Config;
 use std::alloc::Global;
 
-/// The links that may be open at a time, of clients and to servers: one beyond them is refused like want of memory.
-const MOST_LINKS: u32 = 14_001;
+/// The links that may be open at a time, of 4,000 clients, 16 administrators and to servers, and one on each port that is being refused: one
+/// beyond them is refused like want of memory.
+const MOST_LINKS: u32 = 14_018;
 
-/// What changes of the core: clients and links, with marks of the links that the loop has to look at; the texts that clients prepared; what is chosen by; how many clients came;
+/// What changes of the core: clients and links, with marks of the links that the loop has to look at; the texts that clients prepared; what is chosen by; what administrators
+/// staged; how many clients came;
 /// who has room again; the open that was asked for last; the client, or the link to a server, whose close was; whether there may be something
 /// to ask for; the moment at which there is something to do, and that of the last wake, in milliseconds.
 #[derive(Drop)]
@@ -26,7 +31,8 @@ pub struct Router {
     pub marked: MarkedTables,
     pub texts: Texts,
     pub policy: Policy,
-    pub came: u64,
+    pub admin: Administrator,
+    pub came: Came,
     pub roomy: Roomy,
     pub asked: Option<Asked>,
     pub leaving: Option<ClientNo>,
@@ -40,7 +46,7 @@ impl Router {
     /// No client came.
     pub fn new(alloc: Global, config: &Config) -> Result<Self, OutOfMemory>
         requires { IsLawful config.now }
-        ensures stands { IfOk result (λ router. (service : Service) → StandsFor service [] router) }
+        ensures stands { IfOk result (λ router. (service : Service) → service.loaded ≡ None → StandsFor service [] router) }
         ensures closed { IfOk result (λ router. IsClosed (shown router)) }
         ensures unasked { IfOk result (λ router. router.asked ≡ None) }
         ensures known { IfOk result (λ router. AreKnown router.marked) }
@@ -51,7 +57,11 @@ impl Router {
             marked: MarkedTables::new(alloc, MOST_LINKS)?,
             texts: Texts::new(alloc),
             policy: Policy::new(alloc, config)?,
-            came: 0,
+            admin: admin_of(alloc, config)?,
+            came: Came {
+                clients: 0,
+                administrator: false,
+            },
             roomy: Roomy::new(alloc),
             asked: None,
             leaving: None,

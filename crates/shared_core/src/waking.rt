@@ -29,7 +29,7 @@ fn call_all(numbers: &BTreeSet<u64>, called: &mut Roomy)
 
 impl Router {
     /// The loop woke at this moment. Statements that waited too long are given up; then their clients go on, and those that have room again, one
-    /// after the other as they came. Those end that had their time to log in.
+    /// after the other as they came. Those end whom the policy names.
     pub(crate) fn woke(&mut self, service: &Service, now_ms: u64) -> Result<(), OutOfMemory>
         ensures carries { OnOk result ((until_ms : ℕ)
             → CarriesWhere (IsDrainedFor (tables self.old)) service.now (entry.Woke until_ms now_ms) self.old self.new) }
@@ -38,9 +38,9 @@ impl Router {
         router_laws::wakes::wakes_router();
         self.clock = now_ms;
         let late = self.policy.woke(&self.marked.tables, service, now_ms)?;
-        let slow = self.policy.slow(now_ms)?;
+        let ending = self.policy.ending(now_ms)?;
         let roomy = std::mem::replace(&mut self.roomy, Roomy::new(self.alloc));
-        self.wakes(service, late.as_slice(), &slow, roomy)
+        self.wakes(service, late.as_slice(), &ending, roomy)
     }
 
     // Those have room again; who is called beside them goes on too.
@@ -48,17 +48,17 @@ impl Router {
         &mut self,
         service: &Service,
         late: &[GiveUp],
-        slow: &BTreeSet<u64>,
+        ending: &BTreeSet<u64>,
         roomy: Roomy,
     ) -> Result<(), OutOfMemory>
         ensures wakes { OnOk result (HasWoken service.now self.new.texts roomy (tables self.old) (tables self.new)) }
         ensures keeps { OnOk result (Keeps self.old self.new) }
     {
         let mut called = roomy;
-        call_all(slow, &mut called);
+        call_all(ending, &mut called);
         self.gives_late(late, &mut called)?;
         let clients = self.called_of(&called)?;
-        self.follow_all(service, clients.as_slice(), slow)?;
+        self.follow_all(service, clients.as_slice(), ending)?;
         Ok(())
     }
 

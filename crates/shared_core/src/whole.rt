@@ -2,7 +2,7 @@
 ghost use Rattle.std.specs.Prelude.{[], IfOk};
 ghost use Rattle.core_service.specs.Serves.{ServesBy};
 ghost use Rattle.mx_config.specs.Lawful.{IsLawful};
-ghost use Rattle.shared_core.specs.Machine.{IsStanding};
+ghost use Rattle.shared_core.specs.Machine.{IsStanding, unloaded};
 
 use crate::router::Router;
 use core_service::Service;
@@ -10,7 +10,7 @@ use mx_base::OutOfMemory;
 use mx_config::Config;
 use std::alloc::Global;
 
-/// The router's core: what it serves by, which nothing changes, and all else.
+/// The router's core: what it serves by, of which only the rules change, and all else.
 #[derive(Drop)]
 pub struct Core {
     pub service: Service,
@@ -22,7 +22,7 @@ impl Core {
     pub fn new(alloc: Global, config: &Config) -> Result<Self, OutOfMemory>
         requires { IsLawful config.now }
         ensures stands { IfOk result (λ core. IsStanding core []) }
-        ensures serves { IfOk result (λ core. ServesBy config.now core.service) }
+        ensures serves { IfOk result (λ core. ServesBy config.now (unloaded core)) }
     {
         Ok(Core {
             service: Service::new(alloc, config)?,

@@ -63,6 +63,7 @@ use Rattle.shared_router.proofs.Sparing.{agrees_here}
 use Rattle.shared_router.proofs.Users.{all_of}
 use Rattle.shared_router.proofs.Waking.{held_then}
 use Rattle.shared_router.proofs.Worded.{going-same-ends, parted_at}
+use Rattle.mx_base.specs.declared.names.Port.{Port}
 
 isnt : {A : Type 0} → false ≡ true → A
 isnt is = absurd (cc)
@@ -335,6 +336,7 @@ module _ (fixed : Fixed) (numbered : IsNumbered fixed) (log : Log) (our : IsOurL
 
     record IsHeard (x y : Client) : Type 0 where
       pub link : y.link ≡ x.link
+      pub port : y.port ≡ x.port
       pub salt : y.salt ≡ x.salt
       pub read : (word : LastWord) → word_at plan old.moment x.number ≡ Some word → y.read ≡ x.read
 
@@ -345,18 +347,18 @@ module _ (fixed : Fixed) (numbered : IsNumbered fixed) (log : Log) (our : IsOurL
 
     heard_itself : (xs : List Client) → AreHeard xs xs
     heard_itself [] = tt
-    heard_itself (x ∷ xs) = (record { link = refl; salt = refl; read = λ word is. refl }, heard_itself xs)
+    heard_itself (x ∷ xs) = (record { link = refl; port = refl; salt = refl; read = λ word is. refl }, heard_itself xs)
 
     heard_comes : (xs : List Client) (one : Client) → AreHeard xs (xs ++ one ∷ [])
     heard_comes [] one = tt
-    heard_comes (x ∷ xs) one = (record { link = refl; salt = refl; read = λ word is. refl }, heard_comes xs one)
+    heard_comes (x ∷ xs) one = (record { link = refl; port = refl; salt = refl; read = λ word is. refl }, heard_comes xs one)
 
     heard_gets : (link : LinkId) (count : ℕ) (xs : List Client) → AreHeard xs (map (client_gets link count) xs)
     heard_gets link count [] = tt
     heard_gets link count (x ∷ xs) = (by_test (is_link_id x.link link), heard_gets link count xs) where
       by_test : (b : Bool) → IsHeard x (if b then record x { written = x.written + count } else x)
-      by_test true = record { link = refl; salt = refl; read = λ word is. refl }
-      by_test false = record { link = refl; salt = refl; read = λ word is. refl }
+      by_test true = record { link = refl; port = refl; salt = refl; read = λ word is. refl }
+      by_test false = record { link = refl; port = refl; salt = refl; read = λ word is. refl }
 
     abbrev Speaks : LinkId → Client → Type 0
     Speaks link client = (is_link_id client.link link && is_some (word_at plan old.moment client.number)) ≡ false
@@ -365,8 +367,8 @@ module _ (fixed : Fixed) (numbered : IsNumbered fixed) (log : Log) (our : IsOurL
     heard_hears link bytes [] speak = tt
     heard_hears link bytes (x ∷ xs) speak = (by_test (is_link_id x.link link) speak.0, heard_hears link bytes xs speak.1) where
       by_test : (b : Bool) → (b && is_some (word_at plan old.moment x.number)) ≡ false → IsHeard x (if b then record x { read = x.read ++ bytes } else x)
-      by_test true none = record { link = refl; salt = refl; read = λ word is. isnt (sym none ∙ ap (λ (o : Option LastWord). is_some o) is) }
-      by_test false none = record { link = refl; salt = refl; read = λ word is. refl }
+      by_test true none = record { link = refl; port = refl; salt = refl; read = λ word is. isnt (sym none ∙ ap (λ (o : Option LastWord). is_some o) is) }
+      by_test false none = record { link = refl; port = refl; salt = refl; read = λ word is. refl }
 
     speak_so : (link : LinkId) (xs : List Client) → list_any (λ (c : Client). is_link_id c.link link && is_some (word_at (plan_of w.decided) w.tale.moment c.number)) xs ≡ false
         → Each (Speaks link) xs
@@ -381,7 +383,7 @@ module _ (fixed : Fixed) (numbered : IsNumbered fixed) (log : Log) (our : IsOurL
       each_same (c ∷ cs) all = (ap (λ (o : Option LastWord). is_link_id c.link link && is_some o) (same c.number) ∙ all.0, each_same cs all.1)
 
     heard_by : (x : Entry) → IsOurs fixed before x → AreHeard old.clients (clients_by setup plan old x)
-    heard_by (entry.Accepted port link salt) ours = heard_comes old.clients (new_client (length old.clients + 1) link salt)
+    heard_by (entry.Accepted port link salt) ours = heard_comes old.clients (new_client (length old.clients + 1) port link salt)
     heard_by (entry.Got link bytes) ours =
         ifs (AreHeard old.clients) (is_to_server old link) old.clients (map (client_hears link bytes) old.clients) (heard_itself old.clients)
         (heard_hears link bytes old.clients (subst (λ (x : Tale). Each (Speaks link) x.clients) (sym old_is) (speak_so link w.tale.clients ours.2)))
@@ -395,7 +397,7 @@ module _ (fixed : Fixed) (numbered : IsNumbered fixed) (log : Log) (our : IsOurL
     heard_like (x ∷ xs) [] zs heard like = absurd heard
     heard_like (x ∷ xs) (y ∷ ys) [] heard like = absurd like
     heard_like (x ∷ xs) (y ∷ ys) (z ∷ zs) heard like = (
-      record { link = like.0.link ∙ heard.0.link; salt = like.0.salt ∙ heard.0.salt; read = λ word is. like.0.read ∙ heard.0.read word is },
+      record { link = like.0.link ∙ heard.0.link; port = like.0.port ∙ heard.0.port; salt = like.0.salt ∙ heard.0.salt; read = λ word is. like.0.read ∙ heard.0.read word is },
       heard_like xs ys zs heard.1 like.1,
     )
 
@@ -434,10 +436,10 @@ module _ (fixed : Fixed) (numbered : IsNumbered fixed) (log : Log) (our : IsOurL
       by_test true more = said_same x.number i (stay i below) (settled.said (suc i) (leb-true (suc (suc i)) x.taken more))
       by_test false none = (let few : x.taken < suc (suc i) = leb-false (suc (suc i)) x.taken none in by_last (omega (arith, few, below)) last)
 
-    abbrev with_it : Client → (number : ClientNo) → (salt read : List ℕ) → (taken : ℕ) → LastWord → List ℕ
-    with_it x number salt read taken word =
-        with_word (talk_of plan (record x { number = number; salt = salt; read = read; taken = taken }))
-        (due_until R plan new.moment (record x { number = number; salt = salt; read = read; taken = taken })) (Some word)
+    abbrev with_it : Client → (number : ClientNo) → Port → (salt read : List ℕ) → (taken : ℕ) → LastWord → List ℕ
+    with_it x number port salt read taken word =
+        with_word (talk_of plan (record x { number = number; port = port; salt = salt; read = read; taken = taken }))
+        (due_until R plan new.moment (record x { number = number; port = port; salt = salt; read = read; taken = taken })) (Some word)
 
     same_word : (x y : Client) (word : LastWord) → IsCounted setup plan R new.moment IsNew x y → IsHeard x y → IsSettled old x → AnswersStay t old new x
         → word_at plan old.moment x.number ≡ Some word
@@ -447,8 +449,7 @@ module _ (fixed : Fixed) (numbered : IsNumbered fixed) (log : Log) (our : IsOurL
         let taken : y.taken ≡ x.taken = counted.still (ended_by x.number word found.0 found.1) in
         ap (λ xs. with_word (talk_of plan x) xs (Some word))
         (until_same plan old.moment new.moment (replies_in old) R x (same_each x settled (settled.last word is) stay))
-        ∙ sym (ap (λ n. with_it y n y.salt y.read y.taken word) counted.number ∙ ap (λ s. with_it y x.number s y.read y.taken word) heard.salt
-        ∙ ap (λ r. with_it y x.number x.salt r y.taken word) (heard.read word is) ∙ ap (λ k. with_it y x.number x.salt x.read k word) taken)
+        ∙ sym (λ i. with_it y (counted.number i) (heard.port i) (heard.salt i) (heard.read word is i) (taken i) word)
 
     itself : (xs ys : List ℕ) → xs ≡ ys → IsFront xs ys
     itself xs ys same = record { rest = []; is = append-nil xs ∙ same }

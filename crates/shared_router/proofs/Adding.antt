@@ -4,7 +4,7 @@ use Rattle.std.proofs.Common.{refl, sym, ap, ◌∙◌, subst, append_assoc, app
 use Rattle.std.proofs.lemmas.Bool.{eqb-true}
 use Rattle.std.proofs.lemmas.List.{length-take}
 use Rattle.client_session.specs.Accounts.{account_of}
-use Rattle.client_session.specs.Answers.{Talk, commands, commands_in, fault_answer, front, front_in, greeted, heard_more, if_known, messages_of, opening_of}
+use Rattle.client_session.specs.Answers.{Talk, commands, commands_in, fault_answer, front, front_in, greeted, heard_more, if_known, messages_of, opening_of, users_of}
 use Rattle.client_side.specs.Laws.{Grows, opening-grows}
 use Rattle.client_side.specs.Login.{Fails, Opening, Says, Waits, switch_said, switched_of}
 use Rattle.packet_frame.specs.Laws.{first_message-empty, split-grown, split-nothing}
@@ -80,7 +80,7 @@ module _ (talk : Talk) (more : List ℕ) where
   commands_by : (o p : Opening) → Grows o more p → (others : List ℕ) × (commands_in talk p ≡ commands_in talk o ++ others)
   commands_by (Waits switched) p grows = (commands_in talk p, refl)
   commands_by (Says switched response id rest) p grows =
-      let known = known_more (account_of talk.setup.users talk.salt response) rest in (known.0, ap (commands_in talk) grows ∙ known.1)
+      let known = known_more (account_of (users_of talk) talk.salt response) rest in (known.0, ap (commands_in talk) grows ∙ known.1)
   commands_by (Fails switched fault id) p grows = ([], ap (commands_in talk) grows)
 
   commands_on : (others : List ℕ) × (commands later ≡ commands talk ++ others)

@@ -37,7 +37,7 @@ map-length f (x ∷ cs) = ap (λ n. suc n) (map-length f cs)
 
 least-seats : (n : ℕ) → Seats anybody (AtLeast n)
 least-seats n = record {
-  comes = λ cs link salt comes all. (let long : length (cs ++ new_client (length cs + 1) link salt ∷ []) ≡ length cs + 1 = length-append cs (new_client (length cs + 1) link salt ∷ []) in omega (arith, all, long));
+  comes = λ cs port link salt comes all. (let long : length (cs ++ new_client (length cs + 1) port link salt ∷ []) ≡ length cs + 1 = length-append cs (new_client (length cs + 1) port link salt ∷ []) in omega (arith, all, long));
   hears = λ cs link bytes all. (let long = map-length (client_hears link bytes) cs in omega (arith, all, long));
   gets = λ cs link count all. (let long = map-length (client_gets link count) cs in omega (arith, all, long));
 }

@@ -231,7 +231,7 @@ module _ (setup : Setup) (plan : Plan) (replies : MessageName → Option Reply) 
     Comes tale _ = Unit {0}
 
     counted_by : (tale : Tale) (e : Entry) → Comes tale e → AreCounted tale.clients (clients_by setup plan tale e)
-    counted_by tale (entry.Accepted port link salt) comes = counted_comes tale.clients (new_client (length tale.clients + 1) link salt) comes
+    counted_by tale (entry.Accepted port link salt) comes = counted_comes tale.clients (new_client (length tale.clients + 1) port link salt) comes
     counted_by tale (entry.Got link bytes) comes =
         ifs (AreCounted tale.clients) (is_to_server tale link) tale.clients (map (client_hears link bytes) tale.clients) (counted_itself tale.clients)
         (counted_moves (client_hears link bytes)
@@ -247,7 +247,7 @@ module _ (setup : Setup) (plan : Plan) (replies : MessageName → Option Reply) 
     if_said false x y one two = two
 
     said_by : (tale : Tale) (e : Entry) → Each Said tale.clients → Each Said (clients_by setup plan tale e)
-    said_by tale (entry.Accepted port link salt) all = each-last Said tale.clients (new_client (length tale.clients + 1) link salt) all (λ i below. absurd (omega (arith, below)))
+    said_by tale (entry.Accepted port link salt) all = each-last Said tale.clients (new_client (length tale.clients + 1) port link salt) all (λ i below. absurd (omega (arith, below)))
     said_by tale (entry.Got link bytes) all =
         ifs (Each Said) (is_to_server tale link) tale.clients (map (client_hears link bytes) tale.clients) all
         (each-map Said Said (client_hears link bytes) tale.clients (λ c said. if_said (is_link_id c.link link) (record c { read = c.read ++ bytes }) c said said) all)

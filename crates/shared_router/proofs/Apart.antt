@@ -60,7 +60,7 @@ module _ (Q : LinkId → Type 0) where
     IsOfNew _ = Unit {0}
 
     all_by : (tale : Tale) (e : Entry) → IsOfNew e → AllOf tale.clients → AllOf (clients_by setup plan tale e)
-    all_by tale (entry.Accepted port link salt) is all = all_on tale.clients (new_client (length tale.clients + 1) link salt) all is
+    all_by tale (entry.Accepted port link salt) is all = all_on tale.clients (new_client (length tale.clients + 1) port link salt) all is
     all_by tale (entry.Got link bytes) is all =
         either AllOf (is_to_server tale link) tale.clients (map (client_hears link bytes) tale.clients) all
         (all_map (client_hears link bytes) (λ c was. either (λ (x : Client). Q x.link) (is_link_id c.link link) (record c { read = c.read ++ bytes }) c was was) tale.clients all)

@@ -2,6 +2,7 @@
 use Rattle.std.specs.Prelude.{◌≡◌, ℕ, suc, Bool, true, false, ◌||◌, is_some, nat_eq, if◌then◌else◌, List, [], ◌∷◌, Option, Some, None}
 use Rattle.std.specs.Option.{option_and_then, option_map}
 use Rattle.std.proofs.Common.{refl, sym, ap, ◌∙◌, subst}
+use Rattle.mx_base.specs.declared.names.{Port.Port, Port.TheVariants.Admin, Port.TheVariants.Traffic}
 use Rattle.mx_base.specs.Fields.{number_at}
 use Rattle.hostgroups.specs.declared.server.Server.{Server}
 use Rattle.packet_frame.specs.Packets.{Framed}
@@ -16,7 +17,7 @@ use Rattle.router_promises.specs.Statements.{com_close, is_live, known_statement
 use Rattle.router_promises.specs.Takings.{Taking}
 use Rattle.router_promises.specs.Terms.{Terms, plan_in, setup_in}
 use Rattle.router_promises.specs.Verdicts.{Asks, Chooses, Executes, Kind, Lists, Malformed, Pings, Prepares, Quits, ResetsStatement, Restarts, Silent, Unknown, Unprepared}
-use Rattle.router_promises.specs.Verdicts.{com_fetch, com_ping, com_quit, executed, is_with_number, kind_in, kind_of, verdict_by, with_number}
+use Rattle.router_promises.specs.Verdicts.{com_fetch, com_ping, com_quit, executed, is_with_number, kind_in, kind_of, verdict_at, verdict_by, with_number}
 use Rattle.shared_router.specs.Fixed.{Fixed}
 use Rattle.shared_router.specs.More.{More, terms_of}
 use Rattle.shared_router.specs.Shared.{goes_by, judged_by, route_by, starves_now}
@@ -34,7 +35,7 @@ MayGo (Executes prepared) = Unit {0}
 MayGo _ = ⊥
 
 module _ (fixed : Fixed) (terms : Terms) (servers : List Server) (flag : ℕ) (taking : Taking) (r : Route) where
-  pub may_go : (kind : Kind) → goes_by fixed (verdict_by terms servers flag taking kind) ≡ Some r → MayGo kind
+  may_go : (kind : Kind) → goes_by fixed (verdict_by terms servers flag taking kind) ≡ Some r → MayGo kind
   may_go Chooses is = tt
   may_go Lists is = tt
   may_go (Asks text) is = tt
@@ -48,6 +49,11 @@ module _ (fixed : Fixed) (terms : Terms) (servers : List Server) (flag : ℕ) (t
   may_go (Unprepared number) is = no_some r is
   may_go Malformed is = no_some r is
   may_go Unknown is = no_some r is
+
+  pub may_go_at : (port : Port) (kind : Kind) → goes_by fixed (verdict_at port terms servers flag taking kind) ≡ Some r → MayGo kind
+  may_go_at Traffic kind is = may_go kind is
+  may_go_at Admin Quits is = no_some r is
+  may_go_at Admin _ is = no_some r is
 
 module _ (setup : Setup) (view : View) (plan : Plan) (client : Client) (ordinal : ℕ) (route : Route) where
   abbrev IsAsked : (payload : List ℕ) → Type 0
@@ -129,4 +135,4 @@ route_asks fixed w client message r is = by_test (starves_now fixed w client) is
   by_test true is = no_some r is
   by_test false is =
       kind_fine (setup_in terms) (view_of (setup_in terms) w.tale) (plan_in terms) client (suc client.taken) r message.payload
-      (may_go fixed terms w.more.servers (w.more.flags client.number) taking r (kind_in terms taking) is)
+      (may_go_at fixed terms w.more.servers (w.more.flags client.number) taking r client.port (kind_in terms taking) is)

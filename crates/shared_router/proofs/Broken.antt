@@ -91,7 +91,7 @@ module _ (fixed : Fixed) (numbered : IsNumbered fixed) (log : Log) where
 
   seats : (before : Log) (moment : ℕ) → Seats (λ link. of_link link before ≡ []) (Each (HasParted before moment))
   seats before moment = record {
-    comes = λ cs link salt new all. each-last (HasParted before moment) cs (new_client (length cs + 1) link salt) all (λ is. isnt (none_new link before new is));
+    comes = λ cs port link salt new all. each-last (HasParted before moment) cs (new_client (length cs + 1) port link salt) all (λ is. isnt (none_new link before new is));
     hears = λ cs link bytes all. each-map (HasParted before moment) (HasParted before moment) (client_hears link bytes) cs
         (λ c was. either (HasParted before moment) (is_link_id c.link link) (record c { read = c.read ++ bytes }) c was was) all;
     gets = λ cs link count all. each-map (HasParted before moment) (HasParted before moment) (client_gets link count) cs

@@ -65,7 +65,7 @@ ComesIn log link = list_any (λ e. is_link link (link_of e)) log ≡ true
 
 named-seats : (log : Log) → Seats (ComesIn log) (Each (IsNamed log))
 named-seats log = record {
-  comes = λ cs link salt comes all. each-last (IsNamed log) cs (new_client (length cs + 1) link salt) all comes;
+  comes = λ cs port link salt comes all. each-last (IsNamed log) cs (new_client (length cs + 1) port link salt) all comes;
   hears = λ cs link bytes all. each-map (IsNamed log) (IsNamed log) (client_hears link bytes) cs
       (λ c named. either-client (IsNamed log) (is_link_id c.link link) (record c { read = c.read ++ bytes }) c named named) all;
   gets = λ cs link count all. each-map (IsNamed log) (IsNamed log) (client_gets link count) cs
@@ -91,7 +91,7 @@ IsIdle count link client = is_link_id link client.link ≡ true → IsFirst coun
 says_none : (plan : Plan) (client : Client) → client.read ≡ [] → messages plan client ≡ []
 unfolding packets.split login.opening packets.first_message
 says_none plan client none =
-    ap (λ read. (messages_of (record { setup = plan.service; number = client.number.0; salt = client.salt; read = read })).messages) none
+    ap (λ read. (messages_of (record { setup = plan.service; number = client.number.0; port = client.port; salt = client.salt; read = read })).messages) none
 
 module _ (fixed : Fixed) where
   abbrev setup : Setup
@@ -217,7 +217,7 @@ module _ (fixed : Fixed) where
       let b : World More = is_counted by (is_told setup by w e) e in
       let count = length w.tale.clients + 1 in
       let told_so : Each (IsIdle count link) b.tale.clients =
-      each-last (IsIdle count link) w.tale.clients (new_client count link salt)
+      each-last (IsIdle count link) w.tale.clients (new_client count port link salt)
       (each-so (IsNamed log) (IsIdle count link) w.tale.clients (λ client named. before-idle log count link client new named) (named_at log))
       (λ here. record { taken = refl; read = refl; number = refl }) in
       let heard_so = subst (Each (IsIdle count link)) (sym (freeing-clients fixed b.tale.links b)) told_so in

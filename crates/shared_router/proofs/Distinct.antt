@@ -79,7 +79,7 @@ new-apart log link y new is x named = by_test (is_link_id y.link x.link) refl wh
 module _ (fixed : Fixed) where
   distinct-told : (plan : Plan) (log : Log) (e : Entry) → Fits log e → (tale : Tale) → Each (IsNamed log) tale.clients → Distinct tale.clients → Distinct (clients_by (setup_of fixed) plan tale e)
   distinct-told plan log (entry.Accepted port link salt) fits tale named all =
-      let y : Client = new_client (length tale.clients + 1) link salt in
+      let y : Client = new_client (length tale.clients + 1) port link salt in
       distinct-last tale.clients y all (each-so (IsNamed log) (λ (x : Client). IsApart x.link y) tale.clients (new-apart log link y fits.fresh refl) named)
   distinct-told plan log (entry.Got link bytes) fits tale named all =
       if-distinct (is_to_server tale link) tale.clients (map (client_hears link bytes) tale.clients) all

@@ -221,7 +221,7 @@ module _ (fixed : Fixed) (numbered : IsNumbered fixed) (before later : Log) (e :
 
     word_by : (left away must much starved : Bool) → Option LastWord
     word_by left away must much starved =
-        if left then Some (left_word x) else if away then away_word x client else if must then None
+        if left then Some (left_word x) else if away then Some (away_word x) else if must then None
         else if much then Some (says_last x client (buffers_word x.terms x.ending client))
         else if starved then Some (says_last x client out_of_memory) else None
 

@@ -44,6 +44,7 @@ like_on (x ∷ xs) (y ∷ ys) (z ∷ zs) one two = (
   record {
     number = two.0.number ∙ one.0.number;
     link = two.0.link ∙ one.0.link;
+    port = two.0.port ∙ one.0.port;
     salt = two.0.salt ∙ one.0.salt;
     read = two.0.read ∙ one.0.read;
   },
@@ -77,14 +78,14 @@ hears_like : (link : LinkId) (bytes : List ℕ) (x y : Client) → IsLike x y �
 hears_like link bytes x y like =
     subst (λ l. IsLike (client_hears link bytes x) (if is_link_id l link then record y { read = y.read ++ bytes } else y)) (sym like.link) (by_test (is_link_id x.link link)) where
       by_test : (b : Bool) → IsLike (if b then record x { read = x.read ++ bytes } else x) (if b then record y { read = y.read ++ bytes } else y)
-      by_test true = record { number = like.number; link = like.link; salt = like.salt; read = ap (λ r. r ++ bytes) like.read }
+      by_test true = record { number = like.number; link = like.link; port = like.port; salt = like.salt; read = ap (λ r. r ++ bytes) like.read }
       by_test false = like
 
 gets_like : (link : LinkId) (count : ℕ) (x y : Client) → IsLike x y → IsLike (client_gets link count x) (client_gets link count y)
 gets_like link count x y like =
     subst (λ l. IsLike (client_gets link count x) (if is_link_id l link then record y { written = y.written + count } else y)) (sym like.link) (by_test (is_link_id x.link link)) where
       by_test : (b : Bool) → IsLike (if b then record x { written = x.written + count } else x) (if b then record y { written = y.written + count } else y)
-      by_test true = record { number = like.number; link = like.link; salt = like.salt; read = like.read }
+      by_test true = record { number = like.number; link = like.link; port = like.port; salt = like.salt; read = like.read }
       by_test false = like
 
 -- The links and the clients of a log, by no plan.
@@ -96,8 +97,8 @@ module _ (setup : Setup) (plan : Plan) where
   like_by : (bare tale : Tale) (e : Entry) → tale.links ≡ bare.links → AreLike bare.clients tale.clients
       → AreLike (clients_by setup plan bare e) (clients_by setup plan tale e)
   like_by bare tale (entry.Accepted port link salt) links like =
-      like_comes bare.clients tale.clients (new_client (length bare.clients + 1) link salt) (new_client (length tale.clients + 1) link salt)
-      (record { number = ap (λ n. record { 0 = n + 1 }) (like_length bare.clients tale.clients like); link = refl; salt = refl; read = refl }) like
+      like_comes bare.clients tale.clients (new_client (length bare.clients + 1) port link salt) (new_client (length tale.clients + 1) port link salt)
+      (record { number = ap (λ n. record { 0 = n + 1 }) (like_length bare.clients tale.clients like); link = refl; port = refl; salt = refl; read = refl }) like
   like_by bare tale (entry.Got link bytes) links like =
       subst (λ ls. AreLike (clients_by setup plan bare (entry.Got link bytes)) (if list_any (is_link_id link) ls then tale.clients else map (client_hears link bytes) tale.clients)) (sym links)
       (by_test (is_to_server bare link)) where
@@ -219,7 +220,7 @@ module _ (fixed : Fixed) (log : Log) where
   each_like t [] (y ∷ ys) like who = absurd like
   each_like t (x ∷ xs) [] like who = absurd like
   each_like t (x ∷ xs) (y ∷ ys) like who = (
-    who_earlier t y x (record { number = sym like.0.number; salt = sym like.0.salt; more = []; read = sym like.0.read ∙ sym (append-nil y.read) }) (who x (inl refl)),
+    who_earlier t y x (record { number = sym like.0.number; port = sym like.0.port; salt = sym like.0.salt; more = []; read = sym like.0.read ∙ sym (append-nil y.read) }) (who x (inl refl)),
     each_like t xs ys like.1 (λ z there. who z (inr there)),
   )
 

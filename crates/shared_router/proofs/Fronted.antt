@@ -216,7 +216,7 @@ module _ (fixed : Fixed) where
 
   kept_by : (plan : Plan) (before : Log) (e : Entry) → Fits before e → (tale : Tale) → AreKept (λ l. written_of l (before ++ e ∷ [])) tale.clients (clients_by (setup_of fixed) plan tale e)
   kept_by plan before (entry.Accepted port link salt) fits tale =
-      kept_comes (λ l. written_of l (before ++ entry.Accepted port link salt ∷ [])) tale.clients (new_client (length tale.clients + 1) link salt)
+      kept_comes (λ l. written_of l (before ++ entry.Accepted port link salt ∷ [])) tale.clients (new_client (length tale.clients + 1) port link salt)
       (bytes-idle wrote_bytes link before (entry.Accepted port link salt) refl ∙ ap (λ (l : Log). flat_map wrote_bytes l) fits.fresh)
   kept_by plan before (entry.Got link bytes) fits tale =
       if_kept (λ l. written_of l (before ++ entry.Got link bytes ∷ [])) (is_to_server tale link) tale.clients tale.clients (map (client_hears link bytes) tale.clients)

@@ -26,6 +26,7 @@ use Rattle.shared_router.proofs.Numbered.{AreNumbered, IsIn}
 use Rattle.shared_router.proofs.Parting.{fold_more}
 use Rattle.shared_router.proofs.Seated.{AllOf, IsLike, clients_by, freed, freed_clients, numbered_step, numbered_told, step_clients, taken_clients, told_clients}
 use Rattle.shared_router.proofs.Users as users
+use Rattle.mx_base.specs.declared.names.Port.{Port}
 
 either : {A : Type 0} (P : A → Type 0) (b : Bool) (x y : A) → P x → P y → P (if b then x else y)
 either P true x y first second = first
@@ -48,7 +49,7 @@ module _ (setup : Setup) (plan : Plan) where
   AreOn (x ∷ xs) (y ∷ ys) = IsOn x y × AreOn xs ys
 
   on_itself : (x : Client) → IsWithin x → IsOn x x
-  on_itself x within = record { like = record { number = refl; link = refl; salt = refl; read = refl }; least = omega arith; within = within }
+  on_itself x within = record { like = record { number = refl; link = refl; port = refl; salt = refl; read = refl }; least = omega arith; within = within }
 
   are_themselves : (xs : List Client) → Each IsWithin xs → AreOn xs xs
   are_themselves [] all = tt
@@ -63,7 +64,7 @@ module _ (setup : Setup) (plan : Plan) where
   of_next [] client within of = tt
   of_next (x ∷ xs) client within of = (
     λ is. let on = of.0 is in record {
-      like = record { number = on.like.number; link = on.like.link; salt = on.like.salt; read = on.like.read };
+      like = record { number = on.like.number; link = on.like.link; port = on.like.port; salt = on.like.salt; read = on.like.read };
       least = (let least = on.least in omega (arith, least));
       within = within;
     },
@@ -158,6 +159,7 @@ module _ (setup : Setup) (plan : Plan) where
 
   pub record IsFurther (x y : Client) : Type 0 where
     pub number : y.number ≡ x.number
+    pub port : y.port ≡ x.port
     pub salt : y.salt ≡ x.salt
     pub more : List ℕ
     pub read : y.read ≡ x.read ++ more
@@ -187,6 +189,7 @@ module _ (setup : Setup) (plan : Plan) where
   further_on (x ∷ xs) (y ∷ ys) (z ∷ zs) one on = (
     record {
       number = on.0.like.number ∙ one.0.number;
+      port = on.0.like.port ∙ one.0.port;
       salt = on.0.like.salt ∙ one.0.salt;
       more = one.0.more;
       read = on.0.like.read ∙ one.0.read;
@@ -197,7 +200,7 @@ module _ (setup : Setup) (plan : Plan) where
   )
 
   stays : (x : Client) → IsWithin x → IsFurther x x
-  stays x within = record { number = refl; salt = refl; more = []; read = sym (append-nil x.read); least = omega arith; within = within }
+  stays x within = record { number = refl; port = refl; salt = refl; more = []; read = sym (append-nil x.read); least = omega arith; within = within }
 
   all_stay : (xs : List Client) → Each IsWithin xs → AreFurther xs xs
   all_stay [] all = tt
@@ -220,17 +223,17 @@ module _ (setup : Setup) (plan : Plan) where
 
   further_by : (tale : Tale) (e : Entry) → Each IsWithin tale.clients → AreFurther tale.clients (clients_by setup plan tale e)
   further_by tale (entry.Accepted port link salt) all =
-      one_comes tale.clients (new_client (length tale.clients + 1) link salt) (omega arith) all
+      one_comes tale.clients (new_client (length tale.clients + 1) port link salt) (omega arith) all
   further_by tale (entry.Got link bytes) all =
       either (AreFurther tale.clients) (is_to_server tale link) tale.clients (map (client_hears link bytes) tale.clients) (all_stay tale.clients all)
       (all_move (client_hears link bytes)
       (λ c within. either (IsFurther c) (is_link_id c.link link) (record c { read = c.read ++ bytes }) c
-      (record { number = refl; salt = refl; more = bytes; read = refl; least = omega arith; within = hears_within bytes c within }) (stays c within)) tale.clients all)
+      (record { number = refl; port = refl; salt = refl; more = bytes; read = refl; least = omega arith; within = hears_within bytes c within }) (stays c within)) tale.clients all)
   further_by tale (entry.Wrote link tag bytes) all =
       either (AreFurther tale.clients) (is_to_server tale link) tale.clients (map (client_gets link (length bytes)) tale.clients) (all_stay tale.clients all)
       (all_move (client_gets link (length bytes))
       (λ c within. either (IsFurther c) (is_link_id c.link link) (record c { written = c.written + length bytes }) c
-      (record { number = refl; salt = refl; more = []; read = sym (append-nil c.read); least = omega arith; within = within }) (stays c within)) tale.clients all)
+      (record { number = refl; port = refl; salt = refl; more = []; read = sym (append-nil c.read); least = omega arith; within = within }) (stays c within)) tale.clients all)
   further_by tale _ all = all_stay tale.clients all
 
   pub further_step : (tale : Tale) (e : Entry) → AreNumbered 1 tale.clients → Each IsWithin tale.clients → AreFurther tale.clients (tale_step setup plan tale e).clients
@@ -252,18 +255,17 @@ module _ (terms : Terms) where
   plan_there = plan_in terms
 
   module _ (old new : Tale) where
-    abbrev due_by : (number : ClientNo) → (salt read : List ℕ) → Client → List ℕ
-    due_by number salt read y = due_until (view_of setup_there new).replies plan_there new.moment (record y { number = number; salt = salt; read = read })
+    abbrev due_by : (number : ClientNo) → Port → (salt read : List ℕ) → Client → List ℕ
+    due_by number port salt read y = due_until (view_of setup_there new).replies plan_there new.moment (record y { number = number; port = port; salt = salt; read = read })
 
     until_there : (x y : Client) → IsFurther setup_there plan_there x y → IsWithin setup_there plan_there x → AnswersStay terms old new x
         → IsFront (until_in terms old x) (until_in terms new y)
     until_there x y on within stay =
         let same : until_in terms new y ≡ until_in terms new (record x { read = x.read ++ on.more; taken = y.taken; link = y.link; written = y.written }) =
-        ap (λ n. due_by n y.salt y.read y) on.number ∙ ap (λ s. due_by x.number s y.read y) on.salt ∙ ap (λ r. due_by x.number x.salt r y) on.read in
+        (λ i. due_by (on.number i) (on.port i) (on.salt i) (on.read i) y) in
         let z : Client = record x { link = y.link; written = y.written } in
         let size : length (messages plan_there y) ≡ length (messages plan_there (record z { read = x.read ++ on.more; taken = y.taken })) =
-        ap (λ n. length (messages plan_there (record y { number = n }))) on.number ∙ ap (λ s. length (messages plan_there (record y { number = x.number; salt = s }))) on.salt
-        ∙ ap (λ r. length (messages plan_there (record y { number = x.number; salt = x.salt; read = r }))) on.read in
+        (λ i. length (messages plan_there (record y { number = on.number i; port = on.port i; salt = on.salt i; read = on.read i }))) in
         subst (IsFront (until_in terms old x)) (sym same)
         (until_on plan_there old.moment new.moment (view_of setup_there old).replies (view_of setup_there new).replies z on.more y.taken on.least within
         (subst (λ n. y.taken ≤ n) size on.within) stay)

@@ -185,7 +185,7 @@ module _ (setup : Setup) (plan : Plan) where
         where
           by_entry : (x : Entry) (story : Story) → Are tale.moment story tale.clients → Are tale.moment story (clients_by setup plan tale x)
           by_entry (entry.Accepted port link salt) story is =
-              each-last (λ (x : Client). Goes tale.moment story x.number x.taken) tale.clients (new_client (length tale.clients + 1) link salt) is
+              each-last (λ (x : Client). Goes tale.moment story x.number x.taken) tale.clients (new_client (length tale.clients + 1) port link salt) is
               (record { left = λ none some. absurd (omega (arith, some)); lapsed = λ r routed some lost. absurd (omega (arith, some)) })
           by_entry (entry.Got link bytes) story is =
               either (Are tale.moment story) (is_to_server tale link) tale.clients (map (client_hears link bytes) tale.clients) is

@@ -1,10 +1,8 @@
 -- Last words along a log.
 use Rattle.std.specs.Prelude.{◌≡◌, ◌+◌, ℕ, Bool, true, false, is_none, nat_lt, not, ◌&&◌, All, if◌then◌else◌, length, List, [], ◌∷◌, ◌++◌, Option, Some, None}
-use Rattle.std.specs.Option.{option_map}
 use Rattle.std.proofs.Common.{refl, sym, ap, ◌∙◌, subst, append_assoc, arith}
 use Rattle.std.proofs.lemmas.Bool.{and_from, and_right}
 use Rattle.client_session.specs.Answers.{opening_of}
-use Rattle.client_session.specs.Arrivals.{Arrival, arrival_of}
 use Rattle.client_side.specs.Login.{Waits}
 use Rattle.mx_wire.specs.Log.{Log}
 use Rattle.mx_wire.specs.Moments.{LawfulAfter}
@@ -131,12 +129,12 @@ module _ (fixed : Fixed) (numbered : IsNumbered fixed) (before later : Log) (e :
           let early = some_at fixed before client.number n (ap (λ g. g client.number) (sym (going-same-ends fixed w e).ends) ∙ is) in
           absurd (omega (arith, last, early))
 
-    abbrev away_from : ℕ → Arrival → LastWord
-    away_from from came = record { from = from; place = Alone; payloads = turned_away came.port }
+    abbrev away_from : ℕ → LastWord
+    away_from from = record { from = from; place = Alone; payloads = turned_away }
 
     word_but : (left away : Bool) → Option LastWord
     word_but left away =
-        if left then Some (left_word x) else if away then away_word x client else if must_go x client then None
+        if left then Some (left_word x) else if away then Some (away_word x) else if must_go x client then None
         else if has_too_much x client then Some (says_last x client (buffers_word x.terms x.ending client))
         else if is_refused_now x client && may_say_starved x client then Some (says_last x client out_of_memory) else None
 
@@ -145,23 +143,22 @@ module _ (fixed : Fixed) (numbered : IsNumbered fixed) (before later : Log) (e :
     none-left accepted = and_right (is_refused_now x client) (was_left x client)
         (ap (λ n. nat_lt 0 n && (is_none ((plan_in x.terms).routes (name_of client n)) && is_none (own_at (plan_in x.terms) x.ending.tale.moment (name_of client n)))) (newcomer accepted).taken)
 
-    word-if : is_accepted e client ≡ true → (is_accepted e client && not (served x.terms x.log client)) ≡ true → word_to x client ≡ away_word x client
+    word-if : is_accepted e client ≡ true → (is_accepted e client && not (served x.terms x.log client)) ≡ true → word_to x client ≡ Some (away_word x)
     unfolding word_but
     word-if accepted away = ap (λ b. word_but b (is_turned_away x client)) (none-left accepted) ∙ ap (word_but false) away
 
-    away-told : (came : Arrival) → is_accepted e client ≡ true → arrival_of client.number.0 (before ++ e ∷ []) ≡ Some came → served t (before ++ e ∷ []) client ≡ false
-        → word_to x client ≡ Some (away_from (entry_now x.now) came)
-    away-told came accepted arrived unserved =
+    away-told : is_accepted e client ≡ true → served t (before ++ e ∷ []) client ≡ false → word_to x client ≡ Some (away_word x)
+    away-told accepted unserved =
         let refused : not (served x.terms x.log client) ≡ true = ap not (sym (served-same fixed numbered before e (before ++ e ∷ later) so client looked) ∙ unserved) in
         let away : (is_accepted e client && not (served x.terms x.log client)) ≡ true = and_from (is_accepted e client) (not (served x.terms x.log client)) accepted refused in
-        word-if accepted away ∙ ap (λ l. option_map (away_from (entry_now x.now)) (arrival_of client.number.0 l)) so.entries ∙ ap (option_map (away_from (entry_now x.now))) arrived
+        word-if accepted away
 
     pub words-right : WordRight t (before ++ e ∷ []) there behind e client
     words-right = record {
       may = λ word planned at. word-right fixed numbered before later e client looked alone nothing-asked word planned at;
-      away = λ came accepted arrived unserved.
-          ended.word-so fixed numbered before later e client looked alone (away_from (entry_now x.now) came) (not-ended accepted) (away-told came accepted arrived unserved)
-          ∙ ap (λ n. Some (away_from n came)) (ended.x-entry fixed numbered before later e ∙ sym (ended.entry-so fixed numbered before later e));
+      away = λ accepted unserved.
+          ended.word-so fixed numbered before later e client looked alone (away_word x) (not-ended accepted) (away-told accepted unserved)
+          ∙ ap (λ n. Some (away_from n)) (ended.x-entry fixed numbered before later e ∙ sym (ended.entry-so fixed numbered before later e));
       must = much-ends fixed numbered before later e client looked alone;
     }
 

@@ -318,7 +318,7 @@ module _ (setup : Setup) (plan : Plan) where
         (by_entry e (told setup plan tale e).story (entry_keeps setup plan (λ story. AreLast tale.moment story tale.clients) (more tale.moment tale.clients) tale e are))
       where
         by_entry : (e : Entry) (story : Story) → AreLast tale.moment story tale.clients → AreLast tale.moment story (clients_by setup plan tale e)
-        by_entry (entry.Accepted port link salt) story is = one_comes tale.moment story tale.clients (new_client (length tale.clients + 1) link salt) refl refl is
+        by_entry (entry.Accepted port link salt) story is = one_comes tale.moment story tale.clients (new_client (length tale.clients + 1) port link salt) refl refl is
         by_entry (entry.Got link bytes) story is =
             either (AreLast tale.moment story) (is_to_server tale link) tale.clients (map (client_hears link bytes) tale.clients) is
             (moves tale.moment story (client_hears link bytes) (hears_stays link bytes) tale.clients is)

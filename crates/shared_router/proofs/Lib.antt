@@ -28,6 +28,8 @@ pub mod Accounts
 pub mod Opening
 pub mod Seated
 pub mod Users
+pub mod Allowed
+pub mod Ported
 pub mod Growing
 pub mod Fitting
 pub mod Spelling

@@ -1,6 +1,7 @@
 -- What goes to a server is copied nowhere.
 use Rattle.std.specs.Prelude.{◌≡◌, ℕ, Bool, true, false, if◌then◌else◌, List, Option, Some, None}
 use Rattle.std.proofs.Common.{refl, sym, ap, ◌∙◌}
+use Rattle.mx_base.specs.declared.names.{Port.Port, Port.TheVariants.Admin, Port.TheVariants.Traffic}
 use Rattle.hostgroups.specs.declared.server.Server.{Server}
 use Rattle.packet_frame.specs.Packets.{Framed}
 use Rattle.pin_classifier.specs.declared.class.Class.{Class}
@@ -21,7 +22,7 @@ use Rattle.router_promises.specs.Takings.{Taking, ordinal_of}
 use Rattle.router_promises.specs.Terms.{Terms, plan_in, setup_in}
 use Rattle.router_promises.specs.Verdicts.{Asks, Chooses, Executes, Goes, Kind, Lists, Malformed, Parts, Pings, Prepares, Quits, ResetsStatement, Restarts, Silent, Tells, Unknown, Unprepared, Verdict, Wanted}
 use Rattle.router_promises.specs.Verdicts.{connection_id, has_nowhere, held_in, is_connection_id, kind_in, pass_of, ruled, sent_unless, tells_one, unless_gone}
-use Rattle.router_promises.specs.Verdicts.{unless_refused, verdict_by}
+use Rattle.router_promises.specs.Verdicts.{unless_refused, verdict_at, verdict_by}
 use Rattle.shared_router.specs.Fixed.{Fixed}
 use Rattle.shared_router.specs.More.{More, terms_of}
 use Rattle.shared_router.specs.Shared.{goes_by, judged_by, route_by, starves_now}
@@ -79,6 +80,11 @@ module _ (terms : Terms) (servers : List Server) (taking : Taking) where
   kind_lone flag Malformed = tt
   kind_lone flag Unknown = tt
 
+  verdict_lone : (port : Port) (flag : ℕ) (kind : Kind) → IsLone (verdict_at port terms servers flag taking kind)
+  verdict_lone Traffic flag kind = kind_lone flag kind
+  verdict_lone Admin flag Quits = tt
+  verdict_lone Admin flag _ = tt
+
 no_some : {A B : Type 0} (a : A) → None ≡ Some a → B
 no_some a is = absurd (cc)
 
@@ -97,5 +103,5 @@ route_lone fixed w client message r is = by_test (starves_now fixed w client) is
   by_test true is = no_some r is
   by_test false is =
       by_verdict (judged_by fixed w client message)
-      (kind_lone (terms_of fixed w) w.more.servers (record { client = client; message = message; tale = w.tale }) (w.more.flags client.number)
+      (verdict_lone (terms_of fixed w) w.more.servers (record { client = client; message = message; tale = w.tale }) client.port (w.more.flags client.number)
       (kind_in (terms_of fixed w) (record { client = client; message = message; tale = w.tale }))) is

@@ -36,6 +36,7 @@ use Rattle.shared_router.specs.Shared.{shared, world_at}
 use Rattle.shared_router.proofs.Parting as parting
 use Rattle.shared_router.proofs.Parting.{next}
 use Rattle.shared_router.proofs.Since.{heard-closed}
+use Rattle.mx_base.specs.declared.names.Port.{Port}
 
 -- P of each, by recursion
 
@@ -80,8 +81,8 @@ are-more : (old new : Decided) → IsMore old new → (xs : List Client) → Are
 are-more old new more xs looked = each-so (IsLooked old) (IsLooked new) xs (looked-more old new more) looked
 
 -- who is new has asked nothing
-new-looked : (d : Decided) (number : ℕ) (link : LinkId) (salt : List ℕ) → IsLooked d (new_client number link salt)
-new-looked d number link salt = record {
+new-looked : (d : Decided) (number : ℕ) (port : Port) (link : LinkId) (salt : List ℕ) → IsLooked d (new_client number port link salt)
+new-looked d number port link salt = record {
   own = λ i below. absurd (omega (arith, below));
   routes = λ i below. absurd (omega (arith, below));
 }
@@ -107,7 +108,7 @@ lost-clients link tale false = leaves-clients link tale.clients tale
 
 -- a fact of the clients of a tale that new ones, bytes of them and bytes to them keep
 pub record Seats (Comes : LinkId → Type 0) (P : List Client → Type 0) : Type 0 where
-  pub comes : (cs : List Client) (link : LinkId) (salt : List ℕ) → Comes link → P cs → P (cs ++ new_client (length cs + 1) link salt ∷ [])
+  pub comes : (cs : List Client) (port : Port) (link : LinkId) (salt : List ℕ) → Comes link → P cs → P (cs ++ new_client (length cs + 1) port link salt ∷ [])
   pub hears : (cs : List Client) (link : LinkId) (bytes : List ℕ) → P cs → P (map (client_hears link bytes) cs)
   pub gets : (cs : List Client) (link : LinkId) (count : ℕ) → P cs → P (map (client_gets link count) cs)
 
@@ -135,7 +136,7 @@ module _ (Comes : LinkId → Type 0) (P : List Client → Type 0) (seats : Seats
   wrote-told tale link for bytes false holds = seats.gets tale.clients link (length bytes) holds
 
   pub told-seats : (tale : Tale) (e : Entry) → IfComes Comes e → P tale.clients → P (told setup p tale e).clients
-  told-seats tale (entry.Accepted port link salt) comes holds = seats.comes tale.clients link salt comes holds
+  told-seats tale (entry.Accepted port link salt) comes holds = seats.comes tale.clients port link salt comes holds
   told-seats tale (entry.Got link bytes) comes holds = got-told tale link bytes (is_to_server tale link) holds
   told-seats tale (entry.Wrote link for bytes) comes holds = wrote-told tale link for bytes (is_to_server tale link) holds
   told-seats tale (entry.Exec link) comes holds =
@@ -156,7 +157,7 @@ got-looked d link count client looked =
 
 looked-seats : (d : Decided) → Seats anybody (AreLooked d)
 looked-seats d = record {
-  comes = λ cs link salt comes all. each-last (IsLooked d) cs (new_client (length cs + 1) link salt) all (new-looked d (length cs + 1) link salt);
+  comes = λ cs port link salt comes all. each-last (IsLooked d) cs (new_client (length cs + 1) port link salt) all (new-looked d (length cs + 1) port link salt);
   hears = λ cs link bytes all. each-map (IsLooked d) (IsLooked d) (client_hears link bytes) cs (heard-looked d link bytes) all;
   gets = λ cs link count all. each-map (IsLooked d) (IsLooked d) (client_gets link count) cs (got-looked d link count) all;
 }

@@ -121,7 +121,7 @@ module _ (fixed : Fixed) (numbered : IsNumbered fixed) (before later : Log) (e :
     not-served is =
         let both = and_parts (not (served k.terms before client)) (was_tried k client.link) is in
         NotServed (ap (λ service. option_map_or (is_served service) (arrival_of client.number.0 before) false) agrees.service
-        ∙ not-true (served k.terms before client) both.0) (inl both.1)
+        ∙ not-true (served k.terms before client) both.0) both.1
 
     was-unheard : is_unheard k.terms before client ≡ true → MayPart t before here client
     was-unheard is = Unheard (ap (λ o. unheard_by o) ends-kept ∙ is) where

@@ -320,7 +320,7 @@ module _ (fixed : Fixed) where
 
     comes : (x : Entry) → Comes setup (plan_of d) (holding setup (suc n) d) w.tale x
     comes (entry.Accepted port link salt) =
-        let one : Client = new_client (length w.tale.clients + 1) link salt in
+        let one : Client = new_client (length w.tale.clients + 1) port link salt in
         record {
           tabled = tabled_moves d w.tale.clients (w.tale.clients ++ one ∷ []) (λ m was. old_comes m w.tale.clients (one ∷ []) was) start.tabled;
           decided = start.decided;
@@ -357,7 +357,7 @@ module _ (fixed : Fixed) where
   old_told : (w : World More) (e : Entry) (m : MessageName) → IsOld w.tale.clients m → IsOld (is_told setup by w e).tale.clients m
   old_told w e m was = entry_keeps setup (plan_of (decided_told setup by w e)) (old_keeping m) w.tale e (comes e) (says e) was where
     comes : (x : Entry) → Comes setup (plan_of (decided_told setup by w e)) (old_keeping m) w.tale x
-    comes (entry.Accepted port link salt) = old_comes m w.tale.clients (new_client (length w.tale.clients + 1) link salt ∷ []) was
+    comes (entry.Accepted port link salt) = old_comes m w.tale.clients (new_client (length w.tale.clients + 1) port link salt ∷ []) was
     comes _ = tt
 
     says : (x : Entry) → Says setup (plan_of (decided_told setup by w e)) (old_keeping m) w.tale x

@@ -3,6 +3,7 @@ use Rattle.std.specs.Prelude.{◌≡◌, ◌≤◌, ◌⊎◌, ℕ, suc, Bool, t
 use Rattle.std.specs.List.{list_any}
 use Rattle.std.proofs.Common.{refl, sym, ap, ◌∙◌, subst, append_assoc, arith, inl, inr}
 use Rattle.std.proofs.lemmas.Bool.{and_from, eq-eqb, lt-ltb, ltb-false, or_left, or_right}
+use Rattle.mx_base.specs.declared.names.{Port.Port, Port.TheVariants.Admin, Port.TheVariants.Traffic}
 use Rattle.hostgroups.specs.declared.server.Server.{Server}
 use Rattle.mx_wire.specs.Log.{Log}
 use Rattle.mx_wire.specs.Moments.{LawfulAfter}
@@ -33,7 +34,7 @@ use Rattle.router_promises.specs.Takings.{Taking, as_told, message_in, ordinal_o
 use Rattle.router_promises.specs.Terms.{Terms, plan_in, setup_in}
 use Rattle.router_promises.specs.Verdicts.{Asks, Chooses, Executes, Goes, Kind, Lists, Malformed, Parts, Pings, Prepares, Quits, ResetsStatement, Restarts, Silent, Tells, Unknown, Unprepared, Verdict, Wanted}
 use Rattle.router_promises.specs.Verdicts.{connection_id, has_nowhere, held_in, is_connection_id, kind_in, pass_of, ruled, sent_unless, tells_one, unless_gone}
-use Rattle.router_promises.specs.Verdicts.{unless_refused, verdict, verdict_by}
+use Rattle.router_promises.specs.Verdicts.{unless_refused, verdict, verdict_at, verdict_by}
 use Rattle.shared_router.specs.Ends.{Ending, ending_of, goes, has_too_much, is_refused_now, is_starved, must_go, was_left}
 use Rattle.shared_router.specs.Fixed.{Fixed, IsNumbered, setup_of}
 use Rattle.shared_router.specs.Judged.{AreJudged, IsJudged, IsMet, JudgedSo}
@@ -105,6 +106,11 @@ module _ (terms : Terms) (servers : List Server) (taking : Taking) where
   kind-parts flag (Unprepared number) = tt
   kind-parts flag Malformed = tt
   kind-parts flag Unknown = tt
+
+  verdict-parts : (port : Port) (flag : ℕ) (kind : Kind) → PartsFor (is_quit kind) (verdict_at port terms servers flag taking kind)
+  verdict-parts Traffic flag kind = kind-parts flag kind
+  verdict-parts Admin flag Quits = refl
+  verdict-parts Admin flag _ = tt
 
 -- what is found in a list has what each there has
 each-found : {A : Type 0} (Q : A → Type 0) (test : A → Bool) (xs : List A) (y : A) → Each Q xs → find test xs ≡ Some y → Q y
@@ -294,7 +300,7 @@ module _ (fixed : Fixed) (numbered : IsNumbered fixed) (before later : Log) (e :
     row-so [] flags inside of judged = tt
     row-so (taking ∷ row) flags inside of judged = (
       met-so taking row (verdict t servers (flags taking.client.number) taking) (fixed.starves taking.tale.moment taking.client.number) refl inside of.0
-          (kind-parts t servers taking (flags taking.client.number) (kind_in t taking)) judged.0,
+          (verdict-parts t servers taking taking.client.port (flags taking.client.number) (kind_in t taking)) judged.0,
       row-so row (flag_taken t flags taking) (λ test any. inside test (any-later test taking row any)) of.1 judged.1,
     )
 

@@ -7,7 +7,7 @@ use Rattle.std.proofs.Common.{refl, sym, ap, ◌∙◌, subst, append-nil, arith
 use Rattle.std.proofs.lemmas.Bool.{le-leb, leb-false, leb-true}
 use Rattle.std.proofs.lemmas.List.{length-take}
 use Rattle.client_session.specs.Answers.{Talk, commands_in, fault_answer, front, front_in, greeted, messages_of, opening_of}
-use Rattle.client_side.specs.Login.{Opening, Waits, switched_of}
+use Rattle.client_side.specs.Login.{Waits, switched_of}
 use Rattle.mx_wire.specs.Log.{Log}
 use Rattle.mx_wire.specs.Tells.{Fits}
 use Rattle.mx_wire.specs.declared.entry.Entry.{Entry}
@@ -140,7 +140,7 @@ module _ (plan : Plan) (moment : ℕ) (replies : MessageName → Option Reply) (
 -- of whom a word is said as it is accepted, isn't one that was there
 pub not_turned : (terms : Terms) (log : Log) (there ending : Now) (e : Entry) (client : Client) (place : WordPlace) (payloads : List (List ℕ))
     → (is_accepted e client ≡ true → ⊥) → WordFor terms log there ending e client place payloads → place ≡ Alone → ⊥
-not_turned terms log there ending e client place payloads apart (TurnedAway came accepted arrived unserved) is = apart accepted
+not_turned terms log there ending e client place payloads apart (TurnedAway accepted unserved) is = apart accepted
 not_turned terms log there ending e client place payloads apart (NoMemory at behind here) is = absurd (isnt (sym behind ∙ ap is_alone is))
 not_turned terms log there ending e client place payloads apart (Left left) is = absurd (cc (is))
 not_turned terms log there ending e client place payloads apart (TooMuch at behind much) is = absurd (isnt (sym behind ∙ ap is_alone is))

@@ -1,10 +1,11 @@
 -- Executes read as they are spelt at each moment of a log of ours: what becomes due was judged whole, and what servers tell are bytes.
-use Rattle.std.specs.Prelude.{◌≡◌, ◌<◌, ◌≤◌, ◌+◌, ◌*◌, ◌-◌, ℕ, zero, suc, Bool, true, false, ◌&&◌, ◌||◌, not, drop, is_some, length, nat_eq, nat_le, slice_get, slice_index_or, take, if◌then◌else◌, unwrap_or, List, [], ◌∷◌, ◌++◌, Option, Some, None}
-use Rattle.std.specs.Option.{option_and_then, option_map, option_map_or, option_or}
+use Rattle.std.specs.Prelude.{◌≡◌, ◌<◌, ◌≤◌, ◌+◌, ◌*◌, ◌-◌, ℕ, suc, Bool, true, false, ◌&&◌, ◌||◌, not, drop, is_some, length, nat_eq, nat_le, slice_get, slice_index_or, take, if◌then◌else◌, unwrap_or, List, [], ◌∷◌, ◌++◌, Option, Some, None}
+use Rattle.std.specs.Option.{option_and_then, option_map, option_or}
 use Rattle.std.proofs.Common.{refl, sym, ap, ◌∙◌, subst, append_assoc, append-nil, arith, length-append, take-append-drop}
 use Rattle.std.proofs.lemmas.Bool.{and_parts, ne_eqb}
 use Rattle.hostgroups.specs.declared.server.Server.{Server}
 use Rattle.mx_base.specs.Fields.{number_at}
+use Rattle.mx_base.specs.declared.names.Port.{Port}
 use Rattle.mx_wire.specs.Log.{Log}
 use Rattle.mx_wire.specs.Moments.{AtEachMoment, LawfulAfter, lawful-more}
 use Rattle.mx_wire.specs.Tells.{Fits}
@@ -12,27 +13,24 @@ use Rattle.mx_wire.specs.declared.entry.Entry.{Entry}
 use Rattle.mx_wire.specs.declared.entry.Entry.TheVariants as entry
 use Rattle.packet_frame.specs.Packets.{Framed}
 use Rattle.private_model.proofs.Maps.{number_of}
-use Rattle.private_model.specs.Commands.{Command, FieldList, InitDb, Prepare, Query, Reply, Run, end_of, is_made}
+use Rattle.private_model.specs.Commands.{Command, FieldList, InitDb, Prepare, Query, Reply, end_of, is_made}
 use Rattle.private_model.specs.Lawful.{IsLawful}
 use Rattle.private_model.specs.Names.{ClientNo, MessageName}
 use Rattle.private_model.specs.View.{Setup, View}
 use Rattle.log_story.specs.Executes.{Prepared, Request, args_in, executed_by, prepared_by, prepared_in, requested, run_of, text_asked}
 use Rattle.log_story.specs.Owed.{messages, name_of}
 use Rattle.log_story.specs.Plan.{Plan, Route, com_execute, com_field_list, com_init_db, com_prepare, com_query}
-use Rattle.log_story.specs.Tale.{Client, Tale, first_tale, view_of}
-use Rattle.log_story.specs.Telling.{tale_step, told}
-use Rattle.tale_world.specs.Decided.{plan_of}
-use Rattle.tale_world.specs.Deciding.{World}
+use Rattle.log_story.specs.Tale.{Client, Tale, view_of}
+use Rattle.log_story.specs.Telling.{tale_step}
 use Rattle.router_promises.proofs.Saying.{now-tale}
-use Rattle.router_promises.specs.Now.{flag_taken, now_at, takings_now}
+use Rattle.router_promises.specs.Now.{flag_taken, now_at}
 use Rattle.router_promises.specs.Running.{servers_after}
 use Rattle.router_promises.specs.Statements.{are_types, execute_size, is_live, is_whole_execute, known_statement}
 use Rattle.router_promises.specs.Takings.{Taking, as_told, message_in, ordinal_of, takings_at}
 use Rattle.router_promises.specs.Terms.{Terms, plan_in, setup_in, tale_at}
-use Rattle.router_promises.specs.Verdicts.{Executes, Malformed, Unprepared, executed, kind_in, kind_of, verdict, verdict_by, with_number}
-use Rattle.shared_router.specs.Fixed.{Fixed, IsNumbered, setup_of}
+use Rattle.router_promises.specs.Verdicts.{Executes, Malformed, Unprepared, executed, kind_in, kind_of, verdict, verdict_at, verdict_by, with_number}
+use Rattle.shared_router.specs.Fixed.{Fixed, IsNumbered}
 use Rattle.shared_router.specs.Judged.{AreJudged, IsJudged, IsMet, JudgedSo}
-use Rattle.shared_router.specs.More.{More}
 use Rattle.shared_router.specs.Ours.{IsOurLog, IsOurs}
 use Rattle.shared_router.specs.Shared.{final_terms, world_at}
 use Rattle.shared_router.specs.Spelt.{RunsReadSo}
@@ -44,6 +42,7 @@ use Rattle.run_laws.specs.Wholes.{AreWhole}
 use Rattle.shared_router.proofs.Furthering.{tale_more}
 use Rattle.shared_router.proofs.Looked.{Each}
 use Rattle.shared_router.proofs.Owing.{owes_at}
+use Rattle.shared_router.proofs.Ported.{is_traffic}
 use Rattle.shared_router.proofs.Plain.{IsPlain, plain_of}
 use Rattle.shared_router.proofs.Prompting.{prompts_kept}
 use Rattle.run_laws.proofs.Readable.{all_replies, readable}
@@ -166,7 +165,18 @@ module _ (fixed : Fixed) (numbered : IsNumbered fixed) (log : Log) (our : IsOurL
   judged_all : LawfulAfter (JudgedSo fixed.starves t) [] log
   judged_all = routes_kept fixed numbered log (prompts_kept fixed log (let few : length log < 281474976710656 = our.bounded in omega (arith, few)) our.ours our.fits)
 
-  plain : (client : Client) (ordinal : ℕ) → IsPlain (last.routes (name_of client ordinal))
+  -- what is taken up at an entry is judged, by the servers and flags of then
+  pub judged_at : (before later : Log) (e : Entry) → before ++ e ∷ later ≡ log
+      → (servers : List Server) × (flags : ClientNo → ℕ) × AreJudged fixed.starves t servers flags (takings_at setup last (tale_at t before) e)
+  judged_at before later e is =
+      let servers : List Server = servers_after t (now_at t before).clock (now_at t before).tale e (now_at t before).servers in (
+        servers,
+        (now_at t before).flags,
+        subst (λ (x : Tale). AreJudged fixed.starves t servers (now_at t before).flags (takings_at setup last x e)) (now-tale t before)
+            (lawful_there (JudgedSo fixed.starves t) before later log e is judged_all),
+      )
+
+  pub plain : (client : Client) (ordinal : ℕ) → IsPlain (last.routes (name_of client ordinal))
   plain client ordinal = plain_of ((world_at fixed log).decided.routes (name_of client ordinal)) ((owes_at fixed log).plain (name_of client ordinal))
 
   -- A message that goes to a server and is judged has its arguments, where it isn't too long.
@@ -187,6 +197,11 @@ module _ (fixed : Fixed) (numbered : IsNumbered fixed) (log : Log) (our : IsOurL
       abbrev payload : List ℕ
       payload = taking.message.payload
 
+      traffic : IsJudged t taking (verdict_by t servers flag taking (kind_in t taking))
+      traffic =
+          subst (λ (port : Port). IsJudged t taking (verdict_at port t servers flag taking (kind_in t taking)))
+          (is_traffic t servers flag taking route goes false judged) judged
+
       light : weight (messages last whom) ≤ 18446744073709551616
       light = (let less = messages_weight last whom in omega (arith, less, read, bounded))
 
@@ -198,7 +213,7 @@ module _ (fixed : Fixed) (numbered : IsNumbered fixed) (log : Log) (our : IsOurL
           let before : List Framed = take (ordinal_of taking - 1) (messages last whom) in
           let few : prepared.params < 65536 = few_params there last whom number 1 (messages last whom) (all_replies setup taking.tale.story tells.heard) prepared found in
           let kind = kind_there t servers flag taking route goes payload number byte at in
-          let whole = whole_so t servers flag taking route goes number payload prepared found (subst (λ k. IsJudged t taking (verdict_by t servers flag taking k)) kind judged) in
+          let whole = whole_so t servers flag taking route goes number payload prepared found (subst (λ k. IsJudged t taking (verdict_by t servers flag taking k)) kind traffic) in
           let both = and_parts (nat_le (execute_size prepared.params payload) (length payload)) _ whole in
           let dropped = weight_drop prepared.ordinal before in
           let taken = weight_take (ordinal_of taking - 1) (messages last whom) in
@@ -278,15 +293,12 @@ module _ (fixed : Fixed) (numbered : IsNumbered fixed) (log : Log) (our : IsOurL
       let size : length before + length (e ∷ later) ≡ length log = sym (length-append before (e ∷ later)) ∙ ap (λ (l : Log). length l) at.is in
       let few : length log < 281474976710656 = our.bounded in
       let bounded : 65536 * suc entries ≤ 18446744073709551616 = omega (arith, size, few, count) in
-      let here : (now_at t before).tale ≡ old = now-tale t before in
-      let judged : AreJudged fixed.starves t (servers_after t (now_at t before).clock (now_at t before).tale e (now_at t before).servers) (now_at t before).flags (takings_at setup last old e) =
-      subst (λ (x : Tale). AreJudged fixed.starves t (servers_after t (now_at t before).clock (now_at t before).tale e (now_at t before).servers) (now_at t before).flags (takings_at setup last x e)) here
-      (lawful_there (JudgedSo fixed.starves t) before later log e at.is judged_all) in
+      let judged = judged_at before later e at.is in
       subst (IsRead (suc entries)) (sym (tale_more t before e)) (record {
         tells = step_tells setup last old e gets is.tells;
         became = step_became setup last HasItsArgs TellsBytes (keeps setup last) (IsReadIn (suc entries)) (λ client read. read) plain old e
             (told_tells setup last old e gets is.tells)
-            (good_all (suc entries) bounded (servers_after t (now_at t before).clock (now_at t before).tale e (now_at t before).servers) (now_at t before).flags (takings_at setup last old e) judged)
+            (good_all (suc entries) bounded judged.0 judged.1 (takings_at setup last old e) judged.2)
             (subst (Each (IsReadIn (suc entries))) (sym clients) told_read) is.became;
         numbers = numbered_step setup last old e is.numbers;
         read = read_like (suc entries) (clients_by setup last old e) new.clients

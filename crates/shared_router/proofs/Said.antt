@@ -1,11 +1,10 @@
 -- Last words are what they should be, and who keeps too much is ended.
 use Rattle.std.specs.Prelude.{◌≡◌, ◌+◌, ◌≤◌, ℕ, suc, Bool, true, false, not, ◌&&◌, ◌||◌, fold, length, nat_lt, sum_by, if◌then◌else◌, List, [], ◌∷◌, ◌++◌, Option, Some, None}
-use Rattle.std.specs.Option.{option_and_then, option_map}
+use Rattle.std.specs.Option.{option_and_then}
 use Rattle.std.proofs.Common.{refl, sym, ap, ◌∙◌, subst, arith, inl, inr}
 use Rattle.std.proofs.lemmas.Bool.{and_from, and_parts, le-leb, lt-ltb, not-true, or_left, or_right}
 use Rattle.std.proofs.lemmas.List.Sums.{sum_by-cons}
 use Rattle.client_session.specs.Answers.{opening_of}
-use Rattle.client_session.specs.Arrivals.{Arrival, arrival_of}
 use Rattle.client_side.specs.Login.{Fails, Opening, Says, Waits}
 use Rattle.mx_wire.specs.Log.{Log}
 use Rattle.mx_wire.specs.declared.entry.Entry.{Entry}
@@ -21,7 +20,7 @@ use Rattle.tale_world.specs.Deciding.{Deciding, World}
 use Rattle.tale_world.specs.World.{ended_now, is_ended}
 use Rattle.tale_world.proofs.Agreeing.{same_before}
 use Rattle.tale_world.proofs.Following.{going_even, step_even}
-use Rattle.router_promises.specs.Due.{served, turned_away}
+use Rattle.router_promises.specs.Due.{served}
 use Rattle.router_promises.specs.Ends.{IsLastWord, Left, NoMemory, TooMuch, TurnedAway, WordFor, buffers_word, comes_from, is_accepted, is_alone, is_at, is_left, is_measured, is_refused, is_refused_by, is_too_much, kept, kept_bytes, kept_in_all, loses_client, was_answered}
 use Rattle.router_promises.specs.Errors.{buffers_full, out_of_memory}
 use Rattle.router_promises.specs.Now as now
@@ -229,20 +228,15 @@ module _ (fixed : Fixed) (numbered : IsNumbered fixed) (before later : Log) (e :
       pub why : WordFor t (before ++ e ∷ []) there ending e client word.place word.payloads
 
     -- it was turned away
-    away-why : is_turned_away x client ≡ true → was_answered t ending client ≡ true → (word : LastWord) → away_word x client ≡ Some word → IsWhy word
-    away-why away answered word is = by_came (arrival_of client.number.0 x.log) refl is where
-      parts : (is_accepted e client ≡ true) × (not (served x.terms x.log client) ≡ true)
-      parts = and_parts (is_accepted e client) (not (served x.terms x.log client)) away
-
-      by_came : (came : Option Arrival) → arrival_of client.number.0 x.log ≡ came
-          → option_map (λ (came : Arrival). record { from = entry_now x.now; place = Alone; payloads = turned_away came.port }) came ≡ Some word → IsWhy word
-      by_came None at so_is = none-said word so_is
-      by_came (Some came) at so_is =
-          subst IsWhy (some-same _ word so_is) (record {
-            answered = or_left (was_answered t ending client) _ answered;
-            why = TurnedAway came parts.0 (ap (arrival_of client.number.0) (sym so.entries) ∙ at)
-                (served-same fixed numbered before e log so client looked ∙ not-true (served x.terms x.log client) parts.1);
-          })
+    away-why : is_turned_away x client ≡ true → was_answered t ending client ≡ true → (word : LastWord) → Some (away_word x) ≡ Some word → IsWhy word
+    away-why away answered word is =
+        subst IsWhy (some-same _ word is) (record {
+          answered = or_left (was_answered t ending client) _ answered;
+          why = TurnedAway parts.0 (served-same fixed numbered before e log so client looked ∙ not-true (served x.terms x.log client) parts.1);
+        })
+      where
+        parts : (is_accepted e client ≡ true) × (not (served x.terms x.log client) ≡ true)
+        parts = and_parts (is_accepted e client) (not (served x.terms x.log client)) away
 
     much-why : has_too_much x client ≡ true → (word : LastWord) → Some (says_last x client (buffers_word x.terms x.ending client)) ≡ Some word → IsWhy word
     much-why much word is =
@@ -276,7 +270,7 @@ module _ (fixed : Fixed) (numbered : IsNumbered fixed) (before later : Log) (e :
       where
         by_tests : (left away must much starved : Bool) → (is_refused_now x client && was_left x client) ≡ left → is_turned_away x client ≡ away → has_too_much x client ≡ much
             → (is_refused_now x client && may_say_starved x client) ≡ starved
-            → (if left then Some (left_word x) else if away then away_word x client else if must then None
+            → (if left then Some (left_word x) else if away then Some (away_word x) else if must then None
             else if much then Some (says_last x client (buffers_word x.terms x.ending client)) else if starved then Some (says_last x client out_of_memory) else None) ≡ Some word → IsWhy word
         by_tests true away must much starved l a h s so_is = left-why l word so_is
         by_tests false true must much starved l a h s so_is = away-why a (idle (and_parts (is_accepted e client) (not (served x.terms x.log client)) a).0) word so_is
@@ -312,18 +306,12 @@ module _ (fixed : Fixed) (numbered : IsNumbered fixed) (before later : Log) (e :
         says : (payload : List ℕ) → must_go x client ≡ false → Some (says_last x client payload) ≡ Some word → (switched : Bool) × (opening_of (talk_of plan client) ≡ Waits switched)
         says payload stays is = login-there stays (ap (λ (w : LastWord). w.place) (some-same (says_last x client payload) word is) ∙ place)
 
-        away : (came : Option Arrival) → option_map (λ (came : Arrival). record { from = entry_now x.now; place = Alone; payloads = turned_away came.port }) came ≡ Some word
-            → (switched : Bool) × (opening_of (talk_of plan client) ≡ Waits switched)
-        away None is = none-said word is
-        away (Some came) is =
-            alone-login (ap (λ (w : LastWord). w.place) (some-same (record { from = entry_now x.now; place = Alone; payloads = turned_away came.port }) word is) ∙ place)
-
         by_tests : (left away_now must much starved : Bool) → must_go x client ≡ must
-            → (if left then Some (left_word x) else if away_now then away_word x client else if must then None
+            → (if left then Some (left_word x) else if away_now then Some (away_word x) else if must then None
             else if much then Some (says_last x client (buffers_word x.terms x.ending client)) else if starved then Some (says_last x client out_of_memory) else None) ≡ Some word
             → (switched : Bool) × (opening_of (talk_of plan client) ≡ Waits switched)
         by_tests true away_now must much starved m is = behind-login (ap (λ (w : LastWord). w.place) (some-same (left_word x) word is) ∙ place)
-        by_tests false true must much starved m is = away (arrival_of client.number.0 x.log) is
+        by_tests false true must much starved m is = alone-login (ap (λ (w : LastWord). w.place) (some-same (away_word x) word is) ∙ place)
         by_tests false false true much starved m is = none-said word is
         by_tests false false false true starved m is = says (buffers_word x.terms x.ending client) m is
         by_tests false false false false true m is = says out_of_memory m is

@@ -1,4 +1,4 @@
--- Behind an entry a tale has the clients that it had, with what was read of them, and one that came; and whose messages became due.
+-- Behind an entry a tale has the clients that it had, with what was read of them, and one that came.
 use Rattle.std.specs.Prelude.{◌≡◌, ◌+◌, ◌≤◌, ◌<◌, ℕ, zero, suc, Bool, true, false, ◌&&◌, ◌||◌, not, fold, length, map, nat_eq, if◌then◌else◌, slice_get, slice_index_or, List, [], ◌∷◌, ◌++◌, Option, Some, None}
 use Rattle.std.specs.Option.{option_map_or}
 use Rattle.std.proofs.Common.{refl, sym, ap, ◌∙◌, subst, inl, inr, arith}
@@ -9,7 +9,7 @@ use Rattle.packet_frame.specs.Packets.{Framed}
 use Rattle.private_model.proofs.Maps.{client_of}
 use Rattle.private_model.specs.Commands.{Command}
 use Rattle.private_model.specs.Names.{ClientNo, Hostgroup, MessageName}
-use Rattle.private_model.specs.Story.{BecameDue, Dropped, Freed, Gone, Left, Ran, is_client, is_link_id}
+use Rattle.private_model.specs.Story.{Dropped, Freed, Gone, Left, Ran, is_client, is_link_id}
 use Rattle.private_model.specs.View.{Setup, View}
 use Rattle.log_story.proofs.Moving.{says-moved, writes-moved}
 use Rattle.log_story.specs.Clients.{client_goes_on, client_leaves, clients_are_ended, clients_go_on, copied, due_by, ended_if_now, is_event_of, is_up, next_taken, taken_by, taken_up}
@@ -19,10 +19,8 @@ use Rattle.log_story.specs.Plan.{Plan, Route, com_reset, gives_up, is_before, is
 use Rattle.log_story.specs.Servers.{freed_if_done, is_done, links_are_freed, writes}
 use Rattle.log_story.specs.Tale.{Client, Tale, client_gets, client_hears, counted, is_to_server, link_in, new_client, tell, view_of, with_client}
 use Rattle.log_story.specs.Telling.{is_lost_or_left, server_says, tale_step, told}
-use Rattle.shared_router.proofs.Dues.{AllDue, either, other_due}
+use Rattle.shared_router.proofs.Dues.{either}
 use Rattle.shared_router.proofs.Numbered.{AreNumbered, IsIn, numbered_comes, numbered_moves}
-use Rattle.shared_router.proofs.Others.{entry_keeps}
-use Rattle.shared_router.proofs.Plain.{IsPlain}
 use Rattle.shared_router.proofs.Walks.{gets_stays, hears_stays}
 
 -- The same client, which may have taken up more.
@@ -30,6 +28,7 @@ use Rattle.shared_router.proofs.Walks.{gets_stays, hears_stays}
 pub record IsLike (x y : Client) : Type 0 where
   pub number : y.number ≡ x.number
   pub link : y.link ≡ x.link
+  pub port : y.port ≡ x.port
   pub salt : y.salt ≡ x.salt
   pub read : y.read ≡ x.read
 
@@ -41,7 +40,7 @@ AreLike (x ∷ xs) (y ∷ ys) = IsLike x y × AreLike xs ys
 
 pub like_itself : (xs : List Client) → AreLike xs xs
 like_itself [] = tt
-like_itself (x ∷ xs) = (record { number = refl; link = refl; salt = refl; read = refl }, like_itself xs)
+like_itself (x ∷ xs) = (record { number = refl; link = refl; port = refl; salt = refl; read = refl }, like_itself xs)
 
 pub like_numbered : (from : ℕ) (xs ys : List Client) → AreLike xs ys → AreNumbered from xs → AreNumbered from ys
 like_numbered from [] [] like are = tt
@@ -56,7 +55,7 @@ IsOf (x ∷ xs) client = (is_client x.number client.number ≡ true → IsLike x
 
 of_next : (xs : List Client) (client : Client) → IsOf xs client → IsOf xs (record client { taken = suc client.taken })
 of_next [] client of = tt
-of_next (x ∷ xs) client of = (λ is. record { number = (of.0 is).number; link = (of.0 is).link; salt = (of.0 is).salt; read = (of.0 is).read }, of_next xs client of.1)
+of_next (x ∷ xs) client of = (λ is. record { number = (of.0 is).number; link = (of.0 is).link; port = (of.0 is).port; salt = (of.0 is).salt; read = (of.0 is).read }, of_next xs client of.1)
 
 of_later : (from : ℕ) (xs : List Client) (y : Client) → AreNumbered from xs → y.number.0 < from → IsOf xs y
 of_later from [] y are less = tt
@@ -73,7 +72,7 @@ number_from from (x ∷ xs) y are (inr there) = let later : suc from ≤ y.numbe
 of_numbered : (from : ℕ) (xs : List Client) (y : Client) → AreNumbered from xs → IsIn y xs → IsOf xs y
 of_numbered from [] y are there = absurd there
 of_numbered from (x ∷ xs) y are (inl same) = (
-  λ is. record { number = ap (λ (c : Client). c.number) same; link = ap (λ (c : Client). c.link) same; salt = ap (λ (c : Client). c.salt) same; read = ap (λ (c : Client). c.read) same },
+  λ is. record { number = ap (λ (c : Client). c.number) same; link = ap (λ (c : Client). c.link) same; port = ap (λ (c : Client). c.port) same; salt = ap (λ (c : Client). c.salt) same; read = ap (λ (c : Client). c.read) same },
   of_later (suc from) xs y are.1 (let is : y.number.0 ≡ from = ap (λ (c : Client). c.number.0) same ∙ are.0 in omega arith),
 )
 of_numbered from (x ∷ xs) y are (inr there) = (
@@ -104,7 +103,7 @@ module _ (setup : Setup) (plan : Plan) where
   -- as an entry is told
 
   abbrev pub clients_by : Tale → Entry → List Client
-  clients_by tale (entry.Accepted port link salt) = tale.clients ++ new_client (length tale.clients + 1) link salt ∷ []
+  clients_by tale (entry.Accepted port link salt) = tale.clients ++ new_client (length tale.clients + 1) port link salt ∷ []
   clients_by tale (entry.Got link bytes) = if is_to_server tale link then tale.clients else map (client_hears link bytes) tale.clients
   clients_by tale (entry.Wrote link tag bytes) = if is_to_server tale link then tale.clients else map (client_gets link (length bytes)) tale.clients
   clients_by tale _ = tale.clients
@@ -142,7 +141,7 @@ module _ (setup : Setup) (plan : Plan) where
   told_clients tale _ = refl
 
   pub numbered_by : (tale : Tale) (e : Entry) → AreNumbered 1 tale.clients → AreNumbered 1 (clients_by tale e)
-  numbered_by tale (entry.Accepted port link salt) are = numbered_comes 1 tale.clients (new_client (length tale.clients + 1) link salt) are (omega arith)
+  numbered_by tale (entry.Accepted port link salt) are = numbered_comes 1 tale.clients (new_client (length tale.clients + 1) port link salt) are (omega arith)
   numbered_by tale (entry.Got link bytes) are =
       either (AreNumbered 1) (is_to_server tale link) tale.clients (map (client_hears link bytes) tale.clients) are
       (numbered_moves (client_hears link bytes) (hears_stays link bytes) 1 tale.clients are)
@@ -240,80 +239,3 @@ module _ (setup : Setup) (plan : Plan) where
 
   pub numbered_step : (tale : Tale) (e : Entry) → AreNumbered 1 tale.clients → AreNumbered 1 (tale_step setup plan tale e).clients
   numbered_step tale e are = like_numbered 1 (told setup plan tale e).clients (tale_step setup plan tale e).clients (step_like tale e are) (numbered_told tale e are)
-
-  -- Whose messages became due: of each client with a message to take up it is so.
-  module _ (K : ClientNo → Type 0) (plain : (m : MessageName) → IsPlain (plan.routes m)) where
-    abbrev pub Knows : Client → Type 0
-    Knows client = (i : ℕ) (message : Framed) → slice_get (messages plan client) i ≡ Some message → K client.number
-
-    abbrev pub AllKnow : List Client → Type 0
-    AllKnow xs = AllOf Knows xs
-
-    abbrev Holds : Tale → Type 0
-    Holds tale = AllDue (λ m. K m.client) tale.story
-
-    abbrev HoldsIn : Option Tale → Type 0
-    HoldsIn None = Unit {0}
-    HoldsIn (Some tale) = Holds tale
-
-    due_holds : (client : Client) (i : ℕ) (route : Route) (request : Option Request) (tale : Tale) → route.mirror ≡ None → K client.number → Holds tale
-        → Holds (due_by client i route request tale)
-    due_holds client i route None tale lone known holds = holds
-    due_holds client i route (Some request) tale lone known holds =
-        let due : Tale = tell (BecameDue client.number route.hostgroup i request.key request.command route.multiplex) tale in
-        subst (λ (o : Option Hostgroup). Holds (copied (name_of client i) request.command o due)) (sym lone) (known, holds)
-
-    taken_holds : (client : Client) (i : ℕ) (message : Framed) (route : Option Route) (tale : Tale) → IsPlain route → K client.number → Holds tale
-        → Holds (taken_by setup plan client i message route tale)
-    taken_holds client i message None tale lone known holds =
-        either Holds (nat_eq (slice_index_or message.payload 0 0) com_reset) (tell (Left client.number) tale) tale holds holds
-    taken_holds client i message (Some route) tale lone known holds =
-        due_holds client i route (requested setup (view_of setup tale) plan client i route message.payload) tale lone known holds
-
-    next_holds : (client : Client) (found : Option Framed) (tale : Tale) → ((message : Framed) → found ≡ Some message → K client.number) → Holds tale
-        → HoldsIn (next_taken setup plan client found tale)
-    next_holds client None tale known holds = tt
-    next_holds client (Some message) tale known holds =
-        either HoldsIn (is_up setup plan client tale)
-        (Some (taken_by setup plan client (suc client.taken) message (plan.routes (name_of client (suc client.taken))) tale)) None
-        (taken_holds client (suc client.taken) message (plan.routes (name_of client (suc client.taken))) tale (plain (name_of client (suc client.taken))) (known message refl) holds) tt
-
-    others_hold : (others : Tale → Tale) (found : Option Tale) (old : Tale) → Holds old → HoldsIn found → ((tale : Tale) → Holds tale → Holds (others tale))
-        → Holds (option_map_or others found old)
-    others_hold others None old holds in_it keeps = holds
-    others_hold others (Some tale) old holds in_it keeps = keeps tale in_it
-
-    up_holds : (most : ℕ) (client : Client) (tale : Tale) → Knows client → Holds tale → Holds (taken_up most setup plan client tale)
-    up_holds zero client tale known holds = holds
-    up_holds (suc most) client tale known holds =
-        let onward : Client = record client { taken = suc client.taken } in
-        others_hold (λ other. taken_up most setup plan onward (with_client onward other)) (next_taken setup plan client (slice_get (messages plan client) client.taken) tale) tale
-        holds (next_holds client (slice_get (messages plan client) client.taken) tale (λ message is. known client.taken message is) holds)
-        (λ other in_it. up_holds most onward (with_client onward other) known in_it)
-
-    going_holds : (view : View) (e : Entry) (xs : List Client) (tale : Tale) → AllKnow xs → Holds tale → Holds (fold (client_goes_on setup plan view e) tale xs)
-    going_holds view e [] tale all holds = holds
-    going_holds view e (x ∷ xs) tale all holds =
-        going_holds view e xs (client_goes_on setup plan view e tale x) all.1
-        (either Holds ((is_event_of view x e || gives_up plan tale.moment (name_of x x.taken)) && not (is_before tale.moment (plan.ends x.number)))
-        (taken_up (length (messages plan x)) setup plan x tale) tale (up_holds (length (messages plan x)) x tale all.0 holds) holds)
-
-    freeing_holds : (xs : List LinkId) (tale : Tale) → Holds tale → Holds (fold (freed_if_done setup plan) tale xs)
-    freeing_holds [] tale holds = holds
-    freeing_holds (x ∷ xs) tale holds =
-        freeing_holds xs (freed_if_done setup plan tale x)
-        (either Holds (is_done plan tale.moment (view_of setup tale) (tale.wires x) (link_in setup tale x)) (tell (Freed x) tale) tale holds holds)
-
-    ending_holds : (xs : List Client) (tale : Tale) → Holds tale → Holds (fold (ended_if_now plan) tale xs)
-    ending_holds [] tale holds = holds
-    ending_holds (x ∷ xs) tale holds =
-        ending_holds xs (ended_if_now plan tale x) (either Holds (is_now tale.moment (plan.ends x.number)) (tell (Left x.number) tale) tale holds holds)
-
-    pub step_holds : (tale : Tale) (e : Entry) → AllKnow (told setup plan tale e).clients → AllDue (λ m. K m.client) tale.story
-        → AllDue (λ m. K m.client) (tale_step setup plan tale e).story
-    step_holds tale e know holds =
-        let heard : Tale = counted (told setup plan tale e) in
-        let ended : Tale = clients_are_ended plan (gone tale e) in
-        let in_heard : Holds heard = entry_keeps setup plan (AllDue (λ m. K m.client)) (other_due (λ m. K m.client)) tale e holds in
-        freeing_holds ended.links ended (ending_holds (gone tale e).clients (gone tale e)
-        (going_holds (view_of setup tale) e (freed tale e).clients (freed tale e) (subst AllKnow (sym (freed_clients tale e)) know) (freeing_holds heard.links heard in_heard)))

@@ -1,8 +1,7 @@
 -- What was decided since: answers of the router, ends of clients and last words, each from the entry at which it was decided.
 use Rattle.std.specs.Prelude.{◌≡◌, ◌+◌, ◌≤◌, ◌⊎◌, ℕ, zero, suc, Bool, true, false, ◌&&◌, fold, length, if◌then◌else◌, unwrap_or, List, [], ◌∷◌, Option, Some, None}
-use Rattle.std.specs.Option.{option_and_then, option_map, option_map_or, option_or}
+use Rattle.std.specs.Option.{option_and_then, option_map_or, option_or}
 use Rattle.std.proofs.Common.{refl, sym, ap, ◌∙◌, subst, arith, inl, inr}
-use Rattle.client_session.specs.Arrivals.{Arrival, arrival_of}
 use Rattle.mx_base.specs.declared.names.LinkId.{LinkId}
 use Rattle.mx_base.specs.declared.tag.Tag.{Tag}
 use Rattle.mx_wire.specs.Log.{Log}
@@ -13,7 +12,7 @@ use Rattle.private_model.specs.Names.{ClientNo, MessageName}
 use Rattle.private_model.specs.Story.{is_message}
 use Rattle.private_model.specs.View.{Setup, View}
 use Rattle.log_story.specs.Owed.{messages, name_of}
-use Rattle.log_story.specs.Plan.{Alone, LastWord, OwnAnswer, is_before}
+use Rattle.log_story.specs.Plan.{LastWord, OwnAnswer, is_before}
 use Rattle.log_story.specs.Servers.{may_begin}
 use Rattle.log_story.specs.Tale.{Client, Tale, is_to_server, link_in, view_of}
 use Rattle.tale_world.specs.Decided.{Decided, filled, plan_of}
@@ -22,13 +21,12 @@ use Rattle.tale_world.specs.World.{are_taken, decided_by_now, decided_ends, deci
 use Rattle.tale_world.specs.World.{is_asked, is_called, is_counted, is_ended, is_taken_of, is_told, is_up, looked_at, looked_for, next_message, next_of, tagged, taken_once, with_login, with_route, with_step, with_taken, world_step}
 use Rattle.tale_world.proofs.Following.{are_freed_follows, go_on_follows, going_even, step_even, told-more}
 use Rattle.tale_world.proofs.Telling.{ends_moment, told_moment}
-use Rattle.router_promises.specs.Due.{turned_away}
 use Rattle.router_promises.specs.Ends.{buffers_word}
 use Rattle.router_promises.specs.Errors.{out_of_memory}
 use Rattle.router_promises.specs.Now.{Now, entry_now}
 use Rattle.router_promises.specs.Terms.{plan_in}
 use Rattle.router_promises.specs.Verdicts.{Goes, Parts, Tells, Verdict}
-use Rattle.shared_router.specs.Ends.{Ending, client_at, ending_of, has_too_much, is_refused_now, is_turned_away, left_word, may_say_starved, must_go, says_last, was_left, word_to, words_by}
+use Rattle.shared_router.specs.Ends.{Ending, away_word, client_at, ending_of, has_too_much, is_refused_now, is_turned_away, left_word, may_say_starved, must_go, says_last, was_left, word_to, words_by}
 use Rattle.shared_router.specs.Fixed.{Fixed, setup_of}
 use Rattle.shared_router.specs.Judged.{heard}
 use Rattle.shared_router.specs.More.{More, now_of}
@@ -247,11 +245,6 @@ module _ (fixed : Fixed) where
   if-word true x y word is = inl is
   if-word false x y word is = inr is
 
-  away-from : (x : Ending) (client : Client) (came : Option Arrival) (word : LastWord)
-      → option_map (λ (came : Arrival). record { from = entry_now x.now; place = Alone; payloads = turned_away came.port }) came ≡ Some word → word.from ≡ entry_now x.now
-  away-from x client None word is = absurd (cc)
-  away-from x client (Some came) word is = ap (λ (o : Option LastWord). option_map_or (λ (w : LastWord). w.from) o 0) (sym is)
-
   one-from : (said word : LastWord) → Some said ≡ Some word → word.from ≡ said.from
   one-from said word is = ap (λ (o : Option LastWord). option_map_or (λ (w : LastWord). w.from) o 0) (sym is)
 
@@ -263,7 +256,7 @@ module _ (fixed : Fixed) where
       elim (if-word (is_refused_now x client && was_left x client) _ _ word is) [
         | inl left ↦ one-from (left_word x) word left
         | inr here ↦ elim (if-word (is_turned_away x client) _ _ word here) [
-          | inl away ↦ away-from x client (arrival_of client.number.0 x.log) word away
+          | inl away ↦ one-from (away_word x) word away
           | inr other ↦ elim (if-word (must_go x client) _ _ word other) [
             | inl none ↦ no_word word (entry_now x.now) none
             | inr later ↦ elim (if-word (has_too_much x client) _ _ word later) [

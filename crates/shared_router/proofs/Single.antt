@@ -41,7 +41,7 @@ either-number false x y n one other = other
 
 pub numbered-seats : Seats anybody (Numbered 1)
 numbered-seats = record {
-  comes = λ cs link salt comes all. numbered-last (new_client (length cs + 1) link salt) 1 cs all (omega arith);
+  comes = λ cs port link salt comes all. numbered-last (new_client (length cs + 1) port link salt) 1 cs all (omega arith);
   hears = λ cs link bytes all. numbered-map (client_hears link bytes)
       (λ c. either-number (is_link_id c.link link) (record c { read = c.read ++ bytes }) c c.number.0 (λ is. refl) refl) 1 cs all;
   gets = λ cs link count all. numbered-map (client_gets link count)

@@ -68,12 +68,12 @@ each-moved n ordinal f stays cs all =
 
 taken-seats : (n : ClientNo) (ordinal : ℕ) → Seats anybody (HaveTaken n ordinal)
 taken-seats n ordinal = record {
-  comes = λ cs link salt comes has. record {
-    numbered = numbered-seats.comes cs link salt comes has.numbered;
-    there = any-on (has_number n) cs (new_client (length cs + 1) link salt ∷ []) ∙ or_left (list_any (has_number n) cs) _ has.there;
-    taken = each-last (λ (c : Client). has_number n c ≡ true → c.taken ≡ ordinal) cs (new_client (length cs + 1) link salt) has.taken
+  comes = λ cs port link salt comes has. record {
+    numbered = numbered-seats.comes cs port link salt comes has.numbered;
+    there = any-on (has_number n) cs (new_client (length cs + 1) port link salt ∷ []) ∙ or_left (list_any (has_number n) cs) _ has.there;
+    taken = each-last (λ (c : Client). has_number n c ≡ true → c.taken ≡ ordinal) cs (new_client (length cs + 1) port link salt) has.taken
         (λ his. absurd (let below = number-below n 1 cs has.numbered has.there in
-        let same : length cs + 1 ≡ n.0 = ap (λ (k : ClientNo). k.0) (client_of (new_client (length cs + 1) link salt).number n his) in omega (arith, below, same)));
+        let same : length cs + 1 ≡ n.0 = ap (λ (k : ClientNo). k.0) (client_of (new_client (length cs + 1) port link salt).number n his) in omega (arith, below, same)));
   };
   hears = λ cs link bytes has. record {
     numbered = numbered-seats.hears cs link bytes has.numbered;

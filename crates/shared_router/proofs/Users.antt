@@ -1,45 +1,29 @@
--- Those of whom a statement is due are users: their accounts are those that they say in their logins.
-use Rattle.std.specs.Prelude.{◌≡◌, All, ℕ, suc, Bool, true, false, bytes_eq, cond, find, length, map, slice_get, take, if◌then◌else◌, List, [], ◌∷◌, ◌++◌, Option, Some, None}
+-- Who is logged in at the port of clients is a user of the configuration, and its account is that of its login.
+use Rattle.std.specs.Prelude.{◌≡◌, All, ℕ, suc, Bool, true, false, bytes_eq, cond, find, map, slice_get, if◌then◌else◌, List, [], ◌∷◌, ◌++◌, Option, Some, None}
 use Rattle.std.specs.Option.{option_map_or}
-use Rattle.std.proofs.Common.{refl, sym, ap, ◌∙◌, subst, append_assoc, arith}
-use Rattle.std.proofs.lemmas.List.{take-append-le, take_all}
+use Rattle.std.proofs.Common.{refl, sym, ap, ◌∙◌, subst, arith}
 use Rattle.std.proofs.lemmas.Slice.Eq.{bytes_eq-Decides}
 use Rattle.client_session.specs.Accounts.{account_by, account_of, answers_for, find_user, finds_rows, known_of}
-use Rattle.client_session.specs.Answers.{Talk, account, account_in, commands_in, if_known, messages_of, opening_of}
-use Rattle.client_session.specs.Setups.{Setup as Service, User}
+use Rattle.client_session.specs.Answers.{Talk, account, account_in, commands_in, if_known, messages_of, opening_of, users_of}
+use Rattle.client_session.specs.Setups.{Setup as Service, User, users_at}
 use Rattle.client_side.specs.Login.{Fails, Opening, Says, Waits}
 use Rattle.handshake.specs.declared.response.Response.{Response}
 use Rattle.mx_config.specs.declared.config.UserRow.{UserRow}
-use Rattle.mx_wire.specs.Log.{Log}
-use Rattle.mx_wire.specs.Moments.{AtEachMoment, LawfulAfter}
-use Rattle.mx_wire.specs.declared.entry.Entry.{Entry}
+use Rattle.mx_base.specs.declared.names.{Port.Port, Port.TheVariants.Traffic}
 use Rattle.packet_frame.specs.Laws.{first_message-empty, split-nothing}
 use Rattle.packet_frame.specs.Packets.{Framed, split}
 use Rattle.private_model.specs.Commands.{Account}
-use Rattle.private_model.specs.Names.{ClientNo, MessageName}
+use Rattle.private_model.specs.Names.{ClientNo}
 use Rattle.server_side.specs.Account.{Account as Login}
 use Rattle.session_vars.specs.Collations.{is_served_collation}
 use Rattle.log_story.specs.Owed.{talk_of}
-use Rattle.log_story.specs.Plan.{Plan}
-use Rattle.log_story.specs.Tale.{Client, Tale}
-use Rattle.log_story.specs.Telling.{tale_step, told}
-use Rattle.tale_world.specs.Decided.{plan_of}
-use Rattle.tale_world.specs.Deciding.{World}
-use Rattle.tale_world.proofs.Agreeing.{agrees-itself}
-use Rattle.tale_world.proofs.Following.{stepped}
+use Rattle.log_story.specs.Tale.{Client}
 use Rattle.router_promises.specs.Router.{service_of, user_named, user_of}
-use Rattle.router_promises.specs.Terms.{AreWhoTheySay, IsWhoItSays, Terms, login_as, plan_in, tale_at}
-use Rattle.shared_router.specs.Fixed.{Fixed, setup_of}
-use Rattle.shared_router.specs.More.{More}
-use Rattle.shared_router.specs.Shared.{final_terms, shared, world_at}
-use Rattle.shared_router.proofs.Accounts.{IsUser, UsersSo}
+use Rattle.router_promises.specs.Terms.{IsWhoItSays, Terms, login_as, plan_in}
+use Rattle.shared_router.specs.Fixed.{Fixed}
+use Rattle.shared_router.proofs.Accounts.{IsUser}
 use Rattle.shared_router.specs.Wishes.{login_for}
-use Rattle.shared_router.proofs.Dues.{AllDue, due_is}
-use Rattle.shared_router.proofs.Numbered.{AreNumbered}
-use Rattle.shared_router.proofs.Owing.{owes_at}
-use Rattle.shared_router.proofs.Parting.{even_at, next, service_kept, tale_then, world_more}
-use Rattle.shared_router.proofs.Plain.{IsPlain, IsPlainIf, plain_of}
-use Rattle.shared_router.proofs.Seated.{AllKnow, AllOf, AreLike, IsLike, Knows, numbered_step, step_holds, step_like}
+use Rattle.shared_router.proofs.Seated.{AllOf, IsLike}
 
 pub all_of : (Q : Client → Type 0) (xs : List Client) → All Q xs → AllOf Q xs
 all_of Q [] all = tt
@@ -68,7 +52,7 @@ logged_in talk i message is = by_opening (opening_of talk) is where
   by_account (Some login) rest found = (login, refl)
 
   by_opening : (o : Opening) → slice_get (split talk.setup.limit 0 (commands_in talk o)).messages i ≡ Some message → (login : Login) × (account_in talk o ≡ Some login)
-  by_opening (Says switched response id rest) found = by_account (account_of talk.setup.users talk.salt response) rest found
+  by_opening (Says switched response id rest) found = by_account (account_of (users_of talk) talk.salt response) rest found
   by_opening (Waits switched) found = no_message talk.setup.limit i message found
   by_opening (Fails switched fault id) found = no_message talk.setup.limit i message found
 
@@ -138,25 +122,28 @@ module _ (fixed : Fixed) where
             ∙ equal_bytes found.row.password found.row.password refl;
       }
 
-  abbrev service : Service
+  abbrev pub service : Service
   service = service_of fixed.router
 
   abbrev pub talk_by : Service → Client → Talk
-  talk_by by client = record { setup = by; number = client.number.0; salt = client.salt; read = client.read }
+  talk_by by client = record { setup = by; number = client.number.0; port = client.port; salt = client.salt; read = client.read }
 
-  account_found : (client : Client) (login : Login) → account (talk_by service client) ≡ Some login → IsFound fixed.router.users login
-  account_found client login is = by_opening (opening_of (talk_by service client)) is where
+  -- at the port of clients
+  account_found : (client : Client) (login : Login) → client.port ≡ Traffic → account (talk_by service client) ≡ Some login → IsFound fixed.router.users login
+  account_found client login port is = by_opening (opening_of (talk_by service client)) is where
     by_opening : (o : Opening) → account_in (talk_by service client) o ≡ Some login → IsFound fixed.router.users login
-    by_opening (Says switched response id rest) found = found_by fixed.router.users client.salt response login found
+    by_opening (Says switched response id rest) found =
+        found_by fixed.router.users client.salt response login
+        (sym (ap (λ (p : Port). account_of (users_at service p) client.salt response) port) ∙ found)
     by_opening (Waits switched) found = absurd (cc)
     by_opening (Fails switched fault id) found = absurd (cc)
 
   -- its account is that of its login
 
-  abbrev SaysSo : Client → Type 0
+  abbrev pub SaysSo : Client → Type 0
   SaysSo client = (login : Login) → account (talk_by service client) ≡ Some login → fixed.accounts client.number ≡ login_as login
 
-  says_of : (t : Terms) (client : Client) → t.decided.accounts ≡ fixed.accounts → (plan_in t).service ≡ service
+  pub says_of : (t : Terms) (client : Client) → t.decided.accounts ≡ fixed.accounts → (plan_in t).service ≡ service
       → IsWhoItSays t client (opening_of (talk_of (plan_in t) client)) → SaysSo client
   says_of t client accounts same who login is =
       by_opening (opening_of (talk_of (plan_in t) client)) who there
@@ -172,81 +159,14 @@ module _ (fixed : Fixed) where
       by_opening (Fails switched fault id) says found = absurd (cc)
 
   talk_like : (x y : Client) → IsLike x y → talk_by service y ≡ talk_by service x
-  talk_like x y like = λ i. record { setup = service; number = (like.number i).0; salt = like.salt i; read = like.read i }
+  talk_like x y like = λ i. record { setup = service; number = (like.number i).0; port = like.port i; salt = like.salt i; read = like.read i }
 
-  says_like : (x y : Client) → IsLike x y → SaysSo y → SaysSo x
+  pub says_like : (x y : Client) → IsLike x y → SaysSo y → SaysSo x
   says_like x y like says login is =
       ap (λ n. fixed.accounts n) (sym like.number) ∙ says login (subst (λ t. account t ≡ Some login) (sym (talk_like x y like)) is)
 
-  abbrev IsOne : ClientNo → Type 0
-  IsOne client = IsUser fixed (fixed.accounts client)
-
-  user_of_one : (client : Client) (i : ℕ) (message : Framed) → SaysSo client → slice_get (messages_of (talk_by service client)).messages i ≡ Some message → IsOne client.number
-  user_of_one client i message says is =
+  pub user_of_one : (client : Client) (i : ℕ) (message : Framed) → client.port ≡ Traffic → SaysSo client
+      → slice_get (messages_of (talk_by service client)).messages i ≡ Some message → IsUser fixed (fixed.accounts client.number)
+  user_of_one client i message port says is =
       let login = logged_in (talk_by service client) i message is in
-      subst (IsUser fixed) (sym (says login.0 login.1)) (user_so login.0 (account_found client login.0 login.1))
-
-  module _ (plan : Plan) (same : plan.service ≡ service) (plain : (m : MessageName) → IsPlain (plan.routes m)) where
-    knows_one : (client : Client) → SaysSo client → Knows (setup_of fixed) plan IsOne plain client
-    knows_one client says i message is =
-        user_of_one client i message says (subst (λ s. slice_get (messages_of (talk_by s client)).messages i ≡ Some message) same is)
-
-    know_all : (xs ys : List Client) → AreLike xs ys → AllOf SaysSo ys → AllKnow (setup_of fixed) plan IsOne plain xs
-    know_all [] ys like says = tt
-    know_all (x ∷ xs) [] like says = absurd like
-    know_all (x ∷ xs) (y ∷ ys) like says = (knows_one x (says_like x y like.0 says.0), know_all xs ys like.1 says.1)
-
-  -- along a log
-
-  module _ (log : Log) (who : AtEachMoment (AreWhoTheySay (final_terms fixed log)) log) where
-    abbrev t : Terms
-    t = final_terms fixed log
-
-    moment_so : (before later : Log) → before ++ later ≡ log → take (length before) log ≡ before
-    moment_so before later is =
-        ap (λ l. take (length before) l) (sym is) ∙ take-append-le (length before) before later (omega arith) ∙ take_all (length before) before (omega arith)
-
-    says_then : (before later : Log) → before ++ later ≡ log → AllOf SaysSo (world_at fixed before).tale.clients
-    says_then before later is =
-        let there : AreWhoTheySay t before = subst (AreWhoTheySay t) (moment_so before later is) (who (length before)) in
-        let tale : tale_at t before ≡ (world_at fixed before).tale =
-        subst (λ l. tale_at (final_terms fixed l) before ≡ (world_at fixed before).tale) is (tale_then fixed before later) in
-        all_more (λ c. IsWhoItSays t c (opening_of (talk_of (plan_in t) c))) SaysSo (λ c says. says_of t c refl (service_kept fixed log).0 says)
-        (world_at fixed before).tale.clients
-        (all_of (λ c. IsWhoItSays t c (opening_of (talk_of (plan_in t) c))) (world_at fixed before).tale.clients
-        (subst (λ (x : Tale). All (λ c. IsWhoItSays t c (opening_of (talk_of (plan_in t) c))) x.clients) tale there))
-
-    record IsKnown (before : Log) : Type 0 where
-      pub numbered : AreNumbered 1 (world_at fixed before).tale.clients
-      pub due : AllDue (λ m. IsOne m.client) (world_at fixed before).tale.story
-
-    known_step : (before later : Log) (e : Entry) → before ++ e ∷ later ≡ log → IsKnown before → IsKnown (before ++ e ∷ [])
-    known_step before later e is known =
-        let w : World More = world_at fixed before in
-        let v : World More = next fixed w e in
-        let plan : Plan = plan_of v.decided in
-        let world : world_at fixed (before ++ e ∷ []) ≡ v = world_more fixed before (e ∷ []) in
-        let told_by : v.tale ≡ tale_step (setup_of fixed) plan w.tale e =
-        (stepped (setup_of fixed) (shared fixed) w e plan (even_at fixed before) (agrees-itself v.decided v.tale.moment)).same in
-        let tale : (world_at fixed (before ++ e ∷ [])).tale ≡ tale_step (setup_of fixed) plan w.tale e = ap (λ (x : World More). x.tale) world ∙ told_by in
-        let same : plan.service ≡ service = ap (λ (x : World More). x.decided.service) (sym world) ∙ (service_kept fixed (before ++ e ∷ [])).0 in
-        let plain : (m : MessageName) → IsPlain (plan.routes m) = λ m.
-        plain_of (v.decided.routes m) (subst (λ (x : World More). IsPlainIf (x.decided.routes m)) world ((owes_at fixed (before ++ e ∷ [])).plain m)) in
-        let says : AllOf SaysSo (tale_step (setup_of fixed) plan w.tale e).clients =
-        subst (λ (x : Tale). AllOf SaysSo x.clients) tale (says_then (before ++ e ∷ []) later (append_assoc before (e ∷ []) later ∙ is)) in
-        let know = know_all plan same plain (told (setup_of fixed) plan w.tale e).clients (tale_step (setup_of fixed) plan w.tale e).clients
-        (step_like (setup_of fixed) plan w.tale e known.numbered) says in
-        record {
-          numbered = subst (λ (x : Tale). AreNumbered 1 x.clients) (sym tale) (numbered_step (setup_of fixed) plan w.tale e known.numbered);
-          due = subst (λ (x : Tale). AllDue (λ m. IsOne m.client) x.story) (sym tale) (step_holds (setup_of fixed) plan IsOne plain w.tale e know known.due);
-        }
-
-    users_from : (before later : Log) → before ++ later ≡ log → IsKnown before → LawfulAfter (UsersSo fixed) before later
-    users_from before [] is known = tt
-    users_from before (e ∷ later) is known = (
-      λ n due there. due_is (λ m. IsOne m.client) (setup_of fixed) n (world_at fixed before).tale.story due known.due there,
-      users_from (before ++ e ∷ []) later (append_assoc before (e ∷ []) later ∙ is) (known_step before later e is known),
-    )
-
-    pub users_so : LawfulAfter (UsersSo fixed) [] log
-    users_so = users_from [] log refl (record { numbered = tt; due = tt })
+      subst (IsUser fixed) (sym (says login.0 login.1)) (user_so login.0 (account_found client login.0 port login.1))

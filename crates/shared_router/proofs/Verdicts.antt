@@ -1,9 +1,10 @@
 -- Two plans that are the same in what a client's messages so far look up give the same verdict on its next one.
-use Rattle.std.specs.Prelude.{◌≡◌, ◌+◌, ◌-◌, ℕ, suc, Bool, true, false, not, ◌&&◌, ◌||◌, is_some, is_none, nat_eq, nat_le, if◌then◌else◌, unwrap_or, length, take, List, [], ◌∷◌, ◌++◌, Option, Some, None}
+use Rattle.std.specs.Prelude.{◌≡◌, ◌+◌, ◌-◌, ℕ, suc, Bool, true, false, not, ◌&&◌, ◌||◌, is_some, nat_eq, nat_le, if◌then◌else◌, unwrap_or, length, take, List, [], ◌∷◌, ◌++◌, Option, Some, None}
 use Rattle.std.specs.List.{list_any}
 use Rattle.std.specs.Option.{option_and_then, option_map_or, option_or}
 use Rattle.std.proofs.Common.{refl, ap, ◌∙◌, arith}
 use Rattle.std.proofs.lemmas.List.{length-take}
+use Rattle.mx_base.specs.declared.names.{Port.Port, Port.TheVariants.Admin, Port.TheVariants.Traffic}
 use Rattle.mx_base.specs.Fields.{number_at}
 use Rattle.hostgroups.specs.declared.server.Server.{Server}
 use Rattle.packet_frame.specs.Packets.{Framed}
@@ -28,7 +29,7 @@ use Rattle.router_promises.specs.Takings.{Taking}
 use Rattle.router_promises.specs.Terms.{Terms, Tried, setup_in}
 use Rattle.router_promises.specs.Verdicts.{Asks, Chooses, Executes, Kind, Lists, Malformed, Pings, Prepares, Quits, ResetsStatement, Restarts, Silent, Unknown, Unprepared, Verdict, Wanted}
 use Rattle.router_promises.specs.Errors.{too_many_statements}
-use Rattle.router_promises.specs.Verdicts.{com_fetch, connection_id, is_connection_id, tells_one, com_ping, com_quit, executed, flag_behind, hostgroup_for, is_restart, is_with_number, kind_in, kind_of, pass_of, plain_route, ruled, run_by, text_passed, transaction_in, unless_refused, unplaced, verdict, verdict_by, with_number}
+use Rattle.router_promises.specs.Verdicts.{com_fetch, connection_id, is_connection_id, tells_one, com_ping, com_quit, executed, flag_behind, hostgroup_for, is_restart, is_with_number, kind_in, kind_of, pass_of, plain_route, ruled, run_by, text_passed, transaction_in, unless_refused, unplaced, verdict, verdict_at, verdict_by, with_number}
 use Rattle.shared_router.specs.Judged.{with_plan, with_rest}
 
 module _ (client : Client) (view : View) (moment : ℕ) (p q : Plan) (same : SameFor client view moment p q) where
@@ -266,10 +267,15 @@ module _ (terms : Terms) (p q : Plan) (bare : LinkId → Bool) (tried : ℕ → 
   by_kind Malformed knows = refl
   by_kind Unknown knows = refl
 
+  by_port : (port : Port) (kind : Kind) → Knows taking.client view taking.tale.moment p q same kind
+      → verdict_at port by_p servers flag taking kind ≡ verdict_at port by_q servers flag taking kind
+  by_port Traffic kind knows = by_kind kind knows
+  by_port Admin kind knows = refl
+
   pub verdict_same : verdict by_p servers flag taking ≡ verdict by_q servers flag taking
   verdict_same =
-      ap (verdict_by by_p servers flag taking) (kind_same taking.client view taking.tale.moment p q same taking.message.payload)
-      ∙ by_kind (kind_in by_q taking) (kind_knows taking.client view taking.tale.moment p q same q taking.message.payload)
+      ap (verdict_at taking.client.port by_p servers flag taking) (kind_same taking.client view taking.tale.moment p q same taking.message.payload)
+      ∙ by_port taking.client.port (kind_in by_q taking) (kind_knows taking.client view taking.tale.moment p q same q taking.message.payload)
 
   -- and so the client's flag behind it
 

@@ -48,7 +48,7 @@ module _ (fixed : Fixed) (numbered : IsNumbered fixed) (plan : Plan) (bare : Lin
   abbrev pub terms : Terms
   terms = record {
     router = fixed.router;
-    decided = record { plan = plan; keys = fixed.keys; accounts = fixed.accounts; places = fixed.places; bare = bare; tried = tried };
+    decided = record { plan = plan; keys = fixed.keys; accounts = fixed.accounts; places = fixed.places; administered = fixed.administered; bare = bare; tried = tried };
     stored = fixed.stored;
   }
 

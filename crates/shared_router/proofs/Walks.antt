@@ -141,7 +141,7 @@ module _ (setup : Setup) (plan : Plan) (k : Keeping setup) where
 
   -- a client that comes is looked at apart
   abbrev pub Comes : Tale → Entry → Type 0
-  Comes tale (entry.Accepted port link salt) = k.holds (tale.clients ++ new_client (length tale.clients + 1) link salt ∷ []) tale.story
+  Comes tale (entry.Accepted port link salt) = k.holds (tale.clients ++ new_client (length tale.clients + 1) port link salt ∷ []) tale.story
   Comes tale _ = Unit {0}
 
   -- and so is what is written on a link to a server

@@ -2,7 +2,7 @@
 use Rattle.std.specs.Prelude.{Result, Ok, Err, ◌≡◌, ◌<◌, ◌≤◌, ◌+◌, ◌*◌, ℕ, zero, suc, Bool, true, false, drop, length, map, slice_get, take, if◌then◌else◌, List, [], ◌∷◌, ◌++◌, Option, Some, None}
 use Rattle.std.proofs.Common.{refl, sym, ap, ◌∙◌, subst, arith, length-append}
 use Rattle.client_session.specs.Accounts.{account_of}
-use Rattle.client_session.specs.Answers.{Talk, commands, commands_in, if_known, opening_of}
+use Rattle.client_session.specs.Answers.{Talk, commands, commands_in, if_known, opening_of, users_of}
 use Rattle.client_side.specs.Login.{Fails, Opening, Says, Waits, answer_in, by_answer, by_message, by_response, login_limit, needs_switch, opening}
 use Rattle.handshake.specs.declared.fault.HandFault.{HandFault}
 use Rattle.handshake.specs.declared.response.Response.{Response}
@@ -101,7 +101,7 @@ commands_shorter talk = by_opening (opening_of talk) (opening_shorter talk.setup
   by_opening : (o : Opening) → length (rest_of o) ≤ length talk.read → length (commands_in talk o) ≤ length talk.read
   by_opening (Waits switched) less = omega arith
   by_opening (Says switched response id rest) less =
-      (let known = by_account (account_of talk.setup.users talk.salt response) rest in omega (arith, known, less))
+      (let known = by_account (account_of (users_of talk) talk.salt response) rest in omega (arith, known, less))
   by_opening (Fails switched fault id) less = omega arith
 
 pub messages_weight : (plan : Plan) (client : Client) → weight (messages plan client) ≤ length client.read
@@ -126,7 +126,7 @@ either P false x y one two = two
 pub read_by : (setup : Setup) (plan : Plan) (entries : ℕ) (log : Log) (tale : Tale) (e : Entry) → Fits log e → Each (IsReadIn entries) tale.clients
     → Each (IsReadIn (suc entries)) (clients_by setup plan tale e)
 read_by setup plan entries log tale (entry.Accepted port link salt) fits all =
-    each-last (IsReadIn (suc entries)) tale.clients (new_client (length tale.clients + 1) link salt)
+    each-last (IsReadIn (suc entries)) tale.clients (new_client (length tale.clients + 1) port link salt)
     (each-so (IsReadIn entries) (IsReadIn (suc entries)) tale.clients (more_entries entries) all) (omega arith)
 read_by setup plan entries log tale (entry.Got link bytes) fits all =
     ifs (Each (IsReadIn (suc entries))) (is_to_server tale link) tale.clients (map (client_hears link bytes) tale.clients)

@@ -58,7 +58,7 @@ word-goes x client word is =
   where
     by_tests : (left away must much starved : Bool) → (is_refused_now x client && was_left x client) ≡ left → is_turned_away x client ≡ away → must_go x client ≡ must
         → has_too_much x client ≡ much → (is_refused_now x client && may_say_starved x client) ≡ starved
-        → (if left then Some (left_word x) else if away then away_word x client else if must then None
+        → (if left then Some (left_word x) else if away then Some (away_word x) else if must then None
         else if much then Some (says_last x client (buffers_word x.terms x.ending client)) else if starved then Some (says_last x client out_of_memory) else None) ≡ Some word
         → (must_go x client || (has_too_much x client || is_starved x client)) ≡ true
     by_tests true away must much starved l a m h s so = or_right _ _ (or_right _ _ (left-goes x client l))

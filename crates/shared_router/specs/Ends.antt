@@ -1,9 +1,8 @@
 -- Which clients are ended by an entry, and with which last word.
 use Rattle.std.specs.Prelude.{ℕ, Bool, false, not, ◌&&◌, ◌||◌, nat_eq, List, [], ◌∷◌, find, if◌then◌else◌, Option, Some, None}
 use Rattle.std.specs.List.{list_any}
-use Rattle.std.specs.Option.{option_and_then, option_map, option_map_or}
+use Rattle.std.specs.Option.{option_and_then, option_map_or}
 use Rattle.client_session.specs.Answers.{opening_of}
-use Rattle.client_session.specs.Arrivals.{Arrival, arrival_of}
 use Rattle.client_side.specs.Login.{Opening, Says}
 use Rattle.mx_wire.specs.Log.{Log}
 use Rattle.mx_wire.specs.declared.entry.Entry.{Entry}
@@ -78,9 +77,8 @@ word_place x client = place_by (opening_of (talk_of (plan_in x.terms) client))
 abbrev pub is_turned_away : Ending → Client → Bool
 is_turned_away x client = is_accepted x.e client && not (served x.terms x.log client)
 
-abbrev pub away_word : Ending → Client → Option LastWord
-away_word x client =
-    option_map (λ (came : Arrival). record { from = entry_now x.now; place = Alone; payloads = turned_away came.port }) (arrival_of client.number.0 x.log)
+abbrev pub away_word : Ending → LastWord
+away_word x = record { from = entry_now x.now; place = Alone; payloads = turned_away }
 
 abbrev pub says_last : Ending → Client → List ℕ → LastWord
 says_last x client payload = record { from = entry_now x.now; place = word_place x client; payloads = payload ∷ [] }
@@ -91,7 +89,7 @@ left_word x = record { from = entry_now x.now; place = Behind; payloads = out_of
 abbrev pub word_to : Ending → Client → Option LastWord
 word_to x client =
     if is_refused_now x client && was_left x client then Some (left_word x)
-    else if is_turned_away x client then away_word x client
+    else if is_turned_away x client then Some (away_word x)
     else if must_go x client then None
     else if has_too_much x client then Some (says_last x client (buffers_word x.terms x.ending client))
     else if is_refused_now x client && may_say_starved x client then Some (says_last x client out_of_memory)

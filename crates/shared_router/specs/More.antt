@@ -66,6 +66,7 @@ terms_of fixed w = record {
     keys = fixed.keys;
     accounts = fixed.accounts;
     places = fixed.places;
+    administered = fixed.administered;
     bare = w.more.bare;
     tried = w.more.tried;
   };

@@ -176,7 +176,7 @@ module _ (setup : Setup) where
   module _ (plan : Plan) where
     pub like_told : (e : Entry) (old new : Tale) → Like old new → Like (told setup plan old e) (told setup plan new e)
     like_told (entry.Accepted port link salt) old new like =
-        like_seats (λ cs. cs ++ new_client (length cs + 1) link salt ∷ []) old new like
+        like_seats (λ cs. cs ++ new_client (length cs + 1) port link salt ∷ []) old new like
     like_told (entry.Opened server address link) old new like =
         like_wire link (new_wire server) (record old { links = old.links ++ link ∷ [] }) (record new { links = new.links ++ link ∷ [] }) (like_opened link old new like)
     like_told (entry.Got link bytes) old new like =

@@ -123,7 +123,7 @@ module _ (setup : Setup) (plan : Plan) where
 
   pub told_counted : (tale : Tale) (e : Entry) → Counted tale → Counted (told setup plan tale e)
   told_counted tale (entry.Accepted port link salt) are =
-      counted_last 1 tale.clients (new_client (length tale.clients + 1) link salt) are (omega arith)
+      counted_last 1 tale.clients (new_client (length tale.clients + 1) port link salt) are (omega arith)
   told_counted tale (entry.Got link bytes) are =
       counted_if (is_to_server tale link) (server_says setup plan link bytes tale) (record tale { clients = map (client_hears link bytes) tale.clients })
       (counted_same tale (server_says setup plan link bytes tale) (says-moved setup plan link bytes tale).clients are)

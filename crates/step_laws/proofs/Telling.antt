@@ -287,7 +287,7 @@ module _ (setup : Setup) (plan : Plan) (tale : Tale) where
 
   pub told_spares : (e : Entry) → Tells e
   told_spares (entry.Accepted port link salt) =
-      spares_told setup (λ l. is_link_id l link) (λ n. false) tale (record tale { clients = tale.clients ++ new_client (length tale.clients + 1) link salt ∷ [] }) refl refl refl
+      spares_told setup (λ l. is_link_id l link) (λ n. false) tale (record tale { clients = tale.clients ++ new_client (length tale.clients + 1) port link salt ∷ [] }) refl refl refl
   told_spares (entry.Opened server address link) =
       let more = record tale { links = tale.links ++ link ∷ [] } in
       spares_along setup (λ l. is_link_id l link) (λ n. false) tale more (with_wire link (new_wire server) more)

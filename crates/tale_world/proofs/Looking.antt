@@ -21,7 +21,7 @@ use Rattle.tale_world.specs.Served.{SameFor}
 
 module _ (client : Client) (view : View) (moment : ℕ) (p q : Plan) (same : SameFor client view moment p q) where
   abbrev talk_by : Service → Talk
-  talk_by service = record { setup = service; number = client.number.0; salt = client.salt; read = client.read }
+  talk_by service = record { setup = service; number = client.number.0; port = client.port; salt = client.salt; read = client.read }
 
   pub same_messages : messages p client ≡ messages q client
   same_messages = ap (λ s. (messages_of (talk_by s)).messages) same.service

@@ -28,13 +28,14 @@ use Rattle.core_tables.specs.declared.client.Client.{Client}
 use Rattle.core_tables.specs.declared.client.ClientNote.{ClientNote}
 use Rattle.core_tables.specs.declared.server.Server.{Server}
 use Rattle.core_stands.specs.Clients.{IsClient, IsClientOr}
-use Rattle.core_stands.specs.Grounds.{Ground}
+use Rattle.core_stands.specs.Grounds.{Ground, view_on}
 use Rattle.core_stands.specs.Servers.{IsServerOr}
 use Rattle.core_stands.specs.Stands.{AreClients, AreHomes, IsAt, IsHome, IsKnown, Stands, ArePrepared, IsPrepared}
 use Rattle.core_laws.specs.parting.Frames.{IsGlanced, glance}
 use Rattle.core_laws.specs.parting.Partings.{IsCounted}
 use Rattle.core_laws.specs.arrival.Comes.{IsComing, newest}
 use Rattle.core_laws.proofs.OfArrival.Changing.{AreIdle, InWork, RowsStay, put-other, put-same, servers-read}
+use Rattle.core_laws.proofs.OfPrepared.Knowing.{knows_none}
 use Rattle.core_laws.proofs.OfArrival.Finding.{client-same, client-true, false-true, link-same, link-true, none-some, of-known, same-some}
 use Rattle.core_laws.proofs.OfArrival.Forgetting.{home-links}
 use Rattle.core_laws.proofs.OfArrival.Grounding.{Aside, GoOn, regrounded, servers-so}
@@ -66,12 +67,12 @@ abbrev pub AreSeated : Type 0
 AreSeated = (tale : Tale) → AreCounted 1 (numbers tale) → All (IsSeated tale) tale.clients
 
 module _ (counts : CountsOn) (seats : AreSeated) (in_work : InWork) (stay : RowsStay) (service : Service) (g : Ground) (t now : Tabled) (port : Port)
-    (link : LinkId) (salt : List ℕ) (seat : Seat) (note : ClientNote) (over : ClientNo → Bool) (was : Stands service g t) (comes : IsComing g link salt)
-    (same : IsSame now (came (newest g link salt).number link seat note t))
-    (kept : (x : tales.Client) → is_client (newest g link salt).number x.number ≡ false → over x.number ≡ g.over x.number)
+    (link : LinkId) (salt : List ℕ) (seat : Seat) (note : ClientNote) (over : ClientNo → Bool) (was : Stands service g t) (comes : IsComing g port link salt)
+    (same : IsSame now (came (newest g port link salt).number link seat note t))
+    (kept : (x : tales.Client) → is_client (newest g port link salt).number x.number ≡ false → over x.number ≡ g.over x.number)
     (ends : (n : ClientNo) → g.over n ≡ true → over n ≡ true) where
   abbrev new : tales.Client
-  new = newest g link salt
+  new = newest g port link salt
 
   abbrev c : ClientNo
   c = new.number
@@ -242,6 +243,8 @@ module _ (counts : CountsOn) (seats : AreSeated) (in_work : InWork) (stay : Rows
     each = λ number one at. none-some (number_in seat.statements number) one (none number) at;
     unused = λ number greater. refl;
     kept = λ answered number greater. refl;
+    known = knows_none (view_on after) after.plan new row.desk.seat.statements;
+    stands = λ answered. knows_none (view_on after) after.plan new row.desk.seat.statements;
   }
 
   sat-before : (x : tales.Client) → is_client c x.number ≡ false → IsSeated after.tale x → IsSeated g.tale x

@@ -47,6 +47,8 @@ use Rattle.core_laws.proofs.OfArrival.Grounding.{regrounded}
 use Rattle.core_laws.proofs.OfArrival.Idling.{lack-idles}
 use Rattle.core_laws.proofs.OfArrival.Liking.{going-like}
 use Rattle.core_laws.proofs.OfArrival.Messaging.{Nexts, Outcome, Stood, looking, says-so, unfresh}
+use Rattle.client_session.specs.Setups.{users_at}
+use Rattle.mx_base.specs.declared.names.Port.{Port}
 
 -- What laws of seats say of a login.
 
@@ -55,7 +57,7 @@ Enters = (x : Known) (client : tales.Client) (seat : Seat) (default : List ℕ) 
     → IsWho client seat → (was : IsEntering x.plan client seat) → (next_of seat.client.stage seat.client).client.framer.fault ≡ None
     → opening x.plan.service.limit client.read ≡ Says switched response first (next_of seat.client.stage seat.client).client.framer.kept
     → was.written ++ (stepped seat).outbox.due ≡ said_to (next_of seat.client.stage seat.client).client x.plan.service.version switched
-    → account_of x.plan.service.users client.salt response ≡ Some user
+    → account_of (users_at x.plan.service client.port) client.salt response ≡ Some user
     → IsServed x.plan client (admitted default user response first (stepped seat)) user
     × IsWrittenOf client (admitted default user response first (stepped seat)) (due_so_far x client)
 
@@ -147,7 +149,7 @@ module _ (g : Ground) (now : Tabled) (default : List ℕ) (client : tales.Client
   none-came = coming-by row.desk.work idle going.working
 
   who-so : IsWho client left
-  who-so = record { link = own.who.link; number = same.0 ∙ own.who.number; salt = same.1 ∙ own.who.salt; drained = refl }
+  who-so = record { link = own.who.link; number = same.0 ∙ own.who.number; port = own.who.port; salt = same.1 ∙ own.who.salt; drained = refl }
 
   -- with another seat, in which the client doesn't wait for an answer
 
@@ -199,7 +201,7 @@ module _ (g : Ground) (now : Tabled) (default : List ℕ) (client : tales.Client
       → front_in (talk_of g.plan client) at ≡ greeted (talk_of g.plan client) switched ++ packets
       → was.written ++ left.outbox.due ≡ said_to found.client g.plan.service.version switched → Outcome g now client row (leaves packets left)
   parts-so at packets switched is none front said there = record {
-    who = record { link = who-so.link; number = who-so.number; salt = who-so.salt; drained = refl };
+    who = record { link = who-so.link; number = who-so.number; port = who-so.port; salt = who-so.salt; drained = refl };
     ended = refl;
     idle = idle;
     rested = lack-idles g.setup g.plan client g.tale (quiet-lacks g.plan client at is none);
@@ -224,16 +226,16 @@ module _ (g : Ground) (now : Tabled) (default : List ℕ) (client : tales.Client
   let-in user response first = admitted default user response first left
 
   account-so : (user : Account) (response : Response) (first : ℕ) (switched : Bool) (rest : List ℕ)
-      → opening_of (talk_of g.plan client) ≡ Says switched response first rest → account_of g.plan.service.users client.salt response ≡ Some user
+      → opening_of (talk_of g.plan client) ≡ Says switched response first rest → account_of (users_at g.plan.service client.port) client.salt response ≡ Some user
       → talks.account (talk_of g.plan client) ≡ Some user
   account-so user response first switched rest is known = ap (talks.account_in (talk_of g.plan client)) is ∙ known
 
   served-client : (user : Account) (response : Response) (first : ℕ) (switched : Bool) (rest : List ℕ)
-      → opening_of (talk_of g.plan client) ≡ Says switched response first rest → account_of g.plan.service.users client.salt response ≡ Some user
+      → opening_of (talk_of g.plan client) ≡ Says switched response first rest → account_of (users_at g.plan.service client.port) client.salt response ≡ Some user
       → IsServed g.plan client (let-in user response first) user → IsWrittenOf client (let-in user response first) (due_so_far (known_on g) client)
       → IsGoing after client (reseat (let-in user response first) row) → IsClient after client (reseat (let-in user response first) row)
   served-client user response first switched rest is known served owed on = record {
-    who = record { link = who-so.link; number = who-so.number; salt = who-so.salt; drained = refl };
+    who = record { link = who-so.link; number = who-so.number; port = who-so.port; salt = who-so.salt; drained = refl };
     heard = served;
     owed = record { written = owed.written; size = owed.size; all = owed.all };
     desk = desk-so (let-in user response first) who-so.number
@@ -243,7 +245,7 @@ module _ (g : Ground) (now : Tabled) (default : List ℕ) (client : tales.Client
   }
 
   in-so : (user : Account) (response : Response) (first : ℕ) (switched : Bool) (rest : List ℕ)
-      → opening_of (talk_of g.plan client) ≡ Says switched response first rest → account_of g.plan.service.users client.salt response ≡ Some user
+      → opening_of (talk_of g.plan client) ≡ Says switched response first rest → account_of (users_at g.plan.service client.port) client.salt response ≡ Some user
       → IsGoing after client (reseat (let-in user response first) row)
   in-so user response first switched rest is known =
       going-so (let-in user response first) refl refl
@@ -261,19 +263,19 @@ module _ (g : Ground) (now : Tabled) (default : List ℕ) (client : tales.Client
 
     denied-so : (response : Response) (first : ℕ) (switched : Bool) (rest : List ℕ) → opening_of (talk_of g.plan client) ≡ Says switched response first rest
         → was.written ++ left.outbox.due ≡ said_to found.client g.plan.service.version switched
-        → account_of g.plan.service.users client.salt response ≡ None
-        → Outcome g now client row (leaves (spelling first (denial_of g.plan.service.users left.client.salt response)) left)
+        → account_of (users_at g.plan.service client.port) client.salt response ≡ None
+        → Outcome g now client row (leaves (spelling first (denial_of (users_at g.plan.service left.port) left.client.salt response)) left)
     denied-so response first switched rest is said unknown =
-        parts-so (Says switched response first rest) (spelling first (denial_of g.plan.service.users left.client.salt response)) switched is
+        parts-so (Says switched response first rest) (spelling first (denial_of (users_at g.plan.service left.port) left.client.salt response)) switched is
         (ap (λ (user : Option Account). if_known user rest) unknown)
         (λ i. greeted (talk_of g.plan client) switched
-        ++ spelling first (login_answer (denial_of g.plan.service.users (sym (same.1 ∙ own.who.salt) i) response) (unknown i)))
+        ++ spelling first (login_answer (denial_of (users_at g.plan.service (sym own.who.port i)) (sym (same.1 ∙ own.who.salt) i) response) (unknown i)))
         said
 
     known-so : (user : Account) (response : Response) (first : ℕ) (switched : Bool) → found.client.framer.fault ≡ None
         → opening_of (talk_of g.plan client) ≡ Says switched response first found.client.framer.kept
         → was.written ++ left.outbox.due ≡ said_to found.client g.plan.service.version switched
-        → account_of g.plan.service.users client.salt response ≡ Some user
+        → account_of (users_at g.plan.service client.port) client.salt response ≡ Some user
         → Outcome g now client row (next_message g.plan.service.limit (let-in user response first))
     known-so user response first switched faultless is said known =
         let both = lets (known_on g) client seat default user response first switched own.who was faultless is said known in
@@ -285,7 +287,7 @@ module _ (g : Ground) (now : Tabled) (default : List ℕ) (client : tales.Client
     by-account : (response : Response) (first : ℕ) (switched : Bool) → found.client.framer.fault ≡ None
         → opening_of (talk_of g.plan client) ≡ Says switched response first found.client.framer.kept
         → was.written ++ left.outbox.due ≡ said_to found.client g.plan.service.version switched
-        → (user : Option Account) → account_of g.plan.service.users client.salt response ≡ user
+        → (user : Option Account) → account_of (users_at g.plan.service client.port) client.salt response ≡ user
         → Outcome g now client row (logs_in_as user g.plan.service default response first left)
     by-account response first switched faultless is said None known = denied-so response first switched found.client.framer.kept is said known
     by-account response first switched faultless is said (Some user) known = known-so user response first switched faultless is said known
@@ -298,9 +300,11 @@ module _ (g : Ground) (now : Tabled) (default : List ℕ) (client : tales.Client
         (λ i. opening (sym limit-so i) (sym (append-nil client.read) i)) ∙ login.2.whatever []
         ∙ ap (λ (kept : List ℕ). Says login.0 response first kept) (append-nil found.client.framer.kept) in
         subst (λ (given : Option Response). Outcome g now client row (logs_in_if g.plan.service default given first left)) (sym (ap login_of at))
-        (subst (λ (salt : List ℕ). Outcome g now client row (logs_in_as (account_of g.plan.service.users salt response) g.plan.service default response first left))
+        (subst (λ (port : Port). Outcome g now client row (logs_in_as (account_of (users_at g.plan.service port) left.client.salt response) g.plan.service default response first left))
+        (sym own.who.port)
+        (subst (λ (salt : List ℕ). Outcome g now client row (logs_in_as (account_of (users_at g.plan.service client.port) salt response) g.plan.service default response first left))
         (sym (same.1 ∙ own.who.salt))
-        (by-account response first login.0 login.1.faultless opened login.3 (account_of g.plan.service.users client.salt response) refl))
+        (by-account response first login.0 login.1.faultless opened login.3 (account_of (users_at g.plan.service client.port) client.salt response) refl)))
 
     refused-so : (first : ℕ) (fault : ClientFault) (switched : Bool)
         → ((more : List ℕ) → opening g.plan.service.limit (client.read ++ more) ≡ Fails switched fault first)

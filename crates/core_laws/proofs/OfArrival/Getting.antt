@@ -135,7 +135,7 @@ module _ (g : Ground) (by : Aside) (n : ℕ) (client : tales.Client) (row : Clie
 
   got-so : by.fresh client.number ≡ g.fresh client.number → IsClient g client row → IsClient after (fuller n client) (reseat (wrote n seat) row)
   got-so fresh is = record {
-    who = record { link = is.who.link; number = is.who.number; salt = is.who.salt; drained = is.who.drained };
+    who = record { link = is.who.link; number = is.who.number; port = is.who.port; salt = is.who.salt; drained = is.who.drained };
     heard = heard-in seat.phase is.heard;
     owed =
         subst (λ (flag : Bool). IsOwing seat.phase flag after (fuller n client) (wrote n seat)) (sym fresh)

@@ -136,7 +136,7 @@ module _ (g : Ground) (now : Tabled) (client : tales.Client) (row : Client) wher
     client-so : (framer : FramerState) (first : ℕ) → framer.limit ≡ seat.client.framer.limit → framer.kept ≡ seat.client.framer.kept → framer.fault ≡ None
         → (is_some row.desk.work ≡ true → first ≡ seat.first) → IsClient after client (reseat (framed framer first) row)
     client-so framer first limit kept faultless same = record {
-      who = record { link = own.who.link; number = own.who.number; salt = own.who.salt; drained = own.who.drained };
+      who = record { link = own.who.link; number = own.who.number; port = own.who.port; salt = own.who.salt; drained = own.who.drained };
       heard = subst (λ (at : Phase). IsHeardIn at g.plan client (framed framer first)) (sym serves)
           (served-so framer first limit kept faultless);
       owed = subst (λ (at : Phase). IsOwing at (fresh c) after client (framed framer first)) (sym serves)
@@ -267,7 +267,7 @@ module _ (g : Ground) (now : Tabled) (client : tales.Client) (row : Client) wher
     faulty-so : (fault : FrameFault) → first_message g.plan.service.limit 0 seat.client.framer.kept ≡ Faulty fault → seat.answered ≡ true
         → Outcome (leaves (spelling (fault_id 0 fault) (frame_error g.plan.service.limit fault)) (framed (seen seat.client.framer (Faulty fault)) seat.first))
     faulty-so fault is answered there = record {
-      who = record { link = own.who.link; number = own.who.number; salt = own.who.salt; drained = own.who.drained };
+      who = record { link = own.who.link; number = own.who.number; port = own.who.port; salt = own.who.salt; drained = own.who.drained };
       ended = refl;
       idle = idle answered;
       rested = lack-idles g.setup g.plan client g.tale

@@ -175,7 +175,7 @@ module _ (g : Ground) (by : Aside) (bytes : List ℕ) (client : tales.Client) (r
   pub spoken : ((plan : Plan) (x : tales.Client) (s : Seat) (other : List ℕ) → IsHeard plan x s → IsHeard plan (more other x) (got other s))
       → is_ended seat.phase ≡ false → IsClient g client row → IsClient after (more bytes client) (reseat (keeping bytes seat) row)
   spoken hears unended is = record {
-    who = record { link = is.who.link; number = is.who.number; salt = is.who.salt; drained = is.who.drained };
+    who = record { link = is.who.link; number = is.who.number; port = is.who.port; salt = is.who.salt; drained = is.who.drained };
     heard = subst (λ (s : Seat). IsHeard g.plan (more bytes client) s) (got-so bytes seat unended) (hears g.plan client seat bytes is.heard);
     owed = owed-in seat.phase (by.fresh client.number) refl is.heard is.owed unended;
     desk = record { number = is.desk.number; sessions = is.desk.sessions; place = is.desk.place; work = is.desk.work; row = is.desk.row };

@@ -47,6 +47,7 @@ module _ (service : Service) (g : Ground) (t : Tabled) (client : tales.Client) (
   continues = record {
     plan = refl;
     number = refl;
+    port = refl;
     salt = refl;
     more = [];
     read = sym (append-nil client.read);
@@ -74,7 +75,7 @@ module _ (service : Service) (g : Ground) (t : Tabled) (client : tales.Client) (
 
   pub leaves_so : IsLeaving after client (ended row.desk.seat)
   leaves_so = record {
-    who = record { link = row_is.who.link; number = row_is.who.number; salt = row_is.who.salt; drained = row_is.who.drained };
+    who = record { link = row_is.who.link; number = row_is.who.number; port = row_is.who.port; salt = row_is.who.salt; drained = row_is.who.drained };
     heard = tt;
     owed = record { written = front_of.written; size = front_of.size; front = front_of.front };
     placed = tt;

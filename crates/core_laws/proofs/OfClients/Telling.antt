@@ -225,7 +225,7 @@ module _ (service : Service) (g : Ground) (t : Tabled) (client : tales.Client) (
   pub leaves_told : kept.number ≡ seat.client.number → kept.salt ≡ seat.client.salt → kept.outgoing ≡ []
       → IsLeaving after client (told_seat payload kept seat)
   leaves_told number salt drained = record {
-    who = record { link = row_is.who.link; number = number ∙ row_is.who.number; salt = salt ∙ row_is.who.salt; drained = drained };
+    who = record { link = row_is.who.link; number = number ∙ row_is.who.number; port = row_is.who.port; salt = salt ∙ row_is.who.salt; drained = drained };
     heard = tt;
     owed = record { written = front_is.written; size = front_is.size; front = front_is.front };
     placed = tt;

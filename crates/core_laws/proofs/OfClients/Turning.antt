@@ -54,7 +54,10 @@ use Rattle.core_laws.specs.clients.Found.{AreFoundAt, IsAmong, IsFound, IsFoundI
 use Rattle.core_laws.specs.clients.Turns.{AnswersBy, Answers, Choice, ComesUp, EndsThere, Ends, Goes, GoesBy, Halt, HaltsSo, IsLookedAt, IsTurn, Keyed, MakesAnswer, asked_by, count_by, is_quitting}
 use Rattle.core_laws.specs.clients.Turns.{MayLeave, Quits, QuitsThere, Rests, RestsThere, Turns, Waits, WaitsThere}
 use Rattle.private_model.specs.View.{due_of}
-use Rattle.client_seat.specs.Numbers.{AreNoted}
+use Rattle.client_seat.specs.Numbers.{AreNoted, number_in}
+use Rattle.log_story.specs.Executes.{Prepared}
+use Rattle.router_promises.specs.Statements.{known_statement}
+use Rattle.core_laws.proofs.OfPrepared.Knowing.{knows_statement}
 use Rattle.session_state.specs.declared.place.Place.{Place}
 use Rattle.std.specs.Option.{option_map}
 
@@ -265,6 +268,10 @@ module _ (laws : Laws) (service : Service) (default : List ℕ) (first client : 
     unfolding came is_up
     stood_held = held_is service seen between client there came.stands is.taking.seated is_up.there
 
+    port_found : client.port ≡ (desk_up service default up.row).seat.port
+    unfolding came is_up
+    port_found = sym (its_row service seen between client there came.stands is.taking.seated is_up.there).who.port
+
     -- what it has prepared by then
     has_prepared : IsPrepared seen client there
     unfolding came is_up
@@ -274,6 +281,15 @@ module _ (laws : Laws) (service : Service) (default : List ℕ) (first client : 
     unfolding came is_up
     answered_now = came.up.answered
 
+    -- which is all that it knows
+    has_known : (number : ℕ) (made : Prepared) → 0 < number → known_statement (view_on seen) g.plan client number (suc client.taken) ≡ Some made
+        → is_some (number_in there.desk.seat.statements number) ≡ true
+    unfolding came is_up
+    has_known =
+        knows_statement (view_on seen) g.plan client there.desk.seat.statements
+        (λ k later. (its_row service seen between client there came.stands is.taking.seated is_up.there).coming.unanswered k (omega (arith, later)))
+        (has_prepared.stands answered_now)
+
     abbrev taking : Taking
     taking = record { client = client; message = came.up.message; tale = g.tale }
 
@@ -281,11 +297,13 @@ module _ (laws : Laws) (service : Service) (default : List ℕ) (first client : 
     unfolding has_prepared
     up_found = record {
       message_is = came.up.next.next ∙ ap (λ (m : Framed). Some m) (sym is_found);
+      port = port_found;
       login = ap user_in came.up.serves ∙ ap (λ (account : Account). account.user) (sym (is.let_in.account came.up.account came.up.served.known));
       place = subst (λ (at : Phase). IsPlaced at (view_on g) c (desk_up service default up.row).seat.place) came.up.serves stood.place;
       held = stood_held;
       prepared = has_prepared.each;
       unused = has_prepared.kept answered_now;
+      known = has_known;
     }
 
     looking : IsTaking service first from seen between client

@@ -3,7 +3,7 @@ use Rattle.std.specs.Prelude.{◌≡◌, ℕ, Bool, true, false, if◌then◌els
 use Rattle.std.proofs.Common.{refl, sym, ap, ◌∙◌, subst}
 use Rattle.std.proofs.lemmas.Bool.{false≢true, true≢false}
 use Rattle.std.proofs.lemmas.Option.{none-some, same_Some}
-use Rattle.client_session.specs.Setups.{Setup as Service}
+use Rattle.client_session.specs.Setups.{Setup as Service, users_at}
 use Rattle.handshake.specs.Response.{response_of}
 use Rattle.handshake.specs.declared.fault.HandFault.{HandFault}
 use Rattle.handshake.specs.declared.response.Response.{Response}
@@ -126,7 +126,7 @@ if_unfaulty : (found : Option Response) (setup : Service) (default : List ℕ) (
     → IsUnfaulty (logs_in_if setup default found first seat).seat.client
 if_unfaulty None setup default first seat at serves answered = unserved seat phase.LoggingIn at refl serves
 if_unfaulty (Some response) setup default first seat at serves answered =
-    as_unfaulty (account_of setup.users seat.client.salt response) setup default response first seat serves answered
+    as_unfaulty (account_of (users_at setup seat.port) seat.client.salt response) setup default response first seat serves answered
 
 looks_unfaulty : (step : ClientStep) (setup : Service) (default : List ℕ) (seat : Seat) → seat.phase ≡ phase.LoggingIn
     → Serves (looks_in setup default step seat).seat → (looks_in setup default step seat).seat.answered ≡ true

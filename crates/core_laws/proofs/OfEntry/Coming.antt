@@ -43,11 +43,11 @@ heads : (a b : Client) → a ∷ [] ≡ b ∷ [] → a ≡ b
 heads a b same = cc
 
 module _ (service : Service) (g : Ground) (t now : Tabled) (roomy : ClientNo → Bool) (port : Port) (link : LinkId) (salt : List ℕ)
-    (rests : Rests service g t roomy) (calm : IsUneventful g) (coming : IsComing g link salt)
-    (kept : gives_up g.plan (suc g.tale.moment) (name_of (newest g link salt) 0) ≡ false)
+    (rests : Rests service g t roomy) (calm : IsUneventful g) (coming : IsComing g port link salt)
+    (kept : gives_up g.plan (suc g.tale.moment) (name_of (newest g port link salt) 0) ≡ false)
     (stands : Stands service (accepted port link salt g) now) (undone : NoneDone g.setup g.plan (counted g.tale)) where
   abbrev new : Client
-  new = newest g link salt
+  new = newest g port link salt
 
   abbrev e : Entry
   e = Accepted port link salt

@@ -78,7 +78,7 @@ module _ (setup : Setup) (plan : Plan) (default : List ℕ) where
   who_before : (new : Tale) (client : Client) → IsHeardMore new client → AreWhoTheySay setup plan default new.clients → IsWho client
   who_before new client is who =
       let same : talk_of plan is.now ≡ heard_more (talk_of plan client) is.more =
-      λ i. record { setup = plan.service; number = (is.number i).0; salt = is.salt i; read = is.read i } in
+      λ i. record { setup = plan.service; number = (is.number i).0; port = is.port i; salt = is.salt i; read = is.read i } in
       who_by client is.now is.more is.number same (opening_of (talk_of plan client)) refl (seated_of IsWho new is.now is.seated who)
 
   pub all_before : (old new : Tale) → All (λ (client : Client). IsHeardMore new client) old.clients → AreWhoTheySay setup plan default new.clients

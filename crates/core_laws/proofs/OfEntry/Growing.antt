@@ -9,7 +9,7 @@ use Rattle.server_side.specs.Account.{Account}
 use Rattle.client_seat.proofs.Owing.{due_from, step, told_by}
 use Rattle.client_seat.specs.Stands.{Known, answer_to, due_so_far}
 use Rattle.client_session.specs.Accounts.{account_of}
-use Rattle.client_session.specs.Answers.{Talk, client_messages, commands_in, front, front_in, greeted, heard_more, if_known, messages_of, opening_of}
+use Rattle.client_session.specs.Answers.{Talk, client_messages, commands_in, front, front_in, greeted, heard_more, if_known, messages_of, opening_of, users_of}
 use Rattle.client_side.specs.Laws.{opening-fails-more, opening-says-more, opening-switched-more}
 use Rattle.client_side.specs.Login.{Fails, Opening, Says, Waits, switched_of}
 use Rattle.log_story.specs.Honest.{IsFront}
@@ -112,10 +112,10 @@ module _ (talk : Talk) (more : List ℕ) where
         (from_none talk.setup.limit _)
     by (Says switched response id rest) at =
         subst (λ (p : Opening). IsMore (client_messages talk.setup.limit (commands_in talk p)).messages (messages_of longer).messages) (sym at)
-        (subst (λ (p : Opening). IsMore (client_messages talk.setup.limit (if_known (account_of talk.setup.users talk.salt response) rest)).messages
+        (subst (λ (p : Opening). IsMore (client_messages talk.setup.limit (if_known (account_of (users_of talk) talk.salt response) rest)).messages
         (client_messages talk.setup.limit (commands_in longer p)).messages)
         (sym (opening-says-more talk.setup.limit talk.read more switched response id rest at))
-        (known_more (account_of talk.setup.users talk.salt response) rest))
+        (known_more (account_of (users_of talk) talk.salt response) rest))
 
   -- the answer to its login
 
@@ -187,7 +187,7 @@ module _ (x y : Known) (old new : Client) (on : Continues x y old new) where
   sent = take old.taken (messages x.plan old)
 
   pub same_talk : talk_of y.plan new ≡ heard_more (talk_of x.plan old) on.more
-  same_talk = λ i. record { setup = (on.plan i).service; number = (on.number i).0; salt = on.salt i; read = on.read i }
+  same_talk = λ i. record { setup = (on.plan i).service; number = (on.number i).0; port = on.port i; salt = on.salt i; read = on.read i }
 
   more_messages : IsMore (messages x.plan old) (messages y.plan new)
   more_messages =

@@ -29,6 +29,7 @@ heard_itself new client seated = record {
   now = client;
   seated = seated;
   number = refl;
+  port = refl;
   salt = refl;
   more = [];
   read = sym (append-nil client.read);

@@ -143,6 +143,7 @@ module _ (old new : Ground) (e : Entry) (client : Client) (is : IsLeft old new e
   goes_on going = record {
     plan = is.stay.plan;
     number = refl;
+    port = refl;
     salt = refl;
     more = [];
     read = sym (append-nil client.read);

@@ -136,7 +136,7 @@ module _ (setup : Setup) (plan : Plan) (whose : ClientNo → Bool) where
 
   pub told_seats : (tale : Tale) (e : Entry) → TellsOf whose tale e → Kept tale (told setup plan tale e)
   told_seats tale (entry.Accepted port link salt) its =
-      λ n other. come_seats whose (new_client (length tale.clients + 1) link salt) tale.clients its n other
+      λ n other. come_seats whose (new_client (length tale.clients + 1) port link salt) tale.clients its n other
   told_seats tale (entry.Opened server address link) its = same_clients tale (told setup plan tale (entry.Opened server address link)) refl
   told_seats tale (entry.Got link bytes) its = got_seats tale link bytes its
   told_seats tale (entry.Wrote link tag bytes) its = wrote_seats tale link tag bytes its

@@ -274,7 +274,7 @@ module _ (setup : Setup) (plan : Plan) (client : Client) where
   }
 
   pub told_aside : (tale : Tale) (e : Entry) → IsAside setup tale e client.number → Same tale (told setup plan tale e)
-  told_aside tale (entry.Accepted port link salt) aside = clients_aside (tale.clients ++ new_client (length tale.clients + 1) link salt ∷ []) tale
+  told_aside tale (entry.Accepted port link salt) aside = clients_aside (tale.clients ++ new_client (length tale.clients + 1) port link salt ∷ []) tale
   told_aside tale (entry.Opened server address link) aside = opened_aside server link tale
   told_aside tale (entry.Got link bytes) aside = got_aside link bytes tale aside
   told_aside tale (entry.Wrote link tag bytes) aside = wrote_aside link tag bytes tale aside

@@ -556,7 +556,7 @@ module _ (laws : DeskLaws) (g : Ground) (l : LinkId) (reply : Reply) (question :
 
     now_so : IsClient after client row_now
     now_so = record {
-      who = record { link = is.who.link; number = is.who.number; salt = is.who.salt; drained = is.who.drained };
+      who = record { link = is.who.link; number = is.who.number; port = is.who.port; salt = is.who.salt; drained = is.who.drained };
       heard = heard_now.0;
       owed = owed_by_phase seat.phase (g.fresh client.number) ended_is is.owed;
       desk = laws.answers g.setup g.codes seen client.number row.desk is.desk l reply n due asking n.hostgroup seat_now

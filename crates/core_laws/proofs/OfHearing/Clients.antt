@@ -180,7 +180,7 @@ module _ (g : Ground) (client : tales.Client) (row : Client) (is : IsClient g cl
 
   pub client_grown : IsClient g client grown_row
   client_grown = record {
-    who = record { link = is.who.link; number = is.who.number; salt = is.who.salt; drained = is.who.drained };
+    who = record { link = is.who.link; number = is.who.number; port = is.who.port; salt = is.who.salt; drained = is.who.drained };
     heard = heard_grown row.desk.seat.phase is.heard;
     owed = owed_grown row.desk.seat.phase (g.fresh client.number) is.owed;
     desk = record { number = is.desk.number; sessions = is.desk.sessions; place = is.desk.place; work = is.desk.work; row = is.desk.row };

@@ -87,7 +87,7 @@ module _ (g : Ground) (client : tales.Client) (row : Client) (s : ClientStatemen
 
   pub client_filed : row.desk.work ≡ None → IsClient g client row → IsClient g client filed
   client_filed idle is = record {
-    who = record { link = is.who.link; number = is.who.number; salt = is.who.salt; drained = is.who.drained };
+    who = record { link = is.who.link; number = is.who.number; port = is.who.port; salt = is.who.salt; drained = is.who.drained };
     heard = heard_filed row.desk.seat.phase is.heard;
     owed = owed_filed row.desk.seat.phase (g.fresh client.number) is.owed;
     desk = record { number = is.desk.number; sessions = is.desk.sessions; place = is.desk.place; work = is.desk.work; row = is.desk.row };

@@ -23,6 +23,7 @@ use Rattle.log_story.specs.Tale.{Tale, is_to_server, link_in, view_of}
 use Rattle.step_laws.specs.Seats.{IsSeated}
 use Rattle.stmt_map.specs.Client.{Changes, fresh, statement_at}
 use Rattle.stmt_map.specs.declared.client.ClientStatements.{ClientStatements}
+use Rattle.stmt_map.specs.declared.statement.Statement as stmts
 use Rattle.stmt_map.specs.declared.statement.Prepared.{Prepared}
 use Rattle.link_state.specs.declared.asking.Purpose.{Purpose}
 use Rattle.link_state.specs.declared.asking.Purpose.TheVariants as purposes
@@ -45,14 +46,15 @@ use Rattle.core_tables.specs.declared.server.Server.{Server}
 use Rattle.core_stands.specs.Clients.{IsClient, IsGoing, IsNumberedNext, IsWorking, IsWorkingOr}
 use Rattle.core_stands.specs.Grounds.{Ground, known_on, on, view_on}
 use Rattle.core_stands.specs.Servers.{IsReplying, IsServer}
-use Rattle.core_stands.specs.Stands.{IsDuly, IsKeyedFor, IsPrepared, Stands}
+use Rattle.core_stands.specs.Stands.{IsDuly, IsKeyedFor, IsPrepared, KnowsFirst, Stands}
 use Rattle.core_laws.proofs.OfHearing.Answered.{IsReplied, IsUnreplied}
 use Rattle.core_laws.proofs.OfHearing.Elsewhere.{CarriedLaw, HomedLaw}
 use Rattle.core_laws.proofs.OfHearing.Laws.{DeskLaws, OthersStay}
 use Rattle.core_laws.proofs.OfHearing.Parted.{over_by, parted_at}
 use Rattle.core_laws.proofs.OfHearing.Preparing.{HeardOf, run_duly, run_lawful}
 use Rattle.core_laws.proofs.OfHearing.Standing.{replying_so, server_is}
-use Rattle.core_laws.proofs.OfPrepared.Keeping.{MakesNone, going_within, none_more, none_replied, prepared_as, size_of}
+use Rattle.core_laws.proofs.OfPrepared.Keeping.{MakesNone, going_within, prepared_as}
+use Rattle.core_laws.proofs.OfPrepared.Knowing.{none_behind, none_more, none_replied, size_of}
 use Rattle.core_laws.proofs.OfPrepared.Rows.{unanswered_row, unreplied}
 use Rattle.core_laws.proofs.OfWriting.Numbering.{number_routed}
 
@@ -181,10 +183,10 @@ module _ (laws : DeskLaws) (stay : OthersStay) (carried_law : CarriedLaw) (homed
       }) (going_within g client of.old was on) (stands.prepared client sits of.old of.there on) where
         by : (answered : Bool) → of.old.desk.seat.answered ≡ answered
             → ((of.old.desk.seat.answered ≡ true) × ((view_of g.setup T).replies (name_of client client.taken) ≡ (view_on g).replies (name_of client client.taken)))
-            ⊎ MakesNone (view_of g.setup T) g.plan client of.old.desk.seat.statements
+            ⊎ MakesNone (view_of g.setup T) g.plan client
         by true at = inl (at, says.replies (name_of client client.taken))
         by false at =
-            inr (λ number payload greater.
+            inr (λ number payload some.
             none_replied number client.taken payload (g.plan.routes (name_of client client.taken)) ((view_of g.setup T).replies (name_of client client.taken))
             (says.replies (name_of client client.taken) ∙ unanswered_row g client of.old goes at))
 
@@ -286,13 +288,13 @@ module _ (laws : DeskLaws) (stay : OthersStay) (carried_law : CarriedLaw) (homed
       abbrev Answers : Type 0
       Answers =
           ((of.old.desk.seat.answered ≡ true) × (seen_now.replies (name_of client client.taken) ≡ (view_on g).replies (name_of client client.taken)))
-          ⊎ MakesNone seen_now g.plan client of.old.desk.seat.statements
+          ⊎ MakesNone seen_now g.plan client
 
       by_old : seen_now.replies (name_of client client.taken) ≡ (view_on g).replies (name_of client client.taken)
           → (answered : Bool) → of.old.desk.seat.answered ≡ answered → Answers
       by_old same true at = inl (at, same)
       by_old same false at =
-          inr (λ number payload greater.
+          inr (λ number payload some.
           none_replied number client.taken payload (g.plan.routes (name_of client client.taken)) (seen_now.replies (name_of client client.taken))
           (same ∙ unanswered_row g client of.old goes at))
 
@@ -304,11 +306,11 @@ module _ (laws : DeskLaws) (stay : OthersStay) (carried_law : CarriedLaw) (homed
           ap (λ (b : Bool). b && is_made is.reply) (ne_eqb duly.route.number number (λ same. omega (arith, same, zero_is, some)))
 
       none_made : name_of client client.taken ≡ message_of is.n is.due → (is_prepare is.due.command && is_made is.reply) ≡ false
-          → MakesNone seen_now g.plan client of.old.desk.seat.statements
-      none_made named none number payload greater =
+          → MakesNone seen_now g.plan client
+      none_made named none number payload some =
           none_at number client.taken payload (g.plan.routes (name_of client client.taken)) (seen_now.replies (name_of client client.taken)) duly.route is.reply
           (ap g.plan.routes named ∙ duly.routed) (ap seen_now.replies named ∙ replied_now)
-          (unnumbered_or (is_prepare is.due.command) refl none number (omega (arith, greater)))
+          (unnumbered_or (is_prepare is.due.command) refl none number some)
 
       pub unmade_prepared : (name_of client client.taken ≡ message_of is.n is.due → (is_prepare is.due.command && is_made is.reply) ≡ false)
           → IsPrepared after client row
@@ -407,22 +409,22 @@ module _ (laws : DeskLaws) (stay : OthersStay) (carried_law : CarriedLaw) (homed
             absurd (true≢false (ap (is_answered g.plan g.tale (view_on g) client) (sym same) ∙ sym goes.answered ∙ not_answered))
         more (suc k) same = record { k = k; count = same }
 
-        some : IsMore
-        some = more client.taken refl
+        some_more : IsMore
+        some_more = more client.taken refl
 
-        part : IsParted some.k (messages g.plan client)
-        part = part_of some.k (messages g.plan client) (let count = some.count in omega (arith, count, within))
+        part : IsParted some_more.k (messages g.plan client)
+        part = part_of some_more.k (messages g.plan client) (let count = some_more.count in omega (arith, count, within))
 
-        before_is : client.taken - 1 ≡ some.k
-        before_is = (let count = some.count in omega (arith, count))
+        before_is : client.taken - 1 ≡ some_more.k
+        before_is = (let count = some_more.count in omega (arith, count))
 
-        size : length (take some.k (messages g.plan client)) ≡ some.k
-        size = size_of some.k (messages g.plan client) (let count = some.count in omega (arith, count, within))
+        size : length (take some_more.k (messages g.plan client)) ≡ some_more.k
+        size = size_of some_more.k (messages g.plan client) (let count = some_more.count in omega (arith, count, within))
 
-        place : 1 + length (take some.k (messages g.plan client)) ≡ client.taken
-        place = (let count = some.count in omega (arith, count, size))
+        place : 1 + length (take some_more.k (messages g.plan client)) ≡ client.taken
+        place = (let count = some_more.count in omega (arith, count, size))
 
-        unused_front : (number : ℕ) → old.last < number → prepared_by seen_now g.plan client number 1 (take some.k (messages g.plan client)) ≡ None
+        unused_front : (number : ℕ) → old.last < number → prepared_by seen_now g.plan client number 1 (take some_more.k (messages g.plan client)) ≡ None
         unused_front number greater =
             subst (λ (n : ℕ). prepared_by seen_now g.plan client number 1 (take n (messages g.plan client)) ≡ None) before_is (unused number greater)
 
@@ -434,9 +436,9 @@ module _ (laws : DeskLaws) (stay : OthersStay) (carried_law : CarriedLaw) (homed
         kept_none : (number : ℕ) → old.last + 1 < number
             → prepared_by seen_now g.plan client number 1 (take client.taken (messages g.plan client)) ≡ None
         kept_none number greater =
-            (λ i. prepared_by seen_now g.plan client number 1 (take (some.count i) (messages g.plan client)))
+            (λ i. prepared_by seen_now g.plan client number 1 (take (some_more.count i) (messages g.plan client)))
             ∙ ap (prepared_by seen_now g.plan client number 1) part.front
-            ∙ none_more seen_now g.plan client number 1 (take some.k (messages g.plan client)) part.message (unused_front number (omega (arith, greater)))
+            ∙ none_more seen_now g.plan client number 1 (take some_more.k (messages g.plan client)) part.message (unused_front number (omega (arith, greater)))
             (subst (λ (k : ℕ). prepared_in number k part.message.payload (g.plan.routes (name_of client k)) (seen_now.replies (name_of client k)) ≡ None)
             (sym place)
             (none_at number client.taken part.message.payload (g.plan.routes (name_of client client.taken)) (seen_now.replies (name_of client client.taken))
@@ -444,7 +446,7 @@ module _ (laws : DeskLaws) (stay : OthersStay) (carried_law : CarriedLaw) (homed
 
         own : (number : ℕ) → nat_eq (old.last + 1) number ≡ true → IsNumbered (known_on after) client (λ (k : ℕ). k) number (numbered (fresh prepared))
         own number here = makes (known_on after) client (λ (k : ℕ). k) number (numbered (fresh prepared)) (record {
-          before = take some.k (messages g.plan client);
+          before = take some_more.k (messages g.plan client);
           message = part.message;
           behind = part.behind;
           all = part.all;
@@ -466,6 +468,11 @@ module _ (laws : DeskLaws) (stay : OthersStay) (carried_law : CarriedLaw) (homed
           unbound = refl;
         })
 
+        own_there : (number : ℕ) → nat_eq (old.last + 1) number ≡ true → is_some (number_in s number) ≡ true
+        own_there number here =
+            ap (λ (o : Option stmts.Statement). is_some (option_map numbered o))
+            (ap (statement_at s) (sym (number_same (old.last + 1) number here)) ∙ kept_so.1.same)
+
         each : (number : ℕ) (one : Numbered) → number_in s number ≡ Some one → IsNumbered (known_on after) client (λ (k : ℕ). k) number one
         each number one at = by (nat_eq (old.last + 1) number) refl where
           by : (b : Bool) → nat_eq (old.last + 1) number ≡ b → IsNumbered (known_on after) client (λ (k : ℕ). k) number one
@@ -476,11 +483,46 @@ module _ (laws : DeskLaws) (stay : OthersStay) (carried_law : CarriedLaw) (homed
               (same_Some (numbered (fresh prepared)) one it) (own number here)
           by false other = before.each number one (ap (option_map numbered) (sym (kept_so.1.others number other)) ∙ at)
 
+        -- what the client knows stands there, and what it prepared now does too
+
+        stays_kept : (number : ℕ) → is_some (number_in old number) ≡ true → is_some (number_in s number) ≡ true
+        stays_kept number was = by (nat_eq (old.last + 1) number) refl where
+          by : (b : Bool) → nat_eq (old.last + 1) number ≡ b → is_some (number_in s number) ≡ true
+          by true here = own_there number here
+          by false other = ap (λ (o : Option stmts.Statement). is_some (option_map numbered o)) (kept_so.1.others number other) ∙ was
+
+        known_now : KnowsFirst seen_now g.plan client s (client.taken - 1)
+        known_now number p some has kept = stays_kept number (before.known number p some has kept)
+
+        stands_now : KnowsFirst seen_now g.plan client s client.taken
+        stands_now number p some has kept = by (nat_eq (old.last + 1) number) refl where
+          unnumbered : nat_eq (old.last + 1) number ≡ false → (nat_eq duly.route.number number && is_made is.reply) ≡ false
+          unnumbered other = ap (λ (b : Bool). b && is_made is.reply) (ap (λ (n : ℕ). nat_eq n number) number_next ∙ other)
+
+          front : nat_eq (old.last + 1) number ≡ false
+              → prepared_by seen_now g.plan client number 1 (take client.taken (messages g.plan client))
+              ≡ prepared_by seen_now g.plan client number 1 (take (client.taken - 1) (messages g.plan client))
+          front other =
+              (λ i. prepared_by seen_now g.plan client number 1 (take (some_more.count i) (messages g.plan client)))
+              ∙ ap (prepared_by seen_now g.plan client number 1) part.front
+              ∙ none_behind seen_now g.plan client number 1 (take some_more.k (messages g.plan client)) part.message
+              (subst (λ (k : ℕ). prepared_in number k part.message.payload (g.plan.routes (name_of client k)) (seen_now.replies (name_of client k)) ≡ None)
+              (sym place)
+              (none_at number client.taken part.message.payload (g.plan.routes (name_of client client.taken)) (seen_now.replies (name_of client client.taken))
+              duly.route is.reply routed (ap seen_now.replies named ∙ replied_now) (unnumbered other)))
+              ∙ ap (λ (n : ℕ). prepared_by seen_now g.plan client number 1 (take n (messages g.plan client))) (sym before_is)
+
+          by : (b : Bool) → nat_eq (old.last + 1) number ≡ b → is_some (number_in s number) ≡ true
+          by true here = own_there number here
+          by false other = known_now number p some (sym (front other) ∙ has) kept
+
         pub made_prepared : (now : Client) → now.desk.seat.statements ≡ s → IsPrepared after client now
         made_prepared now same = record {
           each = λ number one at. each number one (ap (λ (x : ClientStatements). number_in x number) (sym same) ∙ at);
           unused = λ number greater. unused number (let past = over number greater in omega (arith, past));
           kept = λ answered number greater. kept_none number (over number greater);
+          known = subst (λ (x : ClientStatements). KnowsFirst seen_now g.plan client x (client.taken - 1)) (sym same) known_now;
+          stands = λ answered. subst (λ (x : ClientStatements). KnowsFirst seen_now g.plan client x client.taken) (sym same) stands_now;
         } where
           over : (number : ℕ) → now.desk.seat.statements.last < number → old.last + 1 < number
           over number greater = (let count = ap (λ (x : ClientStatements). x.last) same ∙ kept_so.0 in omega (arith, count, greater))

@@ -190,7 +190,7 @@ module _ (g : Ground) (client : tales.Client) where
         let going = going_of (is_ended row.desk.seat.phase) is.phase in
         let on = ended_not (is_ended row.desk.seat.phase) is.phase in
         record {
-          who = record { link = is.who.link; number = is.who.number; salt = is.who.salt; drained = is.who.drained };
+          who = record { link = is.who.link; number = is.who.number; port = is.who.port; salt = is.who.salt; drained = is.who.drained };
           heard = heard_given row.desk.seat.phase going is.heard;
           owed = owed_given owes row.desk.seat.phase (g.fresh client.number) on going is.heard is.owed;
           desk = desks g.setup.reads (view_on g) client.number row.desk is.desk payload;

@@ -16,7 +16,8 @@ use Rattle.core_stands.specs.Clients.{IsClient}
 use Rattle.core_stands.specs.Grounds.{Ground, view_on}
 use Rattle.core_stands.specs.Stands.{AreClients, ArePrepared, IsPrepared}
 use Rattle.core_laws.proofs.OfEntry.Growing.{messages_more}
-use Rattle.core_laws.proofs.OfPrepared.Keeping.{going_within, none_replied, prepared_as}
+use Rattle.core_laws.proofs.OfPrepared.Keeping.{going_within, prepared_as}
+use Rattle.core_laws.proofs.OfPrepared.Knowing.{none_replied}
 use Rattle.core_laws.proofs.OfPrepared.Rows.{AreRows, RowOf, going_row, its_client, unreplied}
 
 -- its messages are those that it had, and maybe more

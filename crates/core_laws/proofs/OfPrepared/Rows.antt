@@ -1,12 +1,11 @@
 -- What clients have prepared stands so where their rows keep it.
-use Rattle.std.specs.Prelude.{◌≡◌, ◌⊎◌, ℕ, zero, suc, Bool, true, false, not, ◌||◌, is_some, nat_eq, if◌then◌else◌, List, [], ◌∷◌, Option, Some, None}
+use Rattle.std.specs.Prelude.{◌≡◌, ◌⊎◌, ℕ, zero, suc, Bool, true, false, not, is_some, nat_eq, if◌then◌else◌, List, [], Option, Some, None}
 use Rattle.std.specs.Option.{option_map}
 use Rattle.std.proofs.Common.{refl, sym, ap, ◌∙◌, subst, append-nil, inl, inr}
 use Rattle.std.proofs.lemmas.Bool.{or_parts, true≢false}
 use Rattle.std.proofs.lemmas.Option.{none-some, same_Some}
 use Rattle.mx_base.specs.declared.names.Hostgroup.{Hostgroup}
 use Rattle.private_model.proofs.Maps.{client_of}
-use Rattle.private_model.specs.Commands.{Reply}
 use Rattle.private_model.specs.Names.{ClientNo, MessageName, SessionName}
 use Rattle.log_story.specs.Clients.{is_answered}
 use Rattle.log_story.specs.Owed.{messages, name_of}
@@ -26,7 +25,8 @@ use Rattle.core_stands.specs.Clients.{IsClient, IsClientOr, IsGoing, IsPhase}
 use Rattle.core_stands.specs.Grounds.{Ground, view_on}
 use Rattle.core_stands.specs.Stands.{AreClients, ArePrepared, IsAt, IsPrepared}
 use Rattle.core_laws.proofs.OfEntry.Lists.{seated_of}
-use Rattle.core_laws.proofs.OfPrepared.Keeping.{IsAs, going_within, none_replied, prepared_as}
+use Rattle.core_laws.proofs.OfPrepared.Keeping.{going_within, prepared_as}
+use Rattle.core_laws.proofs.OfPrepared.Knowing.{none_replied}
 
 -- The row that a row was, with the same of what is prepared: of all its messages, where the last isn't answered that was in work.
 pub record RowOf (t : Tabled) (c : ClientNo) (row : Client) : Type 0 where

@@ -1,12 +1,13 @@
 -- What a client has prepared stands so as its next message is taken up.
-use Rattle.std.specs.Prelude.{◌≡◌, ◌≤◌, ◌<◌, ◌+◌, ◌-◌, ℕ, suc, Bool, true, not, is_some, length, take, List, [], ◌∷◌, ◌++◌, Option, Some, None}
+use Rattle.std.specs.Prelude.{◌≡◌, ◌≤◌, ◌<◌, ◌+◌, ◌-◌, ℕ, suc, Bool, true, false, not, drop, if◌then◌else◌, is_some, length, take, List, [], ◌∷◌, ◌++◌, Option, Some, None}
+use Rattle.std.specs.List.{list_any}
 use Rattle.std.specs.Option.{option_and_then}
 use Rattle.std.proofs.Common.{refl, sym, ap, ◌∙◌, subst, arith}
 use Rattle.std.proofs.lemmas.Option.{none-some, slice_get_within}
 use Rattle.packet_frame.specs.Packets.{Framed}
 use Rattle.private_model.specs.Names.{MessageName}
 use Rattle.private_model.specs.Story.{Story}
-use Rattle.log_story.specs.Executes.{prepared_by, prepared_in}
+use Rattle.log_story.specs.Executes.{bound_after, prepared_by, prepared_in}
 use Rattle.log_story.specs.Owed.{messages, name_of}
 use Rattle.log_story.specs.Plan.{Route}
 use Rattle.log_story.specs.Tale as tales
@@ -14,12 +15,13 @@ use Rattle.log_story.specs.Tale.{view_of, with_client}
 use Rattle.step_laws.specs.Taken.{next_of}
 use Rattle.client_seat.proofs.Numbering.{goes_on}
 use Rattle.client_seat.proofs.Preparing.{number-noted}
-use Rattle.client_seat.specs.Numbers.{AreNoted, Numbered, noted, number_in}
+use Rattle.client_seat.specs.Numbers.{AreNoted, Numbered, drops, noted, number_in}
 use Rattle.client_seat.specs.Stands.{IsNext, IsNumbered, IsOnward, is_refused}
 use Rattle.core_tables.specs.declared.client.Client.{Client}
 use Rattle.core_stands.specs.Grounds.{Ground, known_on, on, view_on}
-use Rattle.core_stands.specs.Stands.{IsPrepared}
-use Rattle.core_laws.proofs.OfPrepared.Keeping.{MakesNone, none_more, none_routed, same_prepared, size_of}
+use Rattle.core_stands.specs.Stands.{IsPrepared, KnowsFirst}
+use Rattle.core_laws.proofs.OfPrepared.Keeping.{MakesNone}
+use Rattle.core_laws.proofs.OfPrepared.Knowing.{kept_since, knows_behind, none_more, none_routed, ordinal_within, same_prepared, size_of}
 
 module _ (g : Ground) (past : Story) (client : tales.Client) (row new : Client) (message : Framed) (refused : Bool)
     (prepared : IsPrepared g client row) (answered : row.desk.seat.answered ≡ true) (next : IsNext g.plan client message)
@@ -73,8 +75,30 @@ module _ (g : Ground) (past : Story) (client : tales.Client) (row new : Client) 
       (λ k from below. replies (name_of client k))
       ∙ prepared.kept answered number (subst (λ (last : ℕ). last < number) are.last greater)
 
+  -- what isn't dropped by it stays
+  stays_noted : (number : ℕ) → drops number message.payload ≡ false → is_some (number_in row.desk.seat.statements number) ≡ true
+      → is_some (number_in new.desk.seat.statements number) ≡ true
+  stays_noted number kept some = ap is_some (are.each number) ∙ by (number_in row.desk.seat.statements number) some where
+    by : (found : Option Numbered) → is_some found ≡ true → is_some (option_and_then (noted refused number message.payload) found) ≡ true
+    by None is = is
+    by (Some one) is =
+        ap (λ (b : Bool). is_some (if b then None else Some (record one {
+          bound = bound_after one.prepared.params number refused message.payload one.bound;
+        }))) kept
+
+  known_then : KnowsFirst (view_on after) g.plan (next_of client) new.desk.seat.statements client.taken
+  known_then number made some has kept =
+      let front = take client.taken (messages g.plan client) in
+      let size : length front ≡ client.taken = size_of client.taken (messages g.plan client) (omega (arith, within)) in
+      let was : prepared_by (view_on g) g.plan client number 1 front ≡ Some made =
+      sym (same_prepared (view_on g) (view_on after) g.plan client (next_of client) number 1 front refl (λ k from below. replies (name_of client k))) ∙ has in
+      let place : made.ordinal < 1 + length front = ordinal_within (view_on g) g.plan client number 1 front made was in
+      let since = kept_since number made.ordinal front message (omega (arith, place))
+      (ap (λ (ms : List Framed). list_any (λ (sent : Framed). drops number sent.payload) (drop made.ordinal ms)) (sym next.before) ∙ kept) in
+      stays_noted number since.1 (prepared.stands answered number made some was since.0)
+
   -- where it makes nothing under another number, if it is answered
-  pub prepared_then : (new.desk.seat.answered ≡ true → MakesNone (view_on after) g.plan (next_of client) new.desk.seat.statements)
+  pub prepared_then : (new.desk.seat.answered ≡ true → MakesNone (view_on after) g.plan (next_of client))
       → IsPrepared after (next_of client) new
   prepared_then makes = record {
     each = each_then;
@@ -89,13 +113,19 @@ module _ (g : Ground) (past : Story) (client : tales.Client) (row new : Client) 
         ap (prepared_by (view_on after) g.plan (next_of client) number 1) next.before
         ∙ none_more (view_on after) g.plan (next_of client) number 1 (take client.taken (messages g.plan client)) message (unused_then number greater)
         (subst (λ (k : ℕ). prepared_in number k message.payload (g.plan.routes (name_of client k)) ((view_on after).replies (name_of client k)) ≡ None) place
-        (makes back number message.payload greater));
+        (makes back number message.payload (omega (arith, greater))));
+    known =
+        let before : suc client.taken - 1 ≡ client.taken = omega arith in
+        subst (λ (n : ℕ). KnowsFirst (view_on after) g.plan (next_of client) new.desk.seat.statements n) (sym before) known_then;
+    stands = λ back.
+        knows_behind (view_on after) g.plan (next_of client) new.desk.seat.statements client.taken within_then
+        (λ number payload some. makes back number payload some) known_then;
   }
 
   -- one that goes to no server makes nothing
   pub prepared_unrouted : g.plan.routes (name_of client (suc client.taken)) ≡ None → IsPrepared after (next_of client) new
   prepared_unrouted unrouted =
-      prepared_then (λ back number payload greater.
+      prepared_then (λ back number payload some.
       none_routed number (suc client.taken) payload (g.plan.routes (name_of client (suc client.taken)))
       ((view_on after).replies (name_of client (suc client.taken))) unrouted)
 

@@ -8,7 +8,7 @@ use Rattle.client_side.specs.Steps as steps
 use Rattle.client_side.specs.declared.step.ClientStep.{ClientStep}
 use Rattle.client_side.specs.declared.step.ClientStep.TheVariants as says
 use Rattle.client_session.specs.Accounts.{account_of}
-use Rattle.client_session.specs.Setups.{Setup}
+use Rattle.client_session.specs.Setups.{Setup, users_at}
 use Rattle.client_seat.specs.Seats.{has_room}
 use Rattle.client_seat.specs.Turns.{Turn, admitted, comes_up, login_found, logs_in_as, logs_in_if, looks_in, message_by, message_found, next_message, rests, stepped_in, turned_in}
 use Rattle.client_seat.specs.declared.next.Next.TheVariants as next
@@ -44,7 +44,7 @@ login_keeps None setup default response first seat = (refl, refl)
 response_keeps : (found : Option Response) (setup : Setup) (default : List ℕ) (first : ℕ) (seat : Seat) → IsKept seat (logs_in_if setup default found first seat)
 response_keeps None setup default first seat = (refl, refl)
 response_keeps (Some response) setup default first seat =
-    login_keeps (account_of setup.users seat.client.salt response) setup default response first seat
+    login_keeps (account_of (users_at setup seat.port) seat.client.salt response) setup default response first seat
 
 looks_keep : (setup : Setup) (default : List ℕ) (step : ClientStep) (seat : Seat) → IsKept seat (looks_in setup default step seat)
 looks_keep setup default (says.Login first) seat = response_keeps (login_of seat.client.stage) setup default first seat

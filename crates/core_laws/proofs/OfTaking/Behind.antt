@@ -191,7 +191,7 @@ module _ (g : Ground) (client : tales.Client) (row : Client) (is : IsClient g cl
     answered_stands seats payloads packets unrouted own says =
         let after : Ground = on g (with_client (next_of client) g.tale) in
         record {
-          who = record { link = is.who.link; number = is.who.number; salt = is.who.salt; drained = is.who.drained };
+          who = record { link = is.who.link; number = is.who.number; port = is.who.port; salt = is.who.salt; drained = is.who.drained };
           heard = heard_by (answered_seat packets) refl;
           owed = subst (λ (at : Phase). IsOwing at (g.fresh client.number) after (next_of client) (answered_seat packets)) (sym up.serves)
               (owed_with payloads packets own says);
@@ -297,7 +297,7 @@ module _ (g : Ground) (client : tales.Client) (row : Client) (is : IsClient g cl
       pub sent_stands : Seats → Dues → IsNumberedAs route work seat.statements → statements.last ≡ seat.statements.last
           → IsClient after (next_of client) (sent_row work)
       sent_stands seats dues numbered last = record {
-        who = record { link = is.who.link; number = is.who.number; salt = is.who.salt; drained = is.who.drained };
+        who = record { link = is.who.link; number = is.who.number; port = is.who.port; salt = is.who.salt; drained = is.who.drained };
         heard = heard_by (sent_seat work) refl;
         owed = subst (λ (at : Phase). IsOwing at (g.fresh client.number) after (next_of client) (sent_seat work)) (sym up.serves)
             (owed_without work sends.unanswered);

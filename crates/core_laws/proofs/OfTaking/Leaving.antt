@@ -159,7 +159,7 @@ module _ (g : Ground) (client : tales.Client) (row : Client) (is : IsClient g cl
   pub leaves_anew : (view_step g.setup (view_on g) (Left client.number)).places client.number ≡ (begun_anew row.desk.seat).place
       → IsLeaving gone client (begun_anew row.desk.seat)
   leaves_anew stands = record {
-    who = record { link = is.who.link; number = is.who.number; salt = is.who.salt; drained = is.who.drained };
+    who = record { link = is.who.link; number = is.who.number; port = is.who.port; salt = is.who.salt; drained = is.who.drained };
     heard = subst (λ (at : Phase). IsHeardIn at g.plan client (begun_anew row.desk.seat)) (sym up.serves) anew_found.served;
     owed = subst (λ (at : Phase). IsOwing at (g.fresh client.number) gone client (begun_anew row.desk.seat)) (sym up.serves) written;
     placed = subst (λ (at : Phase). IsPlaced at (view_on gone) client.number (begun_anew row.desk.seat).place) (sym up.serves) stands;
@@ -220,7 +220,7 @@ module _ (g : Ground) (client : tales.Client) (row : Client) (is : IsClient g cl
 
   pub leaves_ended : IsLeaving (on g (tell (Left client.number) g.tale)) client (ended row.desk.seat)
   leaves_ended = record {
-    who = record { link = is.who.link; number = is.who.number; salt = is.who.salt; drained = is.who.drained };
+    who = record { link = is.who.link; number = is.who.number; port = is.who.port; salt = is.who.salt; drained = is.who.drained };
     heard = tt;
     owed =
         let was = owed g client row is up in
@@ -246,7 +246,7 @@ module _ (g : Ground) (client : tales.Client) (row : Client) (is : IsClient g cl
 
     pub quit_stands : IsClient (on over (with_client (next_of client) over.tale)) (next_of client) quits
     quit_stands = record {
-      who = record { link = is.who.link; number = is.who.number; salt = is.who.salt; drained = is.who.drained };
+      who = record { link = is.who.link; number = is.who.number; port = is.who.port; salt = is.who.salt; drained = is.who.drained };
       heard = tt;
       owed = record {
         written = now.owed.written;

@@ -2,7 +2,6 @@
 use Rattle.std.specs.Prelude.{◌≡◌, ℕ, ◌+◌, false, All, length, List, [], ◌∷◌, None}
 use Rattle.mx_base.specs.declared.names.LinkId.{LinkId}
 use Rattle.mx_base.specs.declared.names.Port.{Port}
-use Rattle.mx_base.specs.declared.names.Port.TheVariants.{Traffic, Admin}
 use Rattle.mx_wire.specs.declared.entry.Entry.TheVariants.{Accepted}
 use Rattle.client_session.specs.Errors.{too_many_connections}
 use Rattle.private_model.specs.Story.{is_link_id}
@@ -17,8 +16,8 @@ use Rattle.core_laws.specs.parting.Partings.{AreCounted}
 
 -- Behind its entry, which is counted at once.
 
-abbrev pub newest : Ground → LinkId → (salt : List ℕ) → tales.Client
-newest g link salt = tales.new_client (length g.tale.clients + 1) link salt
+abbrev pub newest : Ground → Port → LinkId → (salt : List ℕ) → tales.Client
+newest g port link salt = tales.new_client (length g.tale.clients + 1) port link salt
 
 abbrev pub accepted : Port → LinkId → (salt : List ℕ) → Ground → Ground
 accepted port link salt g = on g (told_then g.setup g.plan g.tale (Accepted port link salt))
@@ -37,16 +36,15 @@ pub record IsUnseen (g : Ground) (client : tales.Client) : Type 0 where
   pub going : g.over client.number ≡ false
 
 -- nothing else is decided at this moment of the clients that are there
-pub record IsComing (g : Ground) (link : LinkId) (salt : List ℕ) : Type 0 where
+pub record IsComing (g : Ground) (port : Port) (link : LinkId) (salt : List ℕ) : Type 0 where
   pub still : AreCounted g (λ c. None)
   pub link_is : IsNewLink g link
-  pub unseen : IsUnseen g (newest g link salt)
+  pub unseen : IsUnseen g (newest g port link salt)
 
 -- What one is told that is turned away.
 
-abbrev pub away_payloads : Port → List (List ℕ)
-away_payloads Traffic = too_many_connections ∷ []
-away_payloads Admin = []
+abbrev pub away_payloads : List (List ℕ)
+away_payloads = too_many_connections ∷ []
 
-abbrev pub away_word : Port → (moment : ℕ) → LastWord
-away_word port moment = record { from = moment; place = Alone; payloads = away_payloads port }
+abbrev pub away_word : (moment : ℕ) → LastWord
+away_word moment = record { from = moment; place = Alone; payloads = away_payloads }

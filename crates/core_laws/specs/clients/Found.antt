@@ -1,12 +1,12 @@
 -- Which messages a client's turns took up, who it was, and how it stood.
 use Rattle.std.specs.Option.{option_map_or}
-use Rattle.std.specs.Prelude.{◌≡◌, ◌<◌, ℕ, suc, slice_get, take, List, [], ◌∷◌, Option, Some, None}
+use Rattle.std.specs.Prelude.{◌≡◌, ◌<◌, ℕ, suc, true, is_some, slice_get, take, List, [], ◌∷◌, Option, Some, None}
 use Rattle.mx_base.specs.declared.names.ClientNo.{ClientNo}
 use Rattle.packet_frame.specs.Packets.{Framed}
 use Rattle.server_side.specs.Account.{Account}
 use Rattle.private_model.specs.Names.{Hostgroup, MessageName}
 use Rattle.private_model.specs.View.{Setup, present}
-use Rattle.log_story.specs.Executes.{prepared_by}
+use Rattle.log_story.specs.Executes.{Prepared, prepared_by}
 use Rattle.log_story.specs.Owed.{messages}
 use Rattle.log_story.specs.Plan.{Plan}
 use Rattle.log_story.specs.Tale.{Tale, view_of}
@@ -22,6 +22,7 @@ use Rattle.core_tables.specs.Arrivals.{seated, turn}
 use Rattle.core_tables.specs.Tables.{Tabled}
 use Rattle.core_tables.specs.declared.client.Client.{Client}
 use Rattle.core_laws.specs.clients.Turns.{Answers, Choice, Goes, Halt, IsTurn, Quits, Turns}
+use Rattle.router_promises.specs.Statements.{known_statement}
 use Rattle.router_promises.specs.Takings.{Taking, message_in}
 
 -- one of these takings is of the message of this name
@@ -43,9 +44,10 @@ abbrev pub known_at : Setup → Plan → Tale → Known
 known_at setup plan tale = record { plan = plan; view = view_of setup tale; moment = tale.moment }
 
 -- The message is that which came up at the turn, and its client is served as this user. By what is known just before it is taken up the client
--- stands there, these are its sessions, and it has prepared what stands under its numbers, and nothing under a greater one.
+-- stands there, these are its sessions, and it has prepared what stands under its numbers, which is all that it knows, and nothing under a greater one.
 pub record IsFoundIn (c : ClientNo) (desk : Desk) (up : Framed) (setup : Setup) (plan : Plan) (taking : Taking) (message : Option Framed) : Type 0 where
   pub message_is : message ≡ Some up
+  pub port : taking.client.port ≡ desk.seat.port
   pub login : user_in desk.seat.phase ≡ (setup.accounts c).user
   pub place : (view_of setup taking.tale).places c ≡ desk.seat.place
   pub held : (hostgroup : Hostgroup)
@@ -54,6 +56,9 @@ pub record IsFoundIn (c : ClientNo) (desk : Desk) (up : Framed) (setup : Setup) 
       → IsNumbered (known_at setup plan taking.tale) taking.client (λ (key : ℕ). key) number one
   pub unused : (number : ℕ) → desk.seat.statements.last < number
       → prepared_by (view_of setup taking.tale) plan taking.client number 1 (take taking.client.taken (messages plan taking.client)) ≡ None
+  pub known : (number : ℕ) (made : Prepared) → 0 < number
+      → known_statement (view_of setup taking.tale) plan taking.client number (suc taking.client.taken) ≡ Some made
+      → is_some (number_in desk.seat.statements number) ≡ true
 
 abbrev pub IsFoundAt : (choice : Choice) → (service : Service) → (default : List ℕ) → (c : ClientNo) → (old new : Tabled)
     → IsTurn choice service default c old new → Setup → Plan → Taking → Option Framed → Type 0

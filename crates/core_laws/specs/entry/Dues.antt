@@ -86,6 +86,7 @@ IsWrittenBy g e client = (written_by client.link e ≡ []) ⊎ IsTakenOf g e cli
 pub record Continues (x y : Known) (old new : Client) : Type 0 where
   pub plan : y.plan ≡ x.plan
   pub number : new.number ≡ old.number
+  pub port : new.port ≡ old.port
   pub salt : new.salt ≡ old.salt
   pub more : List ℕ
   pub read : new.read ≡ old.read ++ more

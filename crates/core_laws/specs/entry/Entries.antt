@@ -29,7 +29,7 @@ abbrev pub OfItsLink : (whose : ClientNo → Bool) → LinkId → Tale → Type 
 OfItsLink whose link tale = All (λ (client : Client). is_link_id client.link link ≡ true → whose client.number ≡ true) tale.clients
 
 abbrev pub TellsOf : (whose : ClientNo → Bool) → Tale → Entry → Type 0
-TellsOf whose tale (Accepted port link salt) = whose (new_client (length tale.clients + 1) link salt).number ≡ true
+TellsOf whose tale (Accepted port link salt) = whose (new_client (length tale.clients + 1) port link salt).number ≡ true
 TellsOf whose tale (Got link bytes) = OfItsLink whose link tale
 TellsOf whose tale (Wrote link tag bytes) = OfItsLink whose link tale
 TellsOf whose tale _ = Unit {0}

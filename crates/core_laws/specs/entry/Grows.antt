@@ -45,6 +45,7 @@ pub record IsHeardMore (new : Tale) (client : Client) : Type 0 where
   pub now : Client
   pub seated : IsSeated new now
   pub number : now.number ≡ client.number
+  pub port : now.port ≡ client.port
   pub salt : now.salt ≡ client.salt
   pub more : List ℕ
   pub read : now.read ≡ client.read ++ more

@@ -18,8 +18,8 @@ use crate::parting::{rows_of_others_stay, statements_are_in_work};
 /// A client comes and is served: its greeting is due to it.
 pub fn clients_come()
     ensures { (service : Service) (g : Ground) (t now : Tabled) (port : Port) (link : LinkId) (salt : List ℕ) (statements : ClientStatements)
-        (note : ClientNote) → Stands service g t → IsComing g link salt → ((number : ℕ) → number_in statements number ≡ None)
-        → IsSame now (came (newest g link salt).number link (new_seat link (newest g link salt).number salt service statements) note t)
+        (note : ClientNote) → Stands service g t → IsComing g port link salt → ((number : ℕ) → number_in statements number ≡ None)
+        → IsSame now (came (newest g port link salt).number link (new_seat link (newest g port link salt).number salt port service statements) note t)
         → Stands service (accepted port link salt g) now }
 {
     rows_of_others_stay();
@@ -29,10 +29,10 @@ pub fn clients_come()
 /// It is turned away, by the plan that ends it with that word at this moment.
 pub fn clients_are_turned_away()
     ensures { (service : Service) (g : Ground) (t now : Tabled) (port : Port) (link : LinkId) (salt : List ℕ) (statements : ClientStatements)
-        (note : ClientNote) → Stands service g t → IsComing g link salt
-        → g.plan.words (newest g link salt).number ≡ Some (away_word port (suc g.tale.moment))
-        → IsSame now (came (newest g link salt).number link (turned_away link (newest g link salt).number salt port statements) note t)
-        → Stands service (ending (newest g link salt).number (accepted port link salt g)) now }
+        (note : ClientNote) → Stands service g t → IsComing g port link salt
+        → g.plan.words (newest g port link salt).number ≡ Some (away_word (suc g.tale.moment))
+        → IsSame now (came (newest g port link salt).number link (turned_away link (newest g port link salt).number salt port statements) note t)
+        → Stands service (ending (newest g port link salt).number (accepted port link salt g)) now }
 {
     rows_of_others_stay();
     statements_are_in_work();

@@ -86,10 +86,10 @@ pub fn writes_to_clients_rest()
 /// A client comes and is served.
 pub fn arrivals_rest()
     ensures { (service : Service) (g : Ground) (t now : Tabled) (roomy : ClientNo → Bool) (port : Port) (link : LinkId) (salt : List ℕ)
-        (statements : ClientStatements) (note : ClientNote) → Rests service g t roomy → IsComing g link salt
+        (statements : ClientStatements) (note : ClientNote) → Rests service g t roomy → IsComing g port link salt
         → ((number : ℕ) → number_in statements number ≡ None) → IsUneventful g
-        → gives_up g.plan (suc g.tale.moment) (name_of (newest g link salt) 0) ≡ false
-        → IsSame now (came (newest g link salt).number link (new_seat link (newest g link salt).number salt service statements) note t)
+        → gives_up g.plan (suc g.tale.moment) (name_of (newest g port link salt) 0) ≡ false
+        → IsSame now (came (newest g port link salt).number link (new_seat link (newest g port link salt).number salt port service statements) note t)
         → Rests service (behind g (Accepted port link salt) g.over) now roomy }
 {
     counts_alone();

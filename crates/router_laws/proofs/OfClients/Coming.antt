@@ -114,13 +114,13 @@ all_last P (y ∷ xs) x all = all_last P xs x (All-tail P y (xs ++ x ∷ []) all
 -- As it comes, whatever becomes of it.
 
 module _ (service : Service) (g : Ground) (t : Tabled) (roomy : ClientNo → Bool) (port : Port) (link : LinkId) (salt : List ℕ) (c : ClientNo)
-    (rests : Rests service g t roomy) (count : c ≡ (newest g link salt).number) (still : All (IsStill g) g.tale.clients)
+    (rests : Rests service g t roomy) (count : c ≡ (newest g port link salt).number) (still : All (IsStill g) g.tale.clients)
     (kept : gives_up g.plan (suc g.tale.moment) (record { client = c; ordinal = 0 }) ≡ false) (going : g.over c ≡ false) where
   abbrev e : Entry
   e = Accepted port link salt
 
   abbrev it : tales.Client
-  it = newest g link salt
+  it = newest g port link salt
 
   abbrev made : Tale
   made = record g.tale { clients = g.tale.clients ++ it ∷ [] }
@@ -184,7 +184,7 @@ module _ (service : Service) (g : Ground) (t : Tabled) (roomy : ClientNo → Boo
 
 -- On its link nothing was written.
 pub comes_so : (g : Ground) (log : Log) (port : Port) (link : LinkId) (salt : List ℕ) (tale : Tale) → of_link link log ≡ []
-    → ((x : tales.Client) → IsSeated tale x → x.number ≡ (newest g link salt).number → x ≡ newest g link salt) → (x : tales.Client) → IsSeated tale x
+    → ((x : tales.Client) → IsSeated tale x → x.number ≡ (newest g port link salt).number → x ≡ newest g port link salt) → (x : tales.Client) → IsSeated tale x
     → HasCome g.tale (Accepted port link salt) x → IsCome log (Accepted port link salt) x
 comes_so g log port link salt tale none own x seated come = record {
   none = ap (λ (l : LinkId). written_of l (log ++ Accepted port link salt ∷ [])) come.link ∙ written_more link log (Accepted port link salt)
@@ -196,9 +196,9 @@ comes_so g log port link salt tale none own x seated come = record {
 -- It is served.
 
 module _ (service : Service) (g : Ground) (t now : Tabled) (roomy : ClientNo → Bool) (log : Log) (over : ClientNo → Bool) (port : Port) (link : LinkId)
-    (salt : List ℕ) (c : ClientNo) (fresh : of_link link log ≡ []) (count : c ≡ (newest g link salt).number) (decided : IsDecided g nobody over)
+    (salt : List ℕ) (c : ClientNo) (fresh : of_link link log ≡ []) (count : c ≡ (newest g port link salt).number) (decided : IsDecided g nobody over)
     (kept : gives_up g.plan (suc g.tale.moment) (record { client = c; ordinal = 0 }) ≡ false) (going : g.over c ≡ false)
-    (so : IsReceived (new_seat link c salt service) link c t now) (rests : Rests service g t roomy) where
+    (so : IsReceived (new_seat link c salt port service) link c t now) (rests : Rests service g t roomy) where
   abbrev here : Entry
   here = Accepted port link salt
 
@@ -212,17 +212,17 @@ module _ (service : Service) (g : Ground) (t now : Tabled) (roomy : ClientNo →
   pub calm : IsUneventful g
   calm = record { still = decided.still; endless = decided.ends }
 
-  pub kept_it : gives_up g.plan (suc g.tale.moment) (name_of (newest g link salt) 0) ≡ false
+  pub kept_it : gives_up g.plan (suc g.tale.moment) (name_of (newest g port link salt) 0) ≡ false
   kept_it = ap (λ (n : ClientNo). gives_up g.plan (suc g.tale.moment) (record { client = n; ordinal = 0 })) (sym count) ∙ kept
 
-  pub as_newest : IsSame now (came (newest g link salt).number link (new_seat link (newest g link salt).number salt service so.statements) so.note t)
-  as_newest = subst (λ (n : ClientNo). IsSame now (came n link (new_seat link n salt service so.statements) so.note t)) count so.same
+  pub as_newest : IsSame now (came (newest g port link salt).number link (new_seat link (newest g port link salt).number salt port service so.statements) so.note t)
+  as_newest = subst (λ (n : ClientNo). IsSame now (came n link (new_seat link n salt port service so.statements) so.note t)) count so.same
 
   pub served_rests : Rests service (behind g here g.over) now roomy → Rests service (behind g here over) now roomy
   served_rests is = subst (λ (o : ClientNo → Bool). Rests service (behind g here o) now roomy) (sym same_over) is
 
   module _ (undone : NoneDone g.setup g.plan (counted g.tale)) where
-    step_is : tale_step g.setup g.plan g.tale here ≡ counted (record g.tale { clients = g.tale.clients ++ newest g link salt ∷ [] })
+    step_is : tale_step g.setup g.plan g.tale here ≡ counted (record g.tale { clients = g.tale.clients ++ newest g port link salt ∷ [] })
     step_is = step_alone service g t roomy port link salt c rests count decided.still kept going decided.ends undone
 
     pub served_due : IsDueBehind g log here nobody over now
@@ -240,14 +240,14 @@ module _ (service : Service) (g : Ground) (t now : Tabled) (roomy : ClientNo →
 -- It is turned away.
 
 module _ (service : Service) (g : Ground) (t now : Tabled) (roomy : ClientNo → Bool) (log : Log) (over : ClientNo → Bool) (port : Port) (link : LinkId)
-    (salt : List ℕ) (c : ClientNo) (fresh : of_link link log ≡ []) (count : c ≡ (newest g link salt).number) (decided : IsDecided g (ends_of c true) over)
+    (salt : List ℕ) (c : ClientNo) (fresh : of_link link log ≡ []) (count : c ≡ (newest g port link salt).number) (decided : IsDecided g (ends_of c true) over)
     (kept : gives_up g.plan (suc g.tale.moment) (record { client = c; ordinal = 0 }) ≡ false) (going : g.over c ≡ false)
     (so : IsTurnedAway port link salt c t now) (rests : Rests service g t roomy) where
   abbrev at : Entry
   at = Accepted port link salt
 
   abbrev new : tales.Client
-  new = newest g link salt
+  new = newest g port link salt
 
   abbrev heard : Tale
   heard = told_then g.setup g.plan g.tale at
@@ -362,21 +362,21 @@ module _ (service : Service) (g : Ground) (t now : Tabled) (roomy : ClientNo →
 
 -- By the log, it is the newest, and nothing happened of it.
 
-pub number_is : (g : Ground) (link : LinkId) (salt : List ℕ) (c : ClientNo) (log : Log) → length g.tale.clients ≡ length (accepted_links log)
-    → c.0 ≡ length (accepted_links log) + 1 → c ≡ (newest g link salt).number
-number_is g link salt c log tally counts =
+pub number_is : (g : Ground) (port : Port) (link : LinkId) (salt : List ℕ) (c : ClientNo) (log : Log) → length g.tale.clients ≡ length (accepted_links log)
+    → c.0 ≡ length (accepted_links log) + 1 → c ≡ (newest g port link salt).number
+number_is g port link salt c log tally counts =
     let same : c.0 ≡ length g.tale.clients + 1 = omega (arith, tally, counts) in
     λ i. record { 0 = same i }
 
-pub coming_so : (setup : Setup) (codes : Codes) (plan : Plan) (old : Decided) (log : Log) (link : LinkId) (salt : List ℕ) (c : ClientNo)
-    → of_link link log ≡ [] → c ≡ (newest (ground setup codes plan old log) link salt).number
+pub coming_so : (setup : Setup) (codes : Codes) (plan : Plan) (old : Decided) (log : Log) (port : Port) (link : LinkId) (salt : List ℕ) (c : ClientNo)
+    → of_link link log ≡ [] → c ≡ (newest (ground setup codes plan old log) port link salt).number
     → All (IsStill (ground setup codes plan old log)) (ground setup codes plan old log).tale.clients
     → plan.routes (record { client = c; ordinal = 0 }) ≡ None → is_some (old.ends c) ≡ false
     → AreSessions (view_of setup (tale_of setup plan log)) c 0 [] × AreToCome (view_of setup (tale_of setup plan log)) c 1
-    × ((view_of setup (tale_of setup plan log)).places c ≡ setup.places c) → IsComing (ground setup codes plan old log) link salt
-coming_so setup codes plan old log link salt c fresh count still unrouted going unseen =
+    × ((view_of setup (tale_of setup plan log)).places c ≡ setup.places c) → IsComing (ground setup codes plan old log) port link salt
+coming_so setup codes plan old log port link salt c fresh count still unrouted going unseen =
     let g : Ground = ground setup codes plan old log in
-    let it : IsUnseen g (record (newest g link salt) { number = c }) =
+    let it : IsUnseen g (record (newest g port link salt) { number = c }) =
     record { sessions = unseen.0; coming = unseen.1; place = unseen.2; unrouted = unrouted; going = going } in
     record {
       still = none_counted g still;
@@ -384,5 +384,5 @@ coming_so setup codes plan old log link salt c fresh count still unrouted going 
         aside = new_link setup plan log link fresh;
         alone = new_apart setup plan link log first_tale tt fresh (All-nil (Apart link));
       };
-      unseen = subst (λ (n : ClientNo). IsUnseen g (record (newest g link salt) { number = n })) count it;
+      unseen = subst (λ (n : ClientNo). IsUnseen g (record (newest g port link salt) { number = n })) count it;
     }

@@ -92,6 +92,7 @@ module _ (setup : Setup) (plan : Plan) (m : ℕ) where
   pub record IsLater (x y : Client) : Type 0 where
     pub number : y.number ≡ x.number
     pub link : y.link ≡ x.link
+    pub port : y.port ≡ x.port
     pub salt : y.salt ≡ x.salt
     pub read : y.read ≡ x.read
     pub written : y.written ≡ x.written
@@ -99,7 +100,7 @@ module _ (setup : Setup) (plan : Plan) (m : ℕ) where
     pub over : is_before m (plan.ends x.number) ≡ true → y.taken ≡ x.taken
 
   later_itself : (x : Client) → IsLater x x
-  later_itself x = record { number = refl; link = refl; salt = refl; read = refl; written = refl; taken = omega arith; over = λ before. refl }
+  later_itself x = record { number = refl; link = refl; port = refl; salt = refl; read = refl; written = refl; taken = omega arith; over = λ before. refl }
 
   abbrev Later : List Client → List Client → Type 0
   Later xs ys = Pairs IsLater xs ys
@@ -143,6 +144,7 @@ module _ (setup : Setup) (plan : Plan) (m : ℕ) where
     λ is. let later : IsLater x client = covers.0 is in record {
       number = later.number;
       link = later.link;
+      port = later.port;
       salt = later.salt;
       read = later.read;
       written = later.written;
@@ -298,7 +300,7 @@ module _ (setup : Setup) (plan : Plan) where
   by_entry tale _ x = x
 
   abbrev pub newcomers : Tale → Entry → List Client
-  newcomers tale (entry.Accepted port link salt) = new_client (length tale.clients + 1) link salt ∷ []
+  newcomers tale (entry.Accepted port link salt) = new_client (length tale.clients + 1) port link salt ∷ []
   newcomers tale _ = []
 
   map_same : (f : Client → Client) → ((x : Client) → f x ≡ x) → (xs : List Client) → map f xs ≡ xs
@@ -331,7 +333,7 @@ module _ (setup : Setup) (plan : Plan) where
 
   pub told_is : (tale : Tale) (e : Entry) → (told setup plan tale e).clients ≡ map (by_entry tale e) tale.clients ++ newcomers tale e
   told_is tale (entry.Accepted port link salt) =
-      ap (λ (xs : List Client). xs ++ new_client (length tale.clients + 1) link salt ∷ []) (sym (map_same (λ (x : Client). x) (λ x. refl) tale.clients))
+      ap (λ (xs : List Client). xs ++ new_client (length tale.clients + 1) port link salt ∷ []) (sym (map_same (λ (x : Client). x) (λ x. refl) tale.clients))
   told_is tale (entry.Got link bytes) =
       by_server (client_hears link bytes) (is_to_server tale link) (server_says setup plan link bytes tale)
       (record tale { clients = map (client_hears link bytes) tale.clients }) tale.clients (says-moved setup plan link bytes tale).clients refl
@@ -361,6 +363,7 @@ module _ (setup : Setup) (plan : Plan) where
     plainly later none = record {
       number = later.number;
       link = later.link;
+      port = later.port;
       salt = later.salt;
       more = [];
       read = later.read ∙ sym (append-nil x.read);
@@ -384,6 +387,7 @@ module _ (setup : Setup) (plan : Plan) where
     by false true its later = record {
       number = later.number;
       link = later.link;
+      port = later.port;
       salt = later.salt;
       more = bytes;
       read = later.read;
@@ -411,6 +415,7 @@ module _ (setup : Setup) (plan : Plan) where
     by false client true its later = record {
       number = later.number;
       link = later.link;
+      port = later.port;
       salt = later.salt;
       more = [];
       read = later.read ∙ sym (append-nil x.read);

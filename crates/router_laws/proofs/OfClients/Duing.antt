@@ -58,11 +58,11 @@ answer_named y was now ordinal message number =
     ap (λ (c : ClientNo). answer_to y (record was { number = c }) ordinal message) number
 
 -- what one that is over is due goes by these alone
-due_same : (y : Known) (was now : Client) → now.number ≡ was.number → now.salt ≡ was.salt → now.read ≡ was.read → now.taken ≡ was.taken
+due_same : (y : Known) (was now : Client) → now.number ≡ was.number → now.port ≡ was.port → now.salt ≡ was.salt → now.read ≡ was.read → now.taken ≡ was.taken
     → due_bytes y.view.replies y.plan y.moment was ≡ due_bytes y.view.replies y.plan y.moment now
-due_same y was now number salt read taken =
+due_same y was now number port salt read taken =
     λ i. due_bytes y.view.replies y.plan y.moment
-    (record { number = sym number i; link = was.link; salt = sym salt i; read = sym read i; written = was.written; taken = sym taken i })
+    (record { number = sym number i; link = was.link; port = sym port i; salt = sym salt i; read = sym read i; written = was.written; taken = sym taken i })
 
 module _ (service : Service) (g : Ground) (t now : Tabled) (roomy : ClientNo → Bool) (log : Log) (e : Entry) (whose over : ClientNo → Bool)
     (rests : Rests service g t roomy) (stands : Stands service (behind g e over) now) (kept : All (KeepsAnswers g) g.tale.clients)
@@ -109,6 +109,7 @@ module _ (service : Service) (g : Ground) (t now : Tabled) (roomy : ClientNo →
     continues going = record {
       plan = refl;
       number = on.number;
+      port = on.port;
       salt = on.salt;
       more = on.more;
       read = on.read;
@@ -137,7 +138,7 @@ module _ (service : Service) (g : Ground) (t now : Tabled) (roomy : ClientNo →
       due_over : IsFront (due_bytes (view_on g).replies g.plan g.tale.moment was) (due_bytes (view_on new).replies new.plan new.tale.moment client)
       due_over =
           subst (IsFront (due_bytes (view_on g).replies g.plan g.tale.moment was))
-          (due_same (known_on new) was client on.number on.salt (on.kept (due.unread was seated ended)) taken_same)
+          (due_same (known_on new) was client on.number on.port on.salt (on.kept (due.unread was seated ended)) taken_same)
           (over_grows (known_on g) (known_on new) was stays)
 
       still_some : (ordinal : ℕ) (message : Framed) (answer : Option (List ℕ)) → answer_to (known_on g) was ordinal message ≡ answer

@@ -98,6 +98,7 @@ heard_by setup plan log e client there = record {
   now = there.now;
   seated = subst (λ (tale : Tale). IsSeated tale there.now) (sym (tale_more setup plan log e)) there.seated;
   number = there.continued.number;
+  port = there.continued.port;
   salt = there.continued.salt;
   more = there.continued.more;
   read = there.continued.read;

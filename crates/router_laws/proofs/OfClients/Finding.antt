@@ -37,7 +37,7 @@ module _ (setup : Setup) (plan : Plan) (log : Log) (e : Entry) (said x : Client)
       let same : x ≡ later.0 =
       one_seated x later.0 (seats new x.number) (sym here) (ap (seats new) (number ∙ sym later.2.number) ∙ later.1) in
       ap (messages plan) same
-      ∙ (λ i. messages plan (record said { number = later.2.number i; salt = later.2.salt i; read = later.2.read i }))
+      ∙ (λ i. messages plan (record said { number = later.2.number i; port = later.2.port i; salt = later.2.salt i; read = later.2.read i }))
 
   pub found_then : (choices : List Choice) (halt : Halt) (service : Service) (default : List ℕ) (c : ClientNo) (mid turned : Tabled)
       (turns : Turns choices halt service default c mid turned) (k : ℕ) → said.taken ≡ k → (takings : List Taking)

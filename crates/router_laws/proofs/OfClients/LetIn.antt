@@ -48,12 +48,12 @@ module _ (setup : Setup) (plan : Plan) (tale : Tale) (e : Entry) (are : AreCount
 
 -- by what is read of it
 
-module _ (g : Ground) (default : List ℕ) (x z : Client) (number : z.number ≡ x.number) (salt : z.salt ≡ x.salt) (read : z.read ≡ x.read) where
+module _ (g : Ground) (default : List ℕ) (x z : Client) (number : z.number ≡ x.number) (port : z.port ≡ x.port) (salt : z.salt ≡ x.salt) (read : z.read ≡ x.read) where
   says_as : IsWhoItSays g.setup g.plan default z (opening_of (talk_of g.plan z)) → IsWhoItSays g.setup g.plan default x (opening_of (talk_of g.plan x))
   says_as is =
       let F : Client → Type 0 = λ y. IsWhoItSays g.setup g.plan default y (opening_of (talk_of g.plan y)) in
-      let line : (record x { number = z.number; salt = z.salt; read = z.read }) ≡ x =
-      λ i. record { number = number i; link = x.link; salt = salt i; read = read i; written = x.written; taken = x.taken } in
+      let line : (record x { number = z.number; port = z.port; salt = z.salt; read = z.read }) ≡ x =
+      λ i. record { number = number i; link = x.link; port = port i; salt = salt i; read = read i; written = x.written; taken = x.taken } in
       subst F line is
 
   account_by : (login : Account) (o : Opening) → opening_of (talk_of g.plan x) ≡ o → IsWhoItSays g.setup g.plan default x o
@@ -74,5 +74,5 @@ pub let_in_then : (g : Ground) (default : List ℕ) (e : Entry) (x : Client) →
     → AreWhoTheySay g.setup g.plan default (tale_step g.setup g.plan g.tale e).clients → IsSeated (told g.setup g.plan g.tale e) x → IsLetIn g default x
 let_in_then g default e x are who seated =
     let there = told_there g.setup g.plan g.tale e are x seated in
-    lets_in g default x there.0 there.2.number there.2.salt there.2.read
+    lets_in g default x there.0 there.2.number there.2.port there.2.salt there.2.read
     (seated_of (λ (z : Client). IsWhoItSays g.setup g.plan default z (opening_of (talk_of g.plan z))) (tale_step g.setup g.plan g.tale e) there.0 there.1 who)

@@ -137,7 +137,7 @@ module _ (service : Service) (default : List ℕ) (g : Ground) (t now : Tabled) 
       let heard = subst (λ (p : Phase). IsHeardIn p g.plan it seat) served.1 own.heard in
       let owed = subst (λ (p : Phase). IsOwing p (g.fresh it.number) g it seat) served.1 own.owed in
       record {
-        who = record { link = own.who.link; number = own.who.number; salt = own.who.salt; drained = own.who.drained };
+        who = record { link = own.who.link; number = own.who.number; port = own.who.port; salt = own.who.salt; drained = own.who.drained };
         heard = subst (λ (p : Phase). IsHeardIn p g.plan it (begun_anew seat)) (sym served.1)
             (record {
               limit = heard.limit;

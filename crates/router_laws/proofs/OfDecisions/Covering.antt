@@ -1,5 +1,5 @@
 -- What was found of a client's messages among some takings is so among others that cover these.
-use Rattle.std.specs.Prelude.{◌≡◌, ℕ, suc, Bool, length, slice_get, take, List, [], ◌∷◌, Option, Some, None}
+use Rattle.std.specs.Prelude.{◌≡◌, ◌<◌, ℕ, suc, Bool, true, is_some, length, slice_get, take, List, [], ◌∷◌, Option, Some, None}
 use Rattle.std.proofs.Common.{refl, sym, ap, ◌∙◌, subst}
 use Rattle.mx_wire.specs.declared.entry.Entry.{Entry}
 use Rattle.packet_frame.specs.Packets.{Framed}
@@ -7,12 +7,12 @@ use Rattle.client_session.specs.Setups.{Setup as Service}
 use Rattle.private_model.specs.Commands.{Reply}
 use Rattle.private_model.specs.Names.{ClientNo, MessageName}
 use Rattle.private_model.specs.View.{Setup}
-use Rattle.log_story.specs.Executes.{prepared_by}
+use Rattle.log_story.specs.Executes.{Prepared, prepared_by}
 use Rattle.log_story.specs.Owed.{messages, name_of}
 use Rattle.log_story.specs.Plan.{Plan, Route}
-use Rattle.client_seat.specs.Numbers.{Numbered}
+use Rattle.client_seat.specs.Numbers.{Numbered, number_in}
 use Rattle.client_seat.specs.Stands.{IsNumbered, Known}
-use Rattle.core_laws.proofs.OfPrepared.Keeping.{same_prepared}
+use Rattle.core_laws.proofs.OfPrepared.Knowing.{same_prepared, statement_same}
 use Rattle.log_story.specs.Tale as tales
 use Rattle.log_story.specs.Tale.{Tale, view_of}
 use Rattle.client_desk.specs.declared.desk.Desk.{Desk}
@@ -26,6 +26,7 @@ use Rattle.core_laws.specs.clients.Follows.{Parting}
 use Rattle.core_laws.specs.clients.Found.{AreFoundAt, IsFoundAt, IsFoundIn, IsLastAmong, desk_up, known_at}
 use Rattle.core_laws.specs.clients.Turns.{Answers, Choice, Ends, Goes, Halt, IsTurn, Quits, Rests, Turns, Waits}
 use Rattle.core_promises.proofs.Takings.{Covers, IsSeenAlike, entry_covers}
+use Rattle.router_promises.specs.Statements.{known_statement}
 use Rattle.router_promises.specs.Takings.{Taking, takings_at, takings_of}
 
 -- What stands under a number stays so where replies are the same.
@@ -52,6 +53,7 @@ module _ (setup : Setup) (plan : Plan) (c : ClientNo) where
       → IsFoundIn c desk up setup plan old message → IsFoundIn c desk up setup plan new message
   seen_in desk up message old new client seen found = record {
     message_is = found.message_is;
+    port = ap (λ (x : tales.Client). x.port) client ∙ found.port;
     login = found.login;
     place = seen.place ∙ found.place;
     held = λ h. (λ i. seen.held i (record { client = c; hostgroup = h; life = seen.life h i })) ∙ found.held h;
@@ -63,6 +65,11 @@ module _ (setup : Setup) (plan : Plan) (c : ClientNo) where
         (same_prepared (view_of setup old.tale) (view_of setup new.tale) plan old.client old.client number 1 (take old.client.taken (messages plan old.client)) refl
         (λ k from below. ap (λ (r : MessageName → Option Reply). r (name_of old.client k)) seen.replies)
         ∙ found.unused number greater);
+    known =
+        subst (λ (x : tales.Client). (number : ℕ) (made : Prepared) → 0 < number
+        → known_statement (view_of setup new.tale) plan x number (suc x.taken) ≡ Some made → is_some (number_in desk.seat.statements number) ≡ true) (sym client)
+        (λ number made some is.
+        found.known number made some (sym (statement_same (view_of setup old.tale) (view_of setup new.tale) plan old.client number seen.replies) ∙ is));
   }
 
   seen_at : (choice : Choice) (service : Service) (default : List ℕ) (before after : Tabled) (turn : IsTurn choice service default c before after)

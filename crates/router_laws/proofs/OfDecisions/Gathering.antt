@@ -11,7 +11,7 @@ use Rattle.mx_wire.specs.declared.entry.Entry.TheVariants.{Opened}
 use Rattle.server_side.specs.Account.{Account as Login}
 use Rattle.private_model.specs.Commands.{Reply}
 use Rattle.private_model.specs.Names.{ClientNo, LinkId}
-use Rattle.private_model.specs.Story.{Key, is_link_id}
+use Rattle.private_model.specs.Story.{is_link_id}
 use Rattle.private_model.specs.View.{Setup}
 use Rattle.link_laws.specs.Stands.{Codes}
 use Rattle.log_story.specs.Headline.{tale_of}

@@ -83,10 +83,10 @@ follows_judge find ruling service default g mid now fresh e client freed choices
     (messages g.plan client) client.taken
     (find service default g mid now fresh e client freed choices halt parting c number following stands turns)) ruled
 
-messages_same : (plan : Plan) (was now : tales.Client) → now.number ≡ was.number → now.salt ≡ was.salt → now.read ≡ was.read
+messages_same : (plan : Plan) (was now : tales.Client) → now.number ≡ was.number → now.port ≡ was.port → now.salt ≡ was.salt → now.read ≡ was.read
     → messages plan now ≡ messages plan was
-messages_same plan was now number salt read =
-    λ i. (messages_of (record { setup = plan.service; number = (number i).0; salt = salt i; read = read i })).messages
+messages_same plan was now number port salt read =
+    λ i. (messages_of (record { setup = plan.service; number = (number i).0; port = port i; salt = salt i; read = read i })).messages
 
 judged_alike : (book : Rulebook) (setup : Setup) (plan : Plan) (takings : List Taking) (was now : tales.Client) → now.number ≡ was.number
     → messages plan now ≡ messages plan was → (k : ℕ) (choices : List Choice) (halt : Halt) → JudgedFrom book setup plan was takings k choices halt
@@ -110,4 +110,4 @@ pub judged_on : (book : Rulebook) (setup : Setup) (plan : Plan) (takings : List 
     → JudgedFrom book setup plan was takings was.taken choices halt → JudgedFrom book setup plan now takings k choices halt
 judged_on book setup plan takings tale e was now on unread k taken choices halt judged =
     subst (λ (n : ℕ). JudgedFrom book setup plan now takings n choices halt) taken
-    (judged_alike book setup plan takings was now on.number (messages_same plan was now on.number on.salt (on.kept unread)) was.taken choices halt judged)
+    (judged_alike book setup plan takings was now on.number (messages_same plan was now on.number on.port on.salt (on.kept unread)) was.taken choices halt judged)

@@ -2,7 +2,7 @@
 use Rattle.std.specs.Prelude.{◌≡◌, ◌⊎◌, ◌<◌, ◌≤◌, ◌+◌, ◌&&◌, ◌++◌, ℕ, zero, suc, Bool, true, false, All, fold, is_some, nat_eq, nat_le, nat_lt, if◌then◌else◌, length, slice_get, slice_index_or, List, [], ◌∷◌, Option, Some, None}
 use Rattle.std.specs.Option.{option_map}
 use Rattle.std.proofs.Common.{refl, sym, ap, ◌∙◌, subst, arith, inl, inr}
-use Rattle.std.proofs.lemmas.Bool.{eqb-true, ltb-false, ltb-true}
+use Rattle.std.proofs.lemmas.Bool.{eqb-true, le-leb, lt-leb, ltb-false, ltb-true}
 use Rattle.std.proofs.lemmas.Option.{same_Some}
 use Rattle.mx_wire.specs.Log.{Log, accepted_links}
 use Rattle.mx_wire.specs.declared.entry.Entry.{Entry}
@@ -24,6 +24,8 @@ use Rattle.log_story.specs.Telling.{tale_step}
 use Rattle.step_laws.proofs.Seating.{counted_seats}
 use Rattle.step_laws.specs.Seats.{IsSeated}
 use Rattle.tale_world.specs.Decided.{Decided}
+use Rattle.query_rules.specs.declared.rule.Rule.{Rule}
+use Rattle.core_service.specs.Serves.{rules_in}
 use Rattle.core_service.specs.declared.service.Service.{Service}
 use Rattle.core_tables.specs.Tables.{Tabled}
 use Rattle.core_laws.proofs.OfEntry.Going.{tale_more}
@@ -34,11 +36,10 @@ use Rattle.core_laws.specs.clients.Turns.{Answers, Choice, Ends, Goes, Halt, IsT
 use Rattle.core_laws.specs.entry.Cores.{with_entry}
 use Rattle.core_laws.specs.entry.Tells.{Fits, IsOf}
 use Rattle.core_promises.proofs.Takings.{taken_before, taken_now}
-use Rattle.core_promises.proofs.Knowing.{KnowsMore, routed_within, verdict_within}
-use Rattle.core_promises.specs.Judges.{AreJudged, IsJudged, IsRoutedFor, IsVerdictFor, Rulebook, Situation, situation_of}
+use Rattle.core_promises.proofs.Knowing.{KnowsMore, routed_within, told_within}
+use Rattle.core_promises.specs.Judges.{AreJudged, book_for, IsJudged, IsRoutedFor, IsToldFor, Rulebook, Situation, situation_of}
 use Rattle.core_promises.specs.Ruled.{AreRuled, IsChoiceFor, IsRuled, Ruling, book_of, situation_at}
 use Rattle.router_promises.specs.Takings.{Taking, takings_at}
-use Rattle.router_promises.specs.Verdicts.{Tells}
 use Rattle.shared_router.proofs.Furthering.{IsWithin, within_step}
 use Rattle.shared_router.proofs.Looked.{Each, each-all}
 use Rattle.shared_router.proofs.Numbered.{AreNumbered}
@@ -52,6 +53,7 @@ use Rattle.router_laws.specs.clients.Continues.{HasCome, WasThere}
 use Rattle.router_laws.proofs.OfDecisions.Situated.{situated}
 use Rattle.router_laws.specs.decisions.Judges.{AreSent, HasKeys, IsJudgedAs, IsJudgedThen, JudgedFrom, JudgesThen, all_keys}
 use Rattle.router_laws.specs.decisions.Deeds.{Counts, Deeds, Fate, Word, among, counts_with, decided_by, decided_with, fate_at, fate_in, fate_of, is_quitting, known_with, no_deeds, no_fate, parting, taken_by, taking}
+use Rattle.router_laws.specs.decisions.Force.{rules_then}
 use Rattle.router_laws.specs.decisions.Records.{AreCountsOf, IsRecorded}
 
 -- Of a client's messages that came up at its turns, where these are by the verdict.
@@ -67,7 +69,7 @@ choice_within : (book : Rulebook) (one other : Situation) → KnowsMore one othe
 choice_within book one other within keys setup has c payload (Goes route keyed) for =
     routed_within book one other within keys (all_keys setup) (λ k key is. ap (λ (x : Key). Some x) (has k key is)) c payload route for
 choice_within book one other within keys setup has c payload (Answers payloads) for =
-    verdict_within book one other within c payload (Tells payloads) for
+    told_within book one other within c payload payloads for
 
 module _ (ruling : Ruling) (setup : Setup) (plan : Plan) (client : Client) (has : HasKeys ruling.keys setup) where
   judged_as : (c : ClientNo) → client.number ≡ c → (desk : Desk) (up : Framed) (taking : Taking) → taking.client.number ≡ c → (found : Option Framed)
@@ -124,7 +126,7 @@ module _ (book : Rulebook) (setup : Setup) (plan : Plan) (client : Client) where
         → IsRoutedFor book (situation_of setup plan taking) (all_keys setup) client.number message.payload route
     pub tells : (message : Framed) (payloads : List (List ℕ)) → slice_get (messages plan client) k ≡ Some message
         → option_map (λ (answer : OwnAnswer). answer.payloads) fate.own ≡ Some payloads
-        → IsVerdictFor book (situation_of setup plan taking) client.number message.payload (Tells payloads)
+        → IsToldFor book (situation_of setup plan taking) client.number message.payload payloads
 
   module _ (takings : List Taking) where
     judged_first : (k : ℕ) (choice : Choice) → IsJudgedAs book setup plan client takings k choice → IsFated takings k (fate_of choice)
@@ -141,7 +143,7 @@ module _ (book : Rulebook) (setup : Setup) (plan : Plan) (client : Client) where
       among = judged.among;
       goes = λ message route at is. none_some None route refl is;
       tells = λ message payloads at is.
-          subst (λ (p : List (List ℕ)). IsVerdictFor book (situation_of setup plan judged.taking) client.number message.payload (Tells p))
+          subst (IsToldFor book (situation_of setup plan judged.taking) client.number message.payload)
           (same_Some mine payloads is) (judged.is message at);
     }
 
@@ -258,11 +260,11 @@ get_front [] ys k less = absurd (omega (arith, less))
 get_front (x ∷ xs) ys zero less = refl
 get_front (x ∷ xs) ys (suc k) less = get_front xs ys k (omega (arith, less))
 
-pub message_stays : (plan : Plan) (was now : Client) (more : List ℕ) (k : ℕ) → now.number ≡ was.number → now.salt ≡ was.salt
+pub message_stays : (plan : Plan) (was now : Client) (more : List ℕ) (k : ℕ) → now.number ≡ was.number → now.port ≡ was.port → now.salt ≡ was.salt
     → now.read ≡ was.read ++ more → k < length (messages plan was) → slice_get (messages plan now) k ≡ slice_get (messages plan was) k
-message_stays plan was now more k number salt read less =
+message_stays plan was now more k number port salt read less =
     let longer : messages plan now ≡ messages plan (record was { read = was.read ++ more }) =
-    λ i. messages plan (record was { number = number i; salt = salt i; read = read i }) in
+    λ i. messages plan (record was { number = number i; port = port i; salt = salt i; read = read i }) in
     let grown = messages_more (talk_of plan was) more in
     ap (λ (ms : List Framed). slice_get ms k) (longer ∙ grown.is) ∙ get_front (messages plan was) grown.later k less
 
@@ -272,13 +274,16 @@ given_among : (b : Bool) (given : Option (List ℕ)) → is_some (if b then give
 given_among true given some = some
 given_among false given some = false_true false refl some
 
-module _ (service : Service) (log : Log) (e : Entry) (d : Decided) (n : Counts) (deeds : Deeds) (recorded : IsRecorded d n log) (setup : Setup) (plan : Plan)
-    (of : IsOf (decided_with deeds n log e d) (length (with_entry log e)) plan)
+module _ (service : Service) (log : Log) (e : Entry) (d : Decided) (n : Counts) (deeds : Deeds) (recorded : IsRecorded d n log) (rules : MessageName → List Rule)
+    (setup : Setup) (plan : Plan) (of : IsOf (decided_with deeds n log e d) (length (with_entry log e)) plan)
     (before : AreCountsOf n (tale_of setup plan log)) (counts : AreCountsOf (counts_with deeds n log e) (tale_of setup plan (with_entry log e)))
-    (was : All (AreJudged (book_of service) setup plan log) (tale_of setup plan log).clients)
+    (was : All (AreJudged (book_of service) rules setup plan log) (tale_of setup plan log).clients)
     (judged : IsJudgedThen service log e n deeds setup plan) where
   abbrev book : Rulebook
   book = book_of service
+
+  abbrev then_rules : MessageName → List Rule
+  then_rules = rules_then n rules (rules_in service)
 
   abbrev old : Tale
   old = tale_of setup plan log
@@ -303,7 +308,7 @@ module _ (service : Service) (log : Log) (e : Entry) (d : Decided) (n : Counts) 
     name = name_of client (suc k)
 
     abbrev IsJudgedBy : Log → Type 0
-    IsJudgedBy past = IsJudged book setup plan past name message.payload
+    IsJudgedBy past = IsJudged (book_for book then_rules name) setup plan past name message.payload
 
     abbrev takings : List Taking
     takings = takings_at setup plan old e
@@ -340,15 +345,19 @@ module _ (service : Service) (log : Log) (e : Entry) (d : Decided) (n : Counts) 
         by true true given last =
             false_true (is_some (plan.routes name)) (ap is_some unrouted) (sent given (eqb-true (suc k) (n.taken c) last))
 
-      old_judged : client.salt ≡ x.salt → (more : List ℕ) → client.read ≡ x.read ++ more → IsJudgedBy (with_entry log e)
-      old_judged salt more read =
+      old_judged : client.port ≡ x.port → client.salt ≡ x.salt → (more : List ℕ) → client.read ≡ x.read ++ more → IsJudgedBy (with_entry log e)
+      old_judged port salt more read =
           let within : x.taken ≤ length (messages plan x) = seated_of (IsWithin setup plan) old x there (within_of setup plan log) in
           let early : k < x.taken = omega (arith, less, count, named) in
           let there_at : slice_get (messages plan x) k ≡ Some message =
-          sym (message_stays plan x client more k number salt read (omega (arith, early, within))) ∙ at in
+          sym (message_stays plan x client more k number port salt read (omega (arith, early, within))) ∙ at in
+          let before_now : IsJudged (book_for book rules name) setup plan log name message.payload =
+          subst (λ (m : ClientNo). IsJudged (book_for book rules (record { client = m; ordinal = suc k })) setup plan log (record { client = m; ordinal = suc k })
+          message.payload) (sym number)
+          (seated_of (AreJudged book rules setup plan log) old x there was k message early there_at) in
           let so_far : IsJudgedBy log =
-          subst (λ (m : ClientNo). IsJudged book setup plan log (record { client = m; ordinal = suc k }) message.payload) (sym number)
-          (seated_of (AreJudged book setup plan log) old x there was k message early there_at) in
+          subst (λ (b : Bool). IsJudged (record book { rules = if b then rules name else rules_in service }) setup plan log name message.payload)
+          (sym (le-leb (suc k) (n.taken c) (omega (arith, less)))) before_now in
           record {
             taking = so_far.taking;
             taken = taken_before setup plan log e name so_far.taking so_far.taken;
@@ -365,7 +374,7 @@ module _ (service : Service) (log : Log) (e : Entry) (d : Decided) (n : Counts) 
 
     taken_up_before : k < n.taken c → WasThere plan old e client ⊎ HasCome old e client → IsJudgedBy (with_entry log e)
     taken_up_before less (inl x) =
-        old_judged x.was x.seated x.continued.number less x.continued.salt x.continued.more x.continued.read
+        old_judged x.was x.seated x.continued.number less x.continued.port x.continued.salt x.continued.more x.continued.read
     taken_up_before less (inr come) = let none : n.taken c ≡ 0 = came_by e come in absurd (omega (arith, less, none))
 
     -- it is taken up now
@@ -380,12 +389,14 @@ module _ (service : Service) (log : Log) (e : Entry) (d : Decided) (n : Counts) 
         let fated : IsFated book setup plan client takings k mine =
         judged_at book setup plan client takings (made.calls c) (made.halts c) (n.taken c) k mine
         (judged_among book setup plan client takings known (n.taken c) (deeds.calls c) (deeds.halts c) (judged.takes client seated)) is in
-        record {
+        let none : nat_le (suc k) (n.taken c) ≡ false = lt-leb (suc k) (n.taken c) (omega (arith, least)) in
+        let P : Bool → Type 0 = λ b. IsJudged (record book { rules = if b then rules name else rules_in service }) setup plan (with_entry log e) name message.payload in
+        subst P (sym none) (record {
           taking = fated.taking;
           taken = taken_now setup plan log e name fated.taking fated.among;
           goes = λ route goes. fated.goes message route at (sym has.routed ∙ goes);
           tells = λ payloads unrouted own. fated.tells message payloads at (sym has.own ∙ sym own_now ∙ own);
-        }
+        })
 
     each : k < client.taken → IsJudgedBy (with_entry log e)
     each less = by (nat_lt k (n.taken c)) refl where
@@ -403,7 +414,7 @@ module _ (service : Service) (log : Log) (e : Entry) (d : Decided) (n : Counts) 
           taken_then less least (fate_at made n name) refl
           (fate_there (made.calls c) (made.halts c) (suc (n.taken c)) (suc k) (omega (arith, least)) (omega (arith, less, count_now)))
 
-  pub judged_then : All (AreJudged book setup plan (with_entry log e)) new.clients
+  pub judged_then : All (AreJudged book then_rules setup plan (with_entry log e)) new.clients
   judged_then = λ i dflt within k message less at.
       let client : Client = slice_index_or new.clients i dflt in
       each client (counted_seats new (is_tale_of setup plan (with_entry log e)).counted i dflt within) k message at less

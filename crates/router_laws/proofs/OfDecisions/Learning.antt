@@ -16,7 +16,6 @@ use Rattle.core_texts.specs.Texts.{AreLess, AreMore, key_at}
 use Rattle.core_texts.specs.declared.texts.Texts.{Texts}
 use Rattle.core_laws.specs.entry.Tells.{Fits, IsOf}
 use Rattle.router_promises.specs.Terms.{plan_in, setup_in}
-use Rattle.router_laws.proofs.OfDecisions.Fates.{none_some}
 use Rattle.router_laws.proofs.OfDecisions.Recording.{or_stays}
 use Rattle.router_laws.specs.decisions.Records.{IsRecorded}
 use Rattle.router_laws.specs.decisions.Routers.{AreKnown, IsRouter}
@@ -131,6 +130,8 @@ module _ (service : Service) (old new : Texts) (log : Log) (t : Tabled) (roomy :
     known = all_known d old new router.known more;
     lawful = router.lawful;
     open_just = router.open_just;
+    rules = router.rules;
+    ruled = router.ruled;
     spoken = record { own = router.spoken.own; words = router.spoken.words };
     waited = λ terms codes of fits. router.waited terms codes (less (plan_in terms) of) (fit (setup_in terms) codes (plan_in terms) _ fits);
     judged = λ setup codes plan of fits. router.judged setup codes plan (less plan of) (fit setup codes plan _ fits);
@@ -151,6 +152,8 @@ forgets service old new log t roomy router less = record {
   };
   lawful = router.lawful;
   open_just = router.open_just;
+  rules = router.rules;
+  ruled = router.ruled;
   spoken = router.spoken;
   waited = router.waited;
   judged = router.judged;

@@ -62,7 +62,7 @@ module _ (setup : Setup) (plan : Plan) where
   mapped_has size f tale has = length-map tale.clients f ∙ has
 
   told_has : (tale : Tale) (e : Entry) → Has (length tale.clients + length (accepted_links (e ∷ []))) (told setup plan tale e)
-  told_has tale (entry.Accepted port link salt) = length-append tale.clients (new_client (length tale.clients + 1) link salt ∷ [])
+  told_has tale (entry.Accepted port link salt) = length-append tale.clients (new_client (length tale.clients + 1) port link salt ∷ [])
   told_has tale (entry.Got link bytes) =
       let size : ℕ = length tale.clients + 0 in
       let has : Has size tale = omega arith in

@@ -1,16 +1,18 @@
 -- The core goes on with an entry by its deeds.
 use Rattle.std.specs.Prelude.{true, false, ◌≡◌, ◌<◌, ℕ, zero, suc, Bool, All, length, take, List, [], Option, Some, None}
-use Rattle.std.proofs.Common.{refl, sym, ◌∙◌, subst, arith}
+use Rattle.std.proofs.Common.{inl, refl, sym, ◌∙◌, subst, arith}
 use Rattle.std.proofs.lemmas.List.Elements.{All-nil, All-weaker}
 use Rattle.mx_wire.specs.Log.{Log}
 use Rattle.mx_wire.specs.Moments.{lawful-more}
 use Rattle.mx_wire.specs.Tells.{MayFollow}
 use Rattle.mx_wire.specs.declared.entry.Entry.{Entry}
+use Rattle.core_service.specs.Serves.{rules_in}
 use Rattle.core_service.specs.declared.service.Service.{Service}
 use Rattle.core_texts.specs.Texts.{key_at}
 use Rattle.core_texts.specs.declared.texts.Texts.{Texts}
 use Rattle.client_session.specs.Setups.{Setup as Serving}
-use Rattle.private_model.specs.Names.{ClientNo}
+use Rattle.query_rules.specs.declared.rule.Rule.{Rule}
+use Rattle.private_model.specs.Names.{ClientNo, MessageName}
 use Rattle.private_model.specs.View.{Setup}
 use Rattle.link_laws.specs.Stands.{Codes}
 use Rattle.log_story.specs.Headline.{WritesDue, tale_of}
@@ -31,13 +33,14 @@ use Rattle.router_laws.proofs.OfDecisions.Fates.{false_true, none_some}
 use Rattle.router_laws.proofs.OfDecisions.Gathering.{plans_so}
 use Rattle.router_laws.proofs.OfDecisions.Keeping.{first_so, recorded_then}
 use Rattle.router_laws.proofs.OfDecisions.Recording.{is_more, one_more}
-use Rattle.query_rules.specs.Passing.{rules_of}
 use Rattle.core_promises.specs.Ruled.{book_of}
 use Rattle.router_promises.specs.Terms.{plan_in, setup_in}
 use Rattle.core_promises.specs.Waits.{AreDoneBy, WaitsSo}
 use Rattle.router_laws.proofs.OfDecisions.Speaking.{first_spoken, ours_alone, spoken_then}
 use Rattle.core_promises.specs.Judges.{AreJudged, JudgesBy}
 use Rattle.router_laws.specs.decisions.Judges.{JudgesThen}
+use Rattle.router_laws.proofs.OfDecisions.Forcing.{forced_then, unloaded_rules}
+use Rattle.router_laws.specs.decisions.Force.{rules_then}
 use Rattle.router_laws.specs.decisions.Speaks.{AreOurs}
 use Rattle.router_laws.specs.decisions.Deeds.{Counts, Deeds, among, counts_with, decided_with, known_with, no_counts}
 use Rattle.router_laws.specs.decisions.Records.{AreCountsOf, IsRecorded, first_deciding}
@@ -68,7 +71,7 @@ fits_before d n log e deeds setup codes plan default recorded heard fits = recor
 }
 
 module _ {texts : Texts} (service : Service) (log : Log) (e : Entry) (deeds : Deeds) (t now : Tabled) (roomy room : ClientNo → Bool)
-    (router : IsRouter service texts log t roomy) (may : MayFollow log e) (ours : AreOurs (rules_of service.rules) texts deeds)
+    (router : IsRouter service texts log t roomy) (may : MayFollow log e) (ours : AreOurs (rules_in service) texts deeds)
     (waits : WaitsThen service log e router.core.decided) (judges : JudgesThen service log e router.core.decided router.counts deeds)
     (goes : GoesSoBy service.setup service.default_schema log e router.core.decided router.counts deeds t now roomy room) where
   abbrev new : Decided
@@ -107,23 +110,28 @@ module _ {texts : Texts} (service : Service) (log : Log) (e : Entry) (deeds : De
       let fitted = fits_then (setup_in terms) codes (plan_in terms) of fits in
       lawful-more (WaitsSo terms) log e (router.waited terms codes then fitted) (waits terms codes then fitted)
 
-  judged_now : JudgesBy (book_of service) service.default_schema new (with_entry log e)
+  abbrev then_rules : MessageName → List Rule
+  then_rules = rules_then router.counts router.rules (rules_in service)
+
+  judged_now : JudgesBy (book_of service) then_rules service.default_schema new (with_entry log e)
   judged_now setup codes plan of fits =
       let then : IsOf router.core.decided (length log) plan = of_then setup codes plan of fits in
       let fitted : Fits router.core.decided.keys setup codes plan service.default_schema (tale_of setup plan log) = fits_then setup codes plan of fits in
-      judged_then service log e router.core.decided router.counts deeds router.recorded setup plan of (router.counted setup codes plan then fitted)
+      judged_then service log e router.core.decided router.counts deeds router.recorded router.rules setup plan of (router.counted setup codes plan then fitted)
       (counts_now setup codes plan of fits) (router.judged setup codes plan then fitted) (judges setup codes plan of fits)
 
   pub router_goes_on : AreOpenJust (with_entry log e) now → IsRouter service texts (with_entry log e) now room
   router_goes_on open_just = record {
     core = record { decided = new; rests = rests_now; safe = safe_now; written = written_now; opened = λ l there. sym (open_just l) ∙ there };
     counts = counts_with deeds router.counts log e;
-    recorded = recorded_then router.core.decided router.counts log e deeds router.recorded (ours_alone (rules_of service.rules) texts deeds ours);
+    recorded = recorded_then router.core.decided router.counts log e deeds router.recorded (ours_alone (rules_in service) texts deeds ours);
     counted = counts_now;
     known = record { told = router.known.told; later = router.known.later };
     lawful = lawful-more MayFollow log e router.lawful may;
     open_just = open_just;
-    spoken = spoken_then (rules_of service.rules) texts router.core.decided router.counts log e deeds router.spoken ours;
+    rules = then_rules;
+    ruled = forced_then service log e router.counts router.rules router.ruled;
+    spoken = spoken_then (rules_in service) texts router.core.decided router.counts log e deeds router.recorded router.rules router.spoken ours;
     waited = waited_now;
     judged = judged_now;
   }
@@ -169,6 +177,8 @@ changed service log t now roomy room router rests open_just = record {
   known = router.known;
   lawful = router.lawful;
   open_just = open_just;
+  rules = router.rules;
+  ruled = router.ruled;
   spoken = router.spoken;
   waited = router.waited;
   judged = router.judged;
@@ -215,11 +225,11 @@ not_by_now : (at : Option ℕ) → ((n : ℕ) → at ≡ Some n → 0 < n) → i
 not_by_now None later = refl
 not_by_now (Some n) later = let more : 0 < n = later n refl in grind arith
 
-pub router_of_none : (service : Service) (texts : Texts) (roomy : ClientNo → Bool) → ((number : ℕ) → key_at texts number ≡ None)
+pub router_of_none : (service : Service) (texts : Texts) (roomy : ClientNo → Bool) → service.loaded ≡ None → ((number : ℕ) → key_at texts number ≡ None)
     → ((setup : Setup) (codes : Codes) (plan : Plan) → plan.service ≡ service.setup → plan.room ≡ 1048576
     → ((c : ClientNo) → is_by_now 0 (plan.ends c) ≡ false) → Rests service.setup (first_ground setup codes plan) no_tables roomy)
     → IsRouter service texts [] no_tables roomy
-router_of_none service texts roomy none stands = record {
+router_of_none service texts roomy unloaded none stands = record {
   core = record {
     decided = first_deciding service.setup;
     rests = λ setup codes plan of fits.
@@ -235,7 +245,9 @@ router_of_none service texts roomy none stands = record {
   known = record { told = λ number key is. none_some (key_at texts number) key (none number) is; later = λ number beyond. refl };
   lawful = tt;
   open_just = λ l. refl;
-  spoken = first_spoken (rules_of service.rules) service.setup;
+  rules = λ name. rules_in service;
+  ruled = record { each = λ name. inl (unloaded_rules service unloaded); now = inl (unloaded_rules service unloaded) };
+  spoken = first_spoken (λ name. rules_in service) service.setup;
   waited = λ terms codes of fits. tt;
-  judged = λ setup codes plan of fits. All-nil (AreJudged (book_of service) setup plan []);
+  judged = λ setup codes plan of fits. All-nil (AreJudged (book_of service) (λ name. rules_in service) setup plan []);
 }

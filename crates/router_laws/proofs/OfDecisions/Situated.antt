@@ -1,23 +1,21 @@
 -- What the core knows of a client by its desk is so of it as its message is taken up.
-use Rattle.std.specs.Prelude.{◌≡◌, ◌<◌, ◌-◌, ℕ, suc, Bool, true, false, drop, is_some, nat_le, not, take, if◌then◌else◌, List, [], Option, Some, None}
+use Rattle.std.specs.Prelude.{◌≡◌, ◌<◌, ◌-◌, ℕ, suc, Bool, true, false, drop, is_some, not, take, if◌then◌else◌, List, [], Option, Some, None}
 use Rattle.std.specs.List.{list_any}
 use Rattle.std.specs.Option.{option_and_then, option_map}
 use Rattle.std.proofs.Common.{refl, sym, ap, ◌∙◌, arith}
 use Rattle.std.proofs.lemmas.Bool.{leb-false}
-use Rattle.std.proofs.lemmas.Option.{same_Some}
 use Rattle.packet_frame.specs.Packets.{Framed}
 use Rattle.pin_classifier.specs.Classes.{class_of}
 use Rattle.private_model.specs.Names.{ClientNo, Hostgroup}
 use Rattle.private_model.specs.Story.{Key}
 use Rattle.private_model.specs.View.{Setup, View}
 use Rattle.log_story.specs.Executes as executes
-use Rattle.log_story.specs.Executes.{Bound, prepared_by}
-use Rattle.log_story.specs.Owed.{messages, name_of}
-use Rattle.log_story.specs.Plan.{Plan, Route}
+use Rattle.log_story.specs.Owed.{messages}
+use Rattle.log_story.specs.Plan.{Plan}
 use Rattle.log_story.specs.Tale.{Client, Tale, view_of}
 use Rattle.stmt_map.specs.Client.{statement_at}
 use Rattle.stmt_map.specs.declared.statement.Statement.{Statement}
-use Rattle.client_seat.specs.Numbers.{Numbered, drops, number_in, numbered}
+use Rattle.client_seat.specs.Numbers.{drops, number_in, numbered}
 use Rattle.client_seat.specs.Stands.{IsNumbered}
 use Rattle.client_desk.specs.declared.desk.Desk.{Desk}
 use Rattle.core_laws.specs.clients.Found.{IsFoundIn, known_at}
@@ -27,7 +25,7 @@ use Rattle.message_judge.specs.declared.caller.Prepared.{Prepared}
 use Rattle.core_promises.proofs.Knowing.{KnowsMore}
 use Rattle.core_promises.specs.Judges.{held_of, situation_of}
 use Rattle.core_promises.specs.Ruled.{known_as, known_by, situation_at}
-use Rattle.core_promises.specs.Statements.{bound_since, is_given, prepared_as, prepared_on, statement_of}
+use Rattle.core_promises.specs.Statements.{prepared_as, prepared_on, statement_of}
 use Rattle.router_laws.specs.decisions.Judges.{HasKeys}
 
 none_is : {A B : Type 0} (a : A) → None ≡ Some a → B
@@ -96,6 +94,7 @@ module _ (setup : Setup) (plan : Plan) (taking : Taking) (keys : (key : ℕ) →
 
   pub situated : KnowsMore (situation_at keys desk) (situation_of setup plan taking)
   situated = record {
+    port = at.port;
     user = ap (λ (n : ClientNo). (setup.accounts n).user) number_is ∙ sym at.login;
     place = ap (λ (n : ClientNo). (view_of setup taking.tale).places n) number_is ∙ at.place;
     pins = ap (λ (n : ClientNo). λ (h : Hostgroup). (held_of setup taking.tale n h).pin) number_is ∙ (λ i. λ h. (at.held h i).pin);
@@ -103,3 +102,21 @@ module _ (setup : Setup) (plan : Plan) (taking : Taking) (keys : (key : ℕ) →
     statements = λ number prepared is. statements_so number (statement_at desk.seat.statements number) refl prepared is;
     given = λ number is. ap is_some (at.unused number (leb-false number desk.seat.statements.last is));
   }
+
+  -- and what its client knows stands there
+
+  there_by : (number : ℕ) (found : Option executes.Prepared)
+      → known_statement (view_of setup taking.tale) plan taking.client number (suc taking.client.taken) ≡ found → 0 < number
+      → is_some (option_and_then (prepared_on setup plan taking.client number) found) ≡ true → is_some (number_in desk.seat.statements number) ≡ true
+  there_by number None is some there = absurd (let never : false ≡ true = there in cc)
+  there_by number (Some made) is some there = at.known number made some is
+
+  mapped_some : (found : Option Statement) → is_some (option_map numbered found) ≡ true → is_some found ≡ true
+  mapped_some None is = is
+  mapped_some (Some s) is = refl
+
+  pub statement_there : (number : ℕ) → 0 < number → is_some (statement_of setup plan taking.client taking.tale number) ≡ true
+      → is_some (statement_at desk.seat.statements number) ≡ true
+  statement_there number some there =
+      mapped_some (statement_at desk.seat.statements number)
+      (there_by number (known_statement (view_of setup taking.tale) plan taking.client number (suc taking.client.taken)) refl some there)

@@ -1,8 +1,8 @@
 -- With an entry's deeds what was decided to be said stays the router's own.
 use Rattle.std.specs.Prelude.{◌≡◌, ◌&&◌, ℕ, suc, Bool, true, false, All, is_some, nat_eq, nat_le, if◌then◌else◌, length, List, [], ◌∷◌, Option, Some, None}
 use Rattle.std.specs.Option.{option_map}
-use Rattle.std.proofs.Common.{refl, sym, ◌∙◌, subst}
-use Rattle.std.proofs.lemmas.Bool.{eqb-true}
+use Rattle.std.proofs.Common.{ap, inl, inr, refl, sym, ◌∙◌, subst}
+use Rattle.std.proofs.lemmas.Bool.{eqb-true, leb-false, leb-true}
 use Rattle.std.proofs.lemmas.List.Elements.{All-head, All-nil, All-tail, All-weaker}
 use Rattle.mx_wire.specs.Log.{Log}
 use Rattle.mx_wire.specs.declared.entry.Entry.{Entry}
@@ -15,18 +15,19 @@ use Rattle.private_model.specs.Story.{Key}
 use Rattle.log_story.specs.Plan.{LastWord, OwnAnswer, StepText}
 use Rattle.core_texts.specs.Texts.{key_at}
 use Rattle.core_texts.specs.declared.texts.Texts.{Texts}
-use Rattle.own_words.specs.Own.{Answers as AnswersOwn, Fails, GivesUp, IsFailure, IsLastWord, IsOwn}
+use Rattle.own_words.specs.Own.{Answers as AnswersOwn, Fails, GivesUp, IsFailure, IsLastWord, IsOwn, IsOwnAnswer, Shows}
 use Rattle.tale_world.specs.Decided.{Decided}
 use Rattle.core_laws.specs.entry.Cores.{with_entry}
 use Rattle.core_laws.specs.clients.Follows.{Leaves, Parting, Stays, Tells}
 use Rattle.core_laws.specs.clients.Going.{GivenUp, Going, told_to}
 use Rattle.core_laws.specs.clients.Turns.{Answers, Choice, Ends, Goes, Halt, Keyed, Quits, Rests, Waits}
-use Rattle.router_laws.proofs.OfDecisions.Fates.{none_some}
+use Rattle.router_laws.proofs.OfDecisions.Fates.{false_true, none_some}
 use Rattle.router_laws.proofs.OfDecisions.Recording.{own_given, own_new, own_open, own_stays, up_with}
-use Rattle.router_laws.specs.decisions.Deeds.{AreAlone, AreToldBy, Counts, Deeds, Fate, IsAlone, IsToldBy, Word, among, decided_by, decided_with, ends_by, ends_in, fate_at, fate_in, fate_of, is_quitting, known_with, no_deeds, no_fate, own_with, parting, said_at, taking, word_with}
+use Rattle.router_laws.specs.decisions.Deeds.{AreAlone, AreToldBy, Counts, Deeds, Fate, IsAlone, IsToldBy, Word, among, decided_by, decided_with, ends_by, ends_in, fate_at, fate_in, fate_of, is_quitting, known_with, no_deeds, no_fate, parting, said_at, taking, word_with}
 use Rattle.router_laws.specs.decisions.Goings.{deeds_of, end_of}
-use Rattle.router_laws.specs.decisions.Records.{first_deciding}
+use Rattle.router_laws.specs.decisions.Records.{IsRecorded, first_deciding}
 use Rattle.router_laws.specs.decisions.Routers.{AreKnown}
+use Rattle.router_laws.specs.decisions.Force.{rules_then}
 use Rattle.router_laws.specs.decisions.Speaks.{AreGivenOurs, AreGoingOurs, AreOurs, DecidesOwn, IsEndOurs, IsOurs, IsPartingOurs}
 use Rattle.private_model.specs.View.{Setup}
 use Rattle.router_laws.specs.decisions.Judges.{HasKeys}
@@ -59,11 +60,15 @@ ours_told keys rules texts deeds known ours c =
 abbrev pub IsFateOurs : List Rule → ClientNo → Fate → Type 0
 IsFateOurs rules c fate = (answer : OwnAnswer) → fate.own ≡ Some answer → IsOwn rules c answer.payloads
 
+answer_ours : (rules : List Rule) (c : ClientNo) (payloads : List (List ℕ)) → IsOwnAnswer rules c payloads → IsOwn rules c payloads
+answer_ours rules c payloads (inl answers) = AnswersOwn payloads answers
+answer_ours rules c payloads (inr shows) = subst (IsOwn rules c) (sym shows.1) (Shows shows.0)
+
 fate_ours : (rules : List Rule) (texts : Texts) (c : ClientNo) (choice : Choice) → IsOurs rules texts c choice → IsFateOurs rules c (fate_of choice)
 fate_ours rules texts c (Goes route keyed) ours answer is = none_some None answer refl is
 fate_ours rules texts c (Answers payloads) ours answer is =
     let same : record { from = 0; payloads = payloads } ≡ answer = cc in
-    subst (λ (a : OwnAnswer). IsOwn rules c a.payloads) same (AnswersOwn payloads ours)
+    subst (λ (a : OwnAnswer). IsOwn rules c a.payloads) same (answer_ours rules c payloads ours)
 
 quits_ours : (rules : List Rule) (c : ClientNo) (b : Bool) (fate : Fate) → (if b then Some no_fate else None) ≡ Some fate → IsFateOurs rules c fate
 quits_ours rules c true fate is =
@@ -105,8 +110,11 @@ word_ours now None None end word old ours is = said_ours now end word ours is
 
 -- By the deeds of an entry.
 
-module _ (rules : List Rule) (texts : Texts) (d : Decided) (n : Counts) (log : Log) (e : Entry) (deeds : Deeds) (now : ℕ) (spoken : DecidesOwn rules d)
-    (ours : AreOurs rules texts deeds) where
+module _ (rules : List Rule) (texts : Texts) (d : Decided) (n : Counts) (log : Log) (e : Entry) (deeds : Deeds) (now : ℕ) (recorded : IsRecorded d n log)
+    (old_rules : MessageName → List Rule) (spoken : DecidesOwn old_rules d) (ours : AreOurs rules texts deeds) where
+  abbrev then_rules : MessageName → List Rule
+  then_rules = rules_then n old_rules rules
+
   abbrev new : Decided
   new = decided_by deeds n log e now d
 
@@ -117,11 +125,11 @@ module _ (rules : List Rule) (texts : Texts) (d : Decided) (n : Counts) (log : L
       let same : fate.own ≡ Some answer = cc in
       fates_ours rules texts m.client (deeds.calls m.client) (deeds.halts m.client) (suc (n.taken m.client)) m.ordinal fate (ours.calls m.client) is answer same
 
-  open_own : (m : MessageName) (answer : OwnAnswer) → new.own m ≡ Some (Some answer) → new.own m ≡ Some None → IsOwn rules m.client answer.payloads
+  open_own : (m : MessageName) (answer : OwnAnswer) → new.own m ≡ Some (Some answer) → new.own m ≡ Some None → IsOwn (then_rules m) m.client answer.payloads
   open_own m answer is still = none_some None answer refl (let both : Some None ≡ Some (Some answer) = sym still ∙ is in cc)
 
   given_own : (m : MessageName) (answer : OwnAnswer) → d.own m ≡ Some None → new.own m ≡ Some (Some answer) → (given : Option (List ℕ)) (last : Bool)
-      → deeds.given m.client ≡ given → nat_eq m.ordinal (n.taken m.client) ≡ last → IsOwn rules m.client answer.payloads
+      → deeds.given m.client ≡ given → nat_eq m.ordinal (n.taken m.client) ≡ last → IsOwn (then_rules m) m.client answer.payloads
   given_own m answer was is None last gives at =
       open_own m answer is (own_open deeds n now m (d.own m) was (λ i. is_some (gives i) && nat_eq m.ordinal (n.taken m.client)))
   given_own m answer was is (Some payload) false gives at =
@@ -131,17 +139,37 @@ module _ (rules : List Rule) (texts : Texts) (d : Decided) (n : Counts) (log : L
       own_given deeds n now m (d.own m) payload was (eqb-true m.ordinal (n.taken m.client) at) gives in
       let both : Some (Some (up_with deeds n now payload)) ≡ Some (Some answer) = sym given ∙ is in
       let same : up_with deeds n now payload ≡ answer = cc in
-      subst (λ (a : OwnAnswer). IsOwn rules m.client a.payloads) same (GivesUp payload (ours.given m.client payload gives))
+      subst (λ (a : OwnAnswer). IsOwn (then_rules m) m.client a.payloads) same (GivesUp payload (ours.given m.client payload gives))
+
+  -- what was decided was taken up before, and else it is now
+  late : (m : MessageName) → d.own m ≡ None → then_rules m ≡ rules
+  late m none = by (nat_le m.ordinal (n.taken m.client)) refl where
+    by : (b : Bool) → nat_le m.ordinal (n.taken m.client) ≡ b → (if b then old_rules m else rules) ≡ rules
+    by true early =
+        false_true (is_some (d.own m)) (ap is_some none) (recorded.taken_up m (leb-true m.ordinal (n.taken m.client) early)).owned
+    by false other = refl
+
+  early : (m : MessageName) (answer : OwnAnswer) → d.own m ≡ Some (Some answer) → then_rules m ≡ old_rules m
+  early m answer some = by (nat_le m.ordinal (n.taken m.client)) refl where
+    by : (b : Bool) → nat_le m.ordinal (n.taken m.client) ≡ b → (if b then old_rules m else rules) ≡ old_rules m
+    by true other = refl
+    by false later =
+        let none : d.own m ≡ None = (recorded.to_come m (leb-false m.ordinal (n.taken m.client) later)).unowned in
+        none_some None (Some answer) refl (sym none ∙ some)
 
   own_by : (m : MessageName) (answer : OwnAnswer) → new.own m ≡ Some (Some answer) → (was : Option (Option OwnAnswer)) → d.own m ≡ was
-      → IsOwn rules m.client answer.payloads
-  own_by m answer is None was = taken_own m answer (fate_at deeds n m) refl (sym (own_new deeds n now m (d.own m) was) ∙ is)
+      → IsOwn (then_rules m) m.client answer.payloads
+  own_by m answer is None was =
+      subst (λ (rs : List Rule). IsOwn rs m.client answer.payloads) (sym (late m was))
+      (taken_own m answer (fate_at deeds n m) refl (sym (own_new deeds n now m (d.own m) was) ∙ is))
   own_by m answer is (Some None) was = given_own m answer was is (deeds.given m.client) (nat_eq m.ordinal (n.taken m.client)) refl refl
   own_by m answer is (Some (Some old)) was =
       let both : Some (Some old) ≡ Some (Some answer) = sym (own_stays deeds n now m (d.own m) old was) ∙ is in
-      let same : old ≡ answer = cc in subst (λ (a : OwnAnswer). IsOwn rules m.client a.payloads) same (spoken.own m old was)
+      let same : old ≡ answer = cc in
+      subst (λ (rs : List Rule). IsOwn rs m.client answer.payloads) (sym (early m old was))
+      (subst (λ (a : OwnAnswer). IsOwn (old_rules m) m.client a.payloads) same (spoken.own m old was))
 
-  pub spoken_by : DecidesOwn rules new
+  pub spoken_by : DecidesOwn then_rules new
   spoken_by = record {
     own = λ m answer is. own_by m answer is (d.own m) refl;
     words = λ c word is.
@@ -168,10 +196,11 @@ among_ours rules texts known deeds ours = record {
   end_by c true = ours.ends c
   end_by c false = tt
 
-pub spoken_then : (rules : List Rule) (texts : Texts) (d : Decided) (n : Counts) (log : Log) (e : Entry) (deeds : Deeds) → DecidesOwn rules d → AreOurs rules texts deeds
-    → DecidesOwn rules (decided_with deeds n log e d)
-spoken_then rules texts d n log e deeds spoken ours =
-    spoken_by rules texts d n log e (among (known_with log e) deeds) (length (with_entry log e)) spoken (among_ours rules texts (known_with log e) deeds ours)
+pub spoken_then : (rules : List Rule) (texts : Texts) (d : Decided) (n : Counts) (log : Log) (e : Entry) (deeds : Deeds)
+    → IsRecorded d n log → (old_rules : MessageName → List Rule) → DecidesOwn old_rules d → AreOurs rules texts deeds
+    → DecidesOwn (rules_then n old_rules rules) (decided_with deeds n log e d)
+spoken_then rules texts d n log e deeds recorded old_rules spoken ours =
+    spoken_by rules texts d n log e (among (known_with log e) deeds) (length (with_entry log e)) recorded old_rules spoken (among_ours rules texts (known_with log e) deeds ours)
 
 -- By no entries.
 
@@ -182,8 +211,8 @@ first_own rules service m answer is = by (nat_eq m.ordinal 0) is where
   by true has = none_some None answer refl (cc)
   by false has = none_some None (Some answer) refl has
 
-pub first_spoken : (rules : List Rule) (service : Service) → DecidesOwn rules (first_deciding service)
-first_spoken rules service = record { own = first_own rules service; words = λ c word is. none_some None word refl is }
+pub first_spoken : (rules : MessageName → List Rule) (service : Service) → DecidesOwn rules (first_deciding service)
+first_spoken rules service = record { own = λ m answer is. first_own (rules m) service m answer is; words = λ c word is. none_some None word refl is }
 
 -- Deeds of a link alone, and none.
 

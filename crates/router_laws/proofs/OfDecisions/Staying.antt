@@ -80,7 +80,7 @@ module _ (setup : Setup) (plan : Plan) (n : Counts) where
   told_took : (tale : Tale) (e : Entry) → is_no_event e ≡ true → ((k : ℕ) → k ≡ length tale.clients + 1 → n.taken (record { 0 = k }) ≡ 0)
       → AllTook tale → AllTook (told setup plan tale e)
   told_took tale (entry.Accepted port link salt) is newest took =
-      took_last tale.clients (new_client (length tale.clients + 1) link salt) took (sym (newest (length tale.clients + 1) refl))
+      took_last tale.clients (new_client (length tale.clients + 1) port link salt) took (sym (newest (length tale.clients + 1) refl))
   told_took tale (entry.Wrote link for bytes) is newest took =
       took_if (is_to_server tale link) (writes setup plan link for bytes (tale.wires link) tale)
       (record tale { clients = map (client_gets link (length bytes)) tale.clients })

@@ -1,12 +1,12 @@
 -- What is decided of one client that takes up messages and ends or doesn't, by each plan that has it.
 use Rattle.std.specs.Prelude.{◌≡◌, ◌⊎◌, ◌<◌, ◌≤◌, ◌+◌, ◌||◌, ◌&&◌, not, ℕ, suc, Bool, true, false, All, is_some, length, nat_eq, nat_le, if◌then◌else◌, List, [], ◌∷◌, Option, Some, None}
 use Rattle.std.proofs.Common.{refl, sym, ap, ◌∙◌, subst, arith, inl, inr}
-use Rattle.std.proofs.lemmas.Bool.{leb-false, leb-true, le-leb, true≢false}
-use Rattle.std.proofs.lemmas.List.Elements.{All-nil}
+use Rattle.std.proofs.lemmas.Bool.{leb-false, leb-true, true≢false}
 use Rattle.std.proofs.lemmas.Option.{none-some, same_Some}
 use Rattle.mx_wire.specs.Log.{Log, accepted_links}
 use Rattle.mx_wire.specs.Tells.{MayFollow}
 use Rattle.mx_wire.specs.declared.entry.Entry.{Entry}
+use Rattle.core_service.specs.Serves.{rules_in}
 use Rattle.core_service.specs.declared.service.Service.{Service}
 use Rattle.core_texts.specs.declared.texts.Texts.{Texts}
 use Rattle.client_session.specs.Setups.{Setup as Serving}
@@ -25,11 +25,10 @@ use Rattle.step_laws.specs.Steps.{ends_now}
 use Rattle.tale_world.specs.Decided.{Decided}
 use Rattle.core_tables.specs.Tables.{Tabled}
 use Rattle.core_stands.specs.Grounds.{Ground}
-use Rattle.core_stands.specs.Stands.{Rests}
 use Rattle.core_laws.proofs.OfArrival.Finding.{client-same, client-true}
 use Rattle.core_laws.proofs.OfEntry.Lists.{seated_of}
 use Rattle.core_laws.specs.entry.Cores.{with_entry}
-use Rattle.core_laws.specs.entry.Tells.{Fits, IsOf, ground}
+use Rattle.core_laws.specs.entry.Tells.{IsOf, ground}
 use Rattle.core_laws.specs.clients.Chosen.{PlanHas}
 use Rattle.core_laws.specs.clients.Following.{IsPartedIn, StandTold}
 use Rattle.core_laws.specs.clients.Follows.{Leaves, Parting, Stays, Tells, ends_by, parts_by, quits_by}
@@ -50,7 +49,6 @@ use Rattle.router_laws.proofs.OfDecisions.Recording.{one_more}
 use Rattle.router_laws.proofs.OfDecisions.Router.{router_goes_on, stood_before}
 use Rattle.router_laws.proofs.OfDecisions.Tallying.{counts_then}
 use Rattle.router_laws.proofs.OfDecisions.Working.{none_given}
-use Rattle.query_rules.specs.Passing.{rules_of}
 use Rattle.router_laws.proofs.OfDecisions.Speaking.{ours_alone, ours_of_one, ours_told}
 use Rattle.core_promises.specs.Ruled.{AreRuled, book_of, ruling_of}
 use Rattle.router_laws.specs.decisions.Judges.{JudgedFrom, JudgesThen}
@@ -116,7 +114,7 @@ and_none false = refl
 
 module _ {texts : Texts} (service : Service) (log : Log) (e : Entry) (t now : Tabled) (roomy room : ClientNo → Bool)
     (router : IsRouter service texts log t roomy) (may : MayFollow log e) (c : ClientNo) (choices : List Choice) (halt : Halt)
-    (last : Option (Option Word)) (all_ours : All (IsOurs (rules_of service.rules) texts c) choices) (end_ours : IsEndOurs last) where
+    (last : Option (Option Word)) (all_ours : All (IsOurs (rules_in service) texts c) choices) (end_ours : IsEndOurs last) where
   abbrev pub deeds : Deeds
   deeds = parting c last (taking c choices halt no_deeds)
 
@@ -132,11 +130,11 @@ module _ {texts : Texts} (service : Service) (log : Log) (e : Entry) (t now : Ta
   abbrev pub ends : Bool
   ends = is_some (ds.ends_by halt last)
 
-  pub ours : AreOurs (rules_of service.rules) texts deeds
-  ours = ours_of_one (rules_of service.rules) texts c choices halt last all_ours end_ours
+  pub ours : AreOurs (rules_in service) texts deeds
+  ours = ours_of_one (rules_in service) texts c choices halt last all_ours end_ours
 
   alone : AreAlone deeds
-  alone = ours_alone (rules_of service.rules) texts deeds ours
+  alone = ours_alone (rules_in service) texts deeds ours
 
   module _ (setup : Setup) (codes : Codes) (plan : Plan) (of : IsOf new (length (with_entry log e)) plan) (fits : FitsThen new.keys setup codes plan service.default_schema log e) where
     abbrev pub g : Ground
@@ -146,7 +144,7 @@ module _ {texts : Texts} (service : Service) (log : Log) (e : Entry) (t now : Ta
     before = stood_before service log e t roomy deeds setup codes plan router may of fits (heard_always setup plan log e)
 
     pub so : PlansSo g log e deeds
-    so = before.so (ours_told d.keys (rules_of service.rules) texts deeds router.known ours) (none_given g (λ x. None) (λ x. refl))
+    so = before.so (ours_told d.keys (rules_in service) texts deeds router.known ours) (none_given g (λ x. None) (λ x. refl))
 
     -- it alone ends, if it does
     module _ (came : c.0 ≤ known) (going : g.over c ≡ false) where

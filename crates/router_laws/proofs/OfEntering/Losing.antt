@@ -1,5 +1,5 @@
 -- A client's link is lost.
-use Rattle.std.specs.Prelude.{◌≡◌, ◌+◌, ◌⊎◌, ◌&&◌, ℕ, suc, Bool, true, false, All, is_some, List, [], Option, Some, None}
+use Rattle.std.specs.Prelude.{◌≡◌, ◌&&◌, ℕ, suc, Bool, true, false, All, is_some, List, [], Some, None}
 use Rattle.std.proofs.Common.{refl, sym, ap, ◌∙◌, subst, inl, inr}
 use Rattle.std.proofs.lemmas.Bool.{false≢true}
 use Rattle.std.proofs.lemmas.List.Elements.{All-nil}
@@ -7,6 +7,7 @@ use Rattle.mx_base.specs.declared.names.LinkId.{LinkId}
 use Rattle.mx_wire.specs.Log.{Log}
 use Rattle.mx_wire.specs.Tells.{MayFollow}
 use Rattle.mx_wire.specs.declared.entry.Entry.{Entry}
+use Rattle.core_service.specs.Serves.{rules_in}
 use Rattle.core_service.specs.declared.service.Service.{Service}
 use Rattle.client_session.specs.Setups.{Setup as Serving}
 use Rattle.client_seat.specs.Seats.{account_in, is_ended}
@@ -25,26 +26,24 @@ use Rattle.core_stands.specs.Grounds.{Ground}
 use Rattle.core_stands.specs.Stands.{IsKnown}
 use Rattle.router_laws.specs.decisions.Counting.{BeginsSo}
 use Rattle.router_laws.specs.decisions.Deeds.{Deeds}
-use Rattle.query_rules.specs.Passing.{rules_of}
 use Rattle.router_laws.proofs.OfDecisions.Judging.{judges_of_none}
 use Rattle.router_laws.proofs.OfDecisions.Speaking.{end_ours}
 use Rattle.router_laws.proofs.OfWaits.Then.{loss_waits}
 use Rattle.core_promises.specs.Ruled.{AreRuled, ruling_of}
 use Rattle.router_laws.specs.decisions.Speaks.{IsOurs, IsPartingOurs}
 use Rattle.router_laws.specs.decisions.Goings.{end_of}
-use Rattle.router_laws.specs.decisions.Routers.{IsBefore, IsRouter}
+use Rattle.router_laws.specs.decisions.Routers.{IsRouter}
 use Rattle.core_laws.specs.entry.Cores.{with_entry}
 use Rattle.core_laws.specs.entry.Safe.{IsSafe}
 use Rattle.core_laws.specs.entry.Tells.{ground}
 use Rattle.core_laws.specs.clients.Follows.{Parting}
 use Rattle.core_laws.specs.clients.Turns.{Choice, Halt, Rests as Resting}
-use Rattle.router_laws.proofs.OfClients.Closing.{over_there}
-use Rattle.router_laws.proofs.OfClients.Leaving.{IsLoss, loss_of}
+use Rattle.router_laws.proofs.OfClients.Leaving.{loss_of}
 use Rattle.router_laws.proofs.OfClients.Linking.{client_there, is_client_row, known}
 use Rattle.router_laws.proofs.OfClients.Saying.{arrived_there, goes_there}
 use Rattle.router_laws.specs.clients.Counted.{GoesTaking}
 use Rattle.router_laws.specs.clients.Finds.{GoesFinding}
-use Rattle.router_laws.specs.clients.Leaves.{IsLossOf, LeavesAgain, LeavesAtOnce, LeavesGoing, is_at_rest}
+use Rattle.router_laws.specs.clients.Leaves.{IsLossOf, LeavesAgain, LeavesAtOnce, LeavesGoing}
 use Rattle.router_laws.specs.clients.Plans.{FitsThen, IsDecided, PlansEnd, PlansTurns, nobody, over_by}
 use Rattle.router_laws.proofs.OfEntering.Deciding as deciding
 use Rattle.router_laws.proofs.OfEntering.Deciding.{Told}
@@ -92,13 +91,13 @@ pub again_routed : Again → (service : Service) (texts : Texts) (log : Log) (e 
     → IsRouter service texts log t roomy → MayFollow log e → IsLossOf link e → LeavesAgain link c t now
     → IsRouter service texts (with_entry log e) now roomy
 again_routed law service texts log e t now roomy link c router may lost so =
-    deciding.goes_router service log e t now roomy roomy router may c [] Resting None (All-nil (IsOurs (rules_of service.rules) texts c)) tt (loss_waits service log e link router.core.decided lost)
+    deciding.goes_router service log e t now roomy roomy router may c [] Resting None (All-nil (IsOurs (rules_in service) texts c)) tt (loss_waits service log e link router.core.decided lost)
     (judges_of_none service log e router.core.decided router.counts c None)
     (λ setup codes plan of fits.
-    let was = deciding.before service log e t now roomy roomy router may c [] Resting None (All-nil (IsOurs (rules_of service.rules) texts c)) tt setup codes plan of fits in
+    let was = deciding.before service log e t now roomy roomy router may c [] Resting None (All-nil (IsOurs (rules_in service) texts c)) tt setup codes plan of fits in
     law service.setup service.default_schema setup codes plan log e router.core.decided
-    (deciding.new service log e t now roomy roomy router may c [] Resting None (All-nil (IsOurs (rules_of service.rules) texts c)) tt) t now roomy link c fits lost was.safe
-    (deciding.decided_none service log e t now roomy roomy router may c [] Resting None (All-nil (IsOurs (rules_of service.rules) texts c)) tt setup codes plan of fits refl refl) so)
+    (deciding.new service log e t now roomy roomy router may c [] Resting None (All-nil (IsOurs (rules_in service) texts c)) tt) t now roomy link c fits lost was.safe
+    (deciding.decided_none service log e t now roomy roomy router may c [] Resting None (All-nil (IsOurs (rules_in service) texts c)) tt setup codes plan of fits refl refl) so)
     ((loss_of link e lost).none_comes) (loss_begins link e lost _)
     (opens_kept log e t now (loss_opens link e lost) (again_keeps link c t now so) router.open_just)
 
@@ -106,10 +105,10 @@ pub at_once_routed : AtOnce → (service : Service) (texts : Texts) (log : Log) 
     (c : ClientNo) (links : List LinkId) → IsRouter service texts log t roomy → MayFollow log e → IsLossOf link e
     → LeavesAtOnce link links c roomy t now → OthersLack c roomy room → IsRouter service texts (with_entry log e) now room
 at_once_routed law service texts log e t now roomy room link c links router may lost so others =
-    deciding.goes_router service log e t now roomy room router may c [] Resting (Some None) (All-nil (IsOurs (rules_of service.rules) texts c)) tt (loss_waits service log e link router.core.decided lost)
+    deciding.goes_router service log e t now roomy room router may c [] Resting (Some None) (All-nil (IsOurs (rules_in service) texts c)) tt (loss_waits service log e link router.core.decided lost)
     (judges_of_none service log e router.core.decided router.counts c (Some None))
     (λ setup codes plan of fits.
-    let was = deciding.before service log e t now roomy room router may c [] Resting (Some None) (All-nil (IsOurs (rules_of service.rules) texts c)) tt setup codes plan of fits in
+    let was = deciding.before service log e t now roomy room router may c [] Resting (Some None) (All-nil (IsOurs (rules_in service) texts c)) tt setup codes plan of fits in
     let g : Ground = ground setup codes plan router.core.decided log in
     let client : tales.Client = client_there service.setup g t link c so.row was.rests.stands so.its in
     let is : IsKnown g c client = known service.setup g t link c so.row was.rests.stands so.its in
@@ -117,8 +116,8 @@ at_once_routed law service texts log e t now roomy room link c links router may 
     let going : g.over client.number ≡ false = goes_there g client so.row own so.going in
     let still : g.over c ≡ false = ap g.over (sym is.number) ∙ going in
     law service.setup service.default_schema setup codes plan log e router.core.decided
-    (deciding.new service log e t now roomy room router may c [] Resting (Some None) (All-nil (IsOurs (rules_of service.rules) texts c)) tt) t now roomy room link c links fits lost was.safe
-    (deciding.end_of_it service log e t now roomy room router may c [] Resting (Some None) (All-nil (IsOurs (rules_of service.rules) texts c)) tt setup codes plan of fits client is.seated
+    (deciding.new service log e t now roomy room router may c [] Resting (Some None) (All-nil (IsOurs (rules_in service) texts c)) tt) t now roomy room link c links fits lost was.safe
+    (deciding.end_of_it service log e t now roomy room router may c [] Resting (Some None) (All-nil (IsOurs (rules_in service) texts c)) tt setup codes plan of fits client is.seated
     is.number still refl refl) so others)
     ((loss_of link e lost).none_comes) (loss_begins link e lost _)
     (opens_kept log e t now (loss_opens link e lost) (at_once_keeps link links c roomy t now so) router.open_just)
@@ -127,7 +126,7 @@ pub going_routed : Going → Told → (service : Service) (texts : Texts) (log :
     (c : ClientNo) (links : List LinkId) (ordinal : ℕ) (choices : List Choice) (halt : Halt) (parting : Parting)
     → IsRouter service texts log t roomy → MayFollow log e → IsLossOf link e
     → (so : LeavesGoing service.setup service.default_schema link links ordinal choices halt parting c t now)
-    → All (IsOurs (rules_of service.rules) texts c) choices → IsPartingOurs parting
+    → All (IsOurs (rules_in service) texts c) choices → IsPartingOurs parting
     → OthersLack c roomy room
     → AreRuled (ruling_of service (key_at texts)) choices halt service.setup service.default_schema c so.between so.follows.turned so.follows.turns
     → IsRouter service texts (with_entry log e) now room

@@ -151,6 +151,7 @@ module _ (g : Ground) (client : tales.Client) (row : Client) (is : IsClient g cl
     continues = record {
       plan = refl;
       number = refl;
+      port = refl;
       salt = refl;
       more = [];
       read = sym (append-nil client.read);

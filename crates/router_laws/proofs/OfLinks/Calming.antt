@@ -1,9 +1,10 @@
 -- A router goes on with an entry by which nobody is called, given up or ended.
-use Rattle.std.specs.Prelude.{◌≡◌, ◌+◌, ◌||◌, ℕ, suc, Bool, true, false, is_some, length, List}
-use Rattle.std.proofs.Common.{refl, sym, ap, ◌∙◌, subst, arith}
+use Rattle.std.specs.Prelude.{◌≡◌, ◌+◌, ◌||◌, ℕ, suc, Bool, length, List}
+use Rattle.std.proofs.Common.{sym, ap, ◌∙◌, subst, arith}
 use Rattle.mx_wire.specs.Log.{Log}
 use Rattle.mx_wire.specs.Tells.{MayFollow}
 use Rattle.mx_wire.specs.declared.entry.Entry.{Entry}
+use Rattle.core_service.specs.Serves.{rules_in}
 use Rattle.core_service.specs.declared.service.Service.{Service}
 use Rattle.core_texts.specs.declared.texts.Texts.{Texts}
 use Rattle.private_model.specs.Names.{ClientNo}
@@ -32,7 +33,6 @@ use Rattle.router_laws.proofs.OfDecisions.Judging.{judges_none}
 use Rattle.router_laws.proofs.OfDecisions.Router.{router_goes_on, stood_before}
 use Rattle.router_laws.proofs.OfDecisions.Tallying.{counts_then}
 use Rattle.router_laws.proofs.OfDecisions.Working.{none_given}
-use Rattle.query_rules.specs.Passing.{rules_of}
 use Rattle.query_rules.specs.declared.rule.Rule.{Rule}
 use Rattle.router_laws.specs.decisions.Speaks.{AreOurs}
 use Rattle.router_laws.specs.decisions.Counting.{BeginsSo}
@@ -115,6 +115,6 @@ module _ {texts : Texts} (service : Service) (log : Log) (e : Entry) (deeds : De
   pub calm_router : ((setup : Setup) (codes : Codes) (plan : Plan) → IsKnown setup codes plan → GoesCalm setup codes plan) → AreOpenJust (with_entry log e) now
       → IsRouter service texts (with_entry log e) now room
   calm_router makes rows =
-      router_goes_on service log e deeds t now roomy room router may (idle.ours (rules_of service.rules) texts) waits
+      router_goes_on service log e deeds t now roomy room router may (idle.ours (rules_in service) texts) waits
       (judges_none service log e d router.counts deeds idle.takes idle.none.given)
       (λ setup codes plan of fits. goes_so setup codes plan of fits (makes setup codes plan (known setup codes plan of fits))) rows

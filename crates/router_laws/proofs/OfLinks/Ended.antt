@@ -330,7 +330,7 @@ module _ (laws : Laws) (service : Service) (g : Ground) (t now : Tabled) (roomy 
 
   leaving : IsLeaving (on h left) client (ended so.row.desk.seat)
   leaving = record {
-    who = record { link = row_is.who.link; number = row_is.who.number; salt = row_is.who.salt; drained = row_is.who.drained };
+    who = record { link = row_is.who.link; number = row_is.who.number; port = row_is.who.port; salt = row_is.who.salt; drained = row_is.who.drained };
     heard = tt;
     owed = front_h;
     placed = tt;

@@ -1,5 +1,5 @@
 -- A router goes on with a loss of a link with which its client ends.
-use Rattle.std.specs.Prelude.{◌≡◌, ℕ, suc, Bool, true, false, List, [], Some, None}
+use Rattle.std.specs.Prelude.{◌≡◌, suc, Bool, true, false, List, [], Some, None}
 use Rattle.std.proofs.Common.{refl, sym, ap, ◌∙◌, subst}
 use Rattle.std.proofs.lemmas.List.Elements.{All-nil}
 use Rattle.std.proofs.lemmas.Option.{none-some}
@@ -7,6 +7,7 @@ use Rattle.mx_base.specs.declared.names.LinkId.{LinkId}
 use Rattle.mx_wire.specs.Log.{Log}
 use Rattle.mx_wire.specs.Tells.{MayFollow}
 use Rattle.mx_wire.specs.declared.entry.Entry.{Entry}
+use Rattle.core_service.specs.Serves.{rules_in}
 use Rattle.core_service.specs.declared.service.Service.{Service}
 use Rattle.core_texts.specs.declared.texts.Texts.{Texts}
 use Rattle.private_model.specs.Names.{ClientNo}
@@ -39,7 +40,6 @@ use Rattle.router_laws.proofs.OfLinks.EndedRests.{ended_goes}
 use Rattle.router_laws.proofs.OfLinks.LossOnward.{loses_open, lost_begins, lost_keeps}
 use Rattle.router_laws.specs.clients.Counted.{GoesTaking}
 use Rattle.router_laws.specs.clients.Plans.{IsDecided, PlansEnd, ends_of, over_by}
-use Rattle.query_rules.specs.Passing.{rules_of}
 use Rattle.router_laws.proofs.OfDecisions.Judging.{judges_of_none}
 use Rattle.router_laws.proofs.OfWaits.Then.{break_waits}
 use Rattle.router_laws.specs.decisions.Speaks.{IsOurs}
@@ -66,11 +66,11 @@ module _ {texts : Texts} (laws : Laws) (service : Service) (log : Log) (t now : 
   e = entry_by how l
 
   abbrev new : Decided
-  new = deciding.new service log e t now roomy roomy router may c [] Resting (Some None) (All-nil (IsOurs (rules_of service.rules) texts c)) tt
+  new = deciding.new service log e t now roomy roomy router may c [] Resting (Some None) (All-nil (IsOurs (rules_in service) texts c)) tt
 
-  goes : deciding.GoesBy service log e t now roomy roomy router may c [] Resting (Some None) (All-nil (IsOurs (rules_of service.rules) texts c)) tt
+  goes : deciding.GoesBy service log e t now roomy roomy router may c [] Resting (Some None) (All-nil (IsOurs (rules_in service) texts c)) tt
   goes setup codes plan of fits =
-      let was = deciding.before service log e t now roomy roomy router may c [] Resting (Some None) (All-nil (IsOurs (rules_of service.rules) texts c)) tt setup codes plan of fits in
+      let was = deciding.before service log e t now roomy roomy router may c [] Resting (Some None) (All-nil (IsOurs (rules_in service) texts c)) tt setup codes plan of fits in
       let g : Ground = ground setup codes plan router.core.decided log in
       let found = known_so service.setup g t c so.row was.rests.stands so.at_work.there in
       let client : tales.Client = found.0 in
@@ -78,7 +78,7 @@ module _ {texts : Texts} (laws : Laws) (service : Service) (log : Log) (t now : 
       let row : IsClient g client so.row = found.2 in
       let going : g.over client.number ≡ false = works_going g client so.row so.work so.at_work.in_work (is_ended so.row.desk.seat.phase) row.phase in
       let ends : PlansEnd g log c (over_by new) =
-      deciding.end_of_it service log e t now roomy roomy router may c [] Resting (Some None) (All-nil (IsOurs (rules_of service.rules) texts c)) tt setup codes plan of fits client is.seated
+      deciding.end_of_it service log e t now roomy roomy router may c [] Resting (Some None) (All-nil (IsOurs (rules_in service) texts c)) tt setup codes plan of fits client is.seated
       is.number (ap g.over (sym is.number) ∙ going) refl refl in
       subst (λ (n : ClientNo). GoesTaking service.setup setup codes plan log e router.core.decided new t now roomy roomy n 0) is.number
       (ended_goes laws service.setup setup codes plan log l how router.core.decided new t now roomy client links was.rests is.seated
@@ -89,7 +89,7 @@ module _ {texts : Texts} (laws : Laws) (service : Service) (log : Log) (t now : 
 
   pub ended_routed : IsRouter service texts (with_entry log e) now roomy
   ended_routed =
-      deciding.goes_router service log e t now roomy roomy router may c [] Resting (Some None) (All-nil (IsOurs (rules_of service.rules) texts c)) tt (break_waits service log how l router.core.decided)
+      deciding.goes_router service log e t now roomy roomy router may c [] Resting (Some None) (All-nil (IsOurs (rules_in service) texts c)) tt (break_waits service log how l router.core.decided)
       (judges_of_none service log e router.core.decided router.counts c (Some None)) goes
       (λ tale x come. (lost_plain tale how l).comes x come) (λ setup tale. lost_begins setup tale how l _)
       (loses_open log t now how l router.open_just (ended_keeps l c links t now so))

@@ -10,6 +10,7 @@ use Rattle.mx_wire.specs.Log.{AreMarks, Log}
 use Rattle.mx_wire.specs.Tells.{MayFollow}
 use Rattle.mx_wire.specs.declared.entry.Entry.{Entry}
 use Rattle.mx_wire.specs.declared.entry.Entry.TheVariants as entry
+use Rattle.core_service.specs.Serves.{rules_in}
 use Rattle.core_service.specs.declared.service.Service.{Service}
 use Rattle.core_texts.specs.declared.texts.Texts.{Texts}
 use Rattle.private_model.specs.Names.{ClientNo, LinkId}
@@ -18,7 +19,6 @@ use Rattle.core_tables.specs.Parting.{given_row, given_up_in, lost_in, name_in, 
 use Rattle.core_tables.specs.declared.client.Client.{Client}
 use Rattle.core_tables.specs.Tables.{IsSame, Tabled}
 use Rattle.core_tables.specs.Writing.{wrote_on}
-use Rattle.query_rules.specs.Passing.{rules_of}
 use Rattle.core_promises.specs.Ruled.{ruling_of}
 use Rattle.router_laws.specs.decisions.Rulings.{IsRuledOn}
 use Rattle.router_laws.specs.decisions.Speaks.{AreGivenOurs, AreGoingOurs}
@@ -45,7 +45,7 @@ pub record Laws : Type 0 where
       → IsRouter service texts (with_entry log (entry.Wrote l offer.tag (take count offer.bytes))) now roomy
   pub loses : (service : Service) (texts : Texts) (log : Log) (t now : Tabled) (roomy : ClientNo → Bool) (l : LinkId) (how : Break)
       (given : Option GivenUp) (going : Option Going) → IsRouter service texts log t roomy → MayFollow log (entry_by how l)
-      → AreGivenOurs given → AreGoingOurs (rules_of service.rules) texts going → (so : LosesSo service.setup service.default_schema l given going t now)
+      → AreGivenOurs given → AreGoingOurs (rules_in service) texts going → (so : LosesSo service.setup service.default_schema l given going t now)
       → IsRuledOn (ruling_of service (key_at texts)) going service.setup service.default_schema so.lost now so.goes
       → IsRouter service texts (with_entry log (entry_by how l)) now roomy
   pub closes : (service : Service) (texts : Texts) (log : Log) (t now : Tabled) (roomy room : ClientNo → Bool) (l : LinkId)

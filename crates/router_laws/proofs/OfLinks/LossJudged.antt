@@ -4,6 +4,7 @@ use Rattle.std.proofs.Common.{subst, inl, inr}
 use Rattle.mx_wire.specs.Log.{Log}
 use Rattle.mx_wire.specs.Tells.{MayFollow}
 use Rattle.mx_wire.specs.declared.entry.Entry.{Entry}
+use Rattle.core_service.specs.Serves.{rules_in}
 use Rattle.core_service.specs.declared.service.Service.{Service}
 use Rattle.core_texts.specs.declared.texts.Texts.{Texts}
 use Rattle.core_promises.specs.Ruled.{Ruling, book_of, ruling_of}
@@ -42,7 +43,6 @@ use Rattle.router_laws.proofs.OfLinks.Losses as losses
 use Rattle.router_laws.proofs.OfLinks.Losses.{IsLoss}
 use Rattle.router_laws.proofs.OfLinks.OneLoses as somebody
 use Rattle.router_laws.specs.links.Loses.{Break, LosesSo, entry_by}
-use Rattle.query_rules.specs.Passing.{rules_of}
 use Rattle.router_laws.specs.decisions.Speaks.{AreGoingOurs}
 use Rattle.core_texts.specs.Texts.{key_at}
 use Rattle.router_laws.proofs.OfDecisions.Speaking.{known_keys}
@@ -59,7 +59,7 @@ module _ {texts : Texts} (laws : Laws) (judges : FollowsJudge) (service : Servic
   ruling = ruling_of service (key_at texts)
 
   module _ (it : Going) (so : LosesSo service.setup service.default_schema l given (Some it) t now)
-      (ours : AreGoingOurs (rules_of service.rules) texts (Some it)) (tells : TellsSo (Some it) service.setup)
+      (ours : AreGoingOurs (rules_in service) texts (Some it)) (tells : TellsSo (Some it) service.setup)
       (ruled : IsRuledOn ruling (Some it) service.setup service.default_schema so.lost now so.goes) (setup : Setup) (codes : Codes) (plan : Plan)
       (of : IsOf (decided_with (deeds_of given (Some it)) router.counts log e router.core.decided) (length (with_entry log e)) plan)
       (fits : Fits (decided_with (deeds_of given (Some it)) router.counts log e router.core.decided).keys setup codes plan service.default_schema (tale_of setup plan (with_entry log e))) where
@@ -115,7 +115,7 @@ module _ {texts : Texts} (laws : Laws) (judges : FollowsJudge) (service : Servic
         (onward.were laws service log t now roomy l how given (Some it) router follow so ours tells setup codes plan of fits))
 
   pub loses_judge : (going : Option Going) (so : LosesSo service.setup service.default_schema l given going t now)
-      → AreGoingOurs (rules_of service.rules) texts going → TellsSo going service.setup
+      → AreGoingOurs (rules_in service) texts going → TellsSo going service.setup
       → IsRuledOn ruling going service.setup service.default_schema so.lost now so.goes
       → JudgesThen service log e router.core.decided router.counts (deeds_of given going)
   loses_judge None so ours tells ruled = λ setup codes plan of fits. record {

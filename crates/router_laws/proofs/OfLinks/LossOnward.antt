@@ -1,26 +1,23 @@
 -- A core goes on with a loss of a link to a server.
-use Rattle.std.specs.Prelude.{◌≡◌, ◌⊎◌, ◌<◌, ◌+◌, ℕ, suc, Bool, true, false, ◌&&◌, ◌||◌, not, All, is_some, nat_eq, if◌then◌else◌, length, slice_index_or, List, [], ◌∷◌, Option, Some, None}
-use Rattle.std.specs.List.{list_any}
-use Rattle.std.specs.Option.{option_map}
+use Rattle.std.specs.Prelude.{◌≡◌, ◌⊎◌, ◌+◌, ℕ, suc, Bool, true, false, ◌&&◌, ◌||◌, not, All, is_some, length, List, [], Option, Some, None}
 use Rattle.std.proofs.Common.{refl, sym, ap, ◌∙◌, subst, inl, inr}
-use Rattle.std.proofs.lemmas.Bool.{false≢true, true≢false}
+use Rattle.std.proofs.lemmas.Bool.{false≢true}
 use Rattle.std.proofs.lemmas.List.Elements.{All-weaker}
 use Rattle.mx_wire.specs.Log.{Log, is_open, open_step}
 use Rattle.mx_wire.specs.Moments.{AllLawful}
 use Rattle.mx_wire.specs.Tells.{MayFollow}
 use Rattle.mx_wire.specs.declared.entry.Entry.{Entry}
 use Rattle.mx_wire.specs.Log as logs
+use Rattle.core_service.specs.Serves.{rules_in}
 use Rattle.core_service.specs.declared.service.Service.{Service}
 use Rattle.core_texts.specs.declared.texts.Texts.{Texts}
 use Rattle.client_session.specs.Setups.{Setup as Serving}
-use Rattle.private_model.proofs.Maps.{link_of}
 use Rattle.private_model.specs.Names.{ClientNo, LinkId}
 use Rattle.private_model.specs.Story.{is_link_id}
 use Rattle.private_model.specs.View.{Setup}
 use Rattle.link_laws.specs.Stands.{Codes}
 use Rattle.log_story.specs.Headline.{tale_of}
-use Rattle.log_story.specs.Owed.{name_of}
-use Rattle.log_story.specs.Plan.{LastWord, Plan, WordPlace, word_at}
+use Rattle.log_story.specs.Plan.{Plan, WordPlace, word_at}
 use Rattle.log_story.specs.Said.{ClosesFirst}
 use Rattle.log_story.specs.Tale as tales
 use Rattle.log_story.specs.Tale.{Tale, is_to_server}
@@ -45,7 +42,6 @@ use Rattle.core_laws.specs.entry.Cores.{GoesOn, IsSafely, with_entry}
 use Rattle.core_laws.specs.entry.Dues.{AreSilent, AreWrittenTo, EndsSaying, IsSaidLast}
 use Rattle.core_laws.specs.entry.Entries.{behind}
 use Rattle.core_laws.specs.entry.Grows.{IsHeardMore}
-use Rattle.core_laws.specs.entry.Safe.{IsSafe}
 use Rattle.core_laws.specs.entry.Speaks.{IsSilentOrSpoken}
 use Rattle.core_laws.specs.entry.Tells.{Fits, IsOf, ground}
 use Rattle.router_laws.proofs.OfClients.Continuing.{all_were}
@@ -60,13 +56,13 @@ use Rattle.core_laws.specs.clients.Going.{GivenUp, Going, told_to}
 use Rattle.core_laws.specs.clients.Keeps.{KeepsRows}
 use Rattle.router_laws.specs.decisions.Counting.{BeginsSo, TakesSo}
 use Rattle.router_laws.specs.decisions.Deeds as deeds
-use Rattle.router_laws.specs.decisions.Deeds.{AreAlone, Counts, Deeds, counts_with, decided_with, taken_by}
+use Rattle.router_laws.specs.decisions.Deeds.{Counts, Deeds, counts_with, decided_with, taken_by}
 use Rattle.router_laws.specs.decisions.Goings.{deeds_of}
 use Rattle.router_laws.proofs.OfDecisions.Working.{all_sent}
 use Rattle.router_laws.specs.decisions.Judges.{AreSent}
 use Rattle.router_laws.specs.decisions.Plans.{AreUngiven, AreUnreplied, HasDeeds, KeepsAnswers, PlansSo}
 use Rattle.router_laws.specs.decisions.Records.{AreCountsOf, IsRecorded}
-use Rattle.router_laws.specs.decisions.Routers.{AreOpenJust, GoesSo, GoesSoBy, IsBefore, IsRouter}
+use Rattle.router_laws.specs.decisions.Routers.{AreOpenJust, GoesSo, IsBefore, IsRouter}
 use Rattle.router_laws.proofs.OfReading.Onward.{none_left, or_first, or_second, there_by, word_placed}
 use Rattle.router_laws.proofs.OfReading.Rested.{Follows}
 use Rattle.router_laws.specs.reading.Hearing.{TellsSo}
@@ -78,7 +74,6 @@ use Rattle.router_laws.proofs.OfLinks.Losses as losses
 use Rattle.router_laws.proofs.OfLinks.Losses.{AreLost, IsLoss}
 use Rattle.router_laws.proofs.OfLinks.Routing.{has_row, open_one}
 use Rattle.router_laws.specs.links.Loses.{Break, LosesSo, ReadEnds, ReadFails, WriteFails, entry_by}
-use Rattle.query_rules.specs.Passing.{rules_of}
 use Rattle.router_laws.proofs.OfDecisions.Speaking.{going_told}
 use Rattle.router_laws.specs.decisions.Speaks.{AreGoingOurs}
 
@@ -161,7 +156,7 @@ loses_open log t now how l rows keeps =
 
 module _ {texts : Texts} (laws : Laws) (service : Service) (log : Log) (t now : Tabled) (roomy : ClientNo → Bool) (l : LinkId) (how : Break)
     (given : Option GivenUp) (going : Option Going) (router : IsRouter service texts log t roomy) (follow : MayFollow log (entry_by how l))
-    (so : LosesSo service.setup service.default_schema l given going t now) (ours : AreGoingOurs (rules_of service.rules) texts going)
+    (so : LosesSo service.setup service.default_schema l given going t now) (ours : AreGoingOurs (rules_in service) texts going)
     (tells : TellsSo going service.setup) (setup : Setup) (codes : Codes) (plan : Plan)
     (of : IsOf (decided_with (deeds_of given going) router.counts log (entry_by how l) router.core.decided) (length (with_entry log (entry_by how l))) plan)
     (fits : Fits (decided_with (deeds_of given going) router.counts log (entry_by how l) router.core.decided).keys setup codes plan service.default_schema (tale_of setup plan (with_entry log (entry_by how l)))) where
@@ -195,7 +190,7 @@ module _ {texts : Texts} (laws : Laws) (service : Service) (log : Log) (t now : 
   -- what is given up wasn't answered before
 
   plans : PlansSo g log e its_deeds
-  plans = before.so (going_told d.keys (rules_of service.rules) texts given going router.known ours)
+  plans = before.so (going_told d.keys (rules_in service) texts given going router.known ours)
       (laws.ungiven service.setup g t (told_to given) (λ (other : LinkId). is_link_id other l) before.rests.stands gives)
 
   unreplied : AreUnreplied g (λ (c : ClientNo). is_some (told_to given c))

@@ -1,15 +1,14 @@
 -- A router goes on as links to servers are opened, written on and closed.
-use Rattle.std.specs.Prelude.{◌≡◌, ◌||◌, ℕ, Bool, true, false, ◌&&◌, is_some, nat_eq, if◌then◌else◌, take, List, [], Option, Some, None}
+use Rattle.std.specs.Prelude.{◌≡◌, ◌||◌, ℕ, Bool, true, false, ◌&&◌, is_some, nat_eq, if◌then◌else◌, List, [], Option, Some, None}
 use Rattle.std.specs.List.{list_any}
 use Rattle.std.specs.Option.{option_and_then, option_map}
 use Rattle.std.proofs.Common.{refl, sym, ap, ◌∙◌, subst, arith}
-use Rattle.std.proofs.lemmas.Bool.{true≢false}
 use Rattle.std.proofs.lemmas.List.Elements.{All-nil}
 use Rattle.std.proofs.lemmas.Option.{none-some}
 use Rattle.mx_base.specs.Sent.{Sent as Offer}
 use Rattle.mx_base.specs.declared.names.Address.{Address}
 use Rattle.mx_base.specs.declared.tag.Tag.{Tag}
-use Rattle.mx_wire.specs.Log.{Log, is_link, is_open, link_of, open_step, opened_links}
+use Rattle.mx_wire.specs.Log.{Log, is_link, is_open, link_of, open_step}
 use Rattle.mx_wire.specs.declared.entry.Entry.{Entry}
 use Rattle.mx_wire.specs.declared.entry.Entry.TheVariants as entry
 use Rattle.private_model.proofs.Maps.{link_of as same_link_of, same_link}
@@ -21,7 +20,6 @@ use Rattle.log_story.specs.Plan.{Plan, StepText}
 use Rattle.log_story.specs.Tale.{is_to_server}
 use Rattle.server_side.specs.Account.{Account as Login}
 use Rattle.lent_link.specs.declared.link.Begins.{Begins}
-use Rattle.lent_link.specs.declared.link.Begins.TheVariants as begins
 use Rattle.link_state.specs.declared.asking.Purpose.{Purpose}
 use Rattle.link_state.specs.declared.asking.Purpose.TheVariants as purposes
 use Rattle.link_state.specs.declared.writing.Writing.{Writing}
@@ -32,8 +30,7 @@ use Rattle.core_tables.specs.Tables.{Tabled, link_changed}
 use Rattle.core_tables.specs.Writing.{begun_for, lasts, purpose_next, server_wrote, wrote_by, wrote_on}
 use Rattle.core_tables.specs.declared.server.Server.{Server}
 use Rattle.router_laws.proofs.OfDecisions.Listing.{is_tale_of, open_with}
-use Rattle.router_laws.specs.decisions.Deeds.{AreAlone, Deeds, IsAlone, begun_at, is_opened, login_at, no_deeds}
-use Rattle.router_laws.specs.decisions.Plans.{EndsNone}
+use Rattle.router_laws.specs.decisions.Deeds.{Deeds, IsAlone, begun_at, is_opened, login_at, no_deeds}
 use Rattle.router_laws.specs.decisions.Routers.{AreOpenJust}
 use Rattle.core_laws.specs.entry.Cores.{with_entry}
 use Rattle.router_laws.proofs.OfLinks.Calming.{IsIdleBy}

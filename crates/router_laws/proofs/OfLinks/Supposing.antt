@@ -1,5 +1,5 @@
 -- Tables stand alike by another plan, by which the same messages are answered by now.
-use Rattle.std.specs.Prelude.{◌≡◌, ◌≤◌, ◌+◌, ◌-◌, ℕ, zero, suc, Bool, true, false, is_some, ◌||◌, All, length, take, List, [], ◌∷◌, ◌++◌, Option, Some, None}
+use Rattle.std.specs.Prelude.{◌≡◌, ◌≤◌, ◌+◌, ◌-◌, ℕ, zero, suc, Bool, true, false, is_some, ◌||◌, length, take, List, [], ◌∷◌, ◌++◌, Option, Some, None}
 use Rattle.std.specs.Option.{option_or}
 use Rattle.std.proofs.Common.{refl, sym, ap, ◌∙◌, arith}
 use Rattle.std.proofs.lemmas.List.{length-take}
@@ -259,6 +259,10 @@ module _ (g : Ground) (own : MessageName → Option OwnAnswer) where
     unused = λ number greater.
         made_alike (view_on g) client number 1 (take (client.taken - 1) (messages g.plan client)) ∙ is.unused number greater;
     kept = λ answered number greater. made_alike (view_on g) client number 1 (take client.taken (messages g.plan client)) ∙ is.kept answered number greater;
+    known = λ number made some has kept.
+        is.known number made some (sym (made_alike (view_on g) client number 1 (take (client.taken - 1) (messages g.plan client))) ∙ has) kept;
+    stands = λ answered number made some has kept.
+        is.stands answered number made some (sym (made_alike (view_on g) client number 1 (take client.taken (messages g.plan client))) ∙ has) kept;
   }
 
   duly_alike : AreDuly g.setup g.plan g.tale.story → AreDuly g.setup supposed.plan g.tale.story

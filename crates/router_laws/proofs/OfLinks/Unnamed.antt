@@ -95,7 +95,7 @@ module _ (setup : Setup) (plan : Plan) (l : LinkId) where
 
   away_told : (tale : Tale) (e : Entry) → is_link l (link_of e) ≡ false → All IsAway tale.clients → All IsAway (clients_by setup plan tale e)
   away_told tale (entry.Accepted port link salt) aside all =
-      away_last tale.clients (new_client (length tale.clients + 1) link salt) all (flipped l link aside)
+      away_last tale.clients (new_client (length tale.clients + 1) port link salt) all (flipped l link aside)
   away_told tale (entry.Got link bytes) aside all =
       away_if (is_to_server tale link) tale.clients (map (client_hears link bytes) tale.clients) all
       (away_map (client_hears link bytes) (λ x. either_link (is_link_id x.link link) _ x x.link refl refl) tale.clients all)

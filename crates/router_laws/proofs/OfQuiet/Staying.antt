@@ -6,6 +6,7 @@ use Rattle.mx_wire.specs.Log.{AreMarks, IsMark, Log, is_link, is_open, link_of, 
 use Rattle.mx_wire.specs.Tells.{MayFollow}
 use Rattle.mx_wire.specs.declared.entry.Entry.{Entry}
 use Rattle.mx_wire.specs.declared.entry.Entry.TheVariants as entry
+use Rattle.core_service.specs.Serves.{rules_in}
 use Rattle.core_service.specs.declared.service.Service.{Service}
 use Rattle.core_texts.specs.declared.texts.Texts.{Texts}
 use Rattle.client_session.specs.Setups.{Setup as Serving}
@@ -38,7 +39,6 @@ use Rattle.router_laws.proofs.OfDecisions.Listing.{is_tale_of, open_with}
 use Rattle.router_laws.proofs.OfDecisions.Recording.{one_more}
 use Rattle.router_laws.proofs.OfDecisions.Judging.{judges_none}
 use Rattle.router_laws.proofs.OfDecisions.Router.{router_goes_on, stood_before}
-use Rattle.query_rules.specs.Passing.{rules_of}
 use Rattle.router_laws.proofs.OfDecisions.Speaking.{ours_of_none}
 use Rattle.router_laws.proofs.OfDecisions.Tallying.{counts_then}
 use Rattle.router_laws.proofs.OfDecisions.Working.{none_given}
@@ -159,7 +159,7 @@ module _ {texts : Texts} (service : Service) (knows : Knows service.setup) (log 
   open_same l = open_with log e l ∙ open_by l (is_link l (link_of e)) ∙ router.open_just l
 
   pub quiet_router : IsRouter service texts (with_entry log e) t roomy
-  quiet_router = router_goes_on service log e no_deeds t t roomy roomy router may (ours_of_none (rules_of service.rules) texts) waits
+  quiet_router = router_goes_on service log e no_deeds t t roomy roomy router may (ours_of_none (rules_in service) texts) waits
       (judges_none service log e d router.counts no_deeds (λ c. refl) (λ c. refl)) goes_so open_same
 
 -- As many marks as a log may have.

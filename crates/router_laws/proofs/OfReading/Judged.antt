@@ -6,6 +6,7 @@ use Rattle.mx_wire.specs.Log.{Log}
 use Rattle.mx_wire.specs.Tells.{MayFollow}
 use Rattle.mx_wire.specs.declared.entry.Entry.{Entry}
 use Rattle.mx_wire.specs.declared.entry.Entry.TheVariants as entry
+use Rattle.core_service.specs.Serves.{rules_in}
 use Rattle.core_service.specs.declared.service.Service.{Service}
 use Rattle.core_texts.specs.declared.texts.Texts.{Texts}
 use Rattle.core_promises.specs.Ruled.{Ruling, book_of, ruling_of}
@@ -44,7 +45,6 @@ use Rattle.router_laws.proofs.OfReading.Somebody as somebody
 use Rattle.router_laws.proofs.OfReading.Somebody.{for_other, for_same}
 use Rattle.router_laws.specs.reading.Hearing.{IsHearing}
 use Rattle.router_laws.specs.reading.Hears.{HearsSo}
-use Rattle.query_rules.specs.Passing.{rules_of}
 use Rattle.router_laws.specs.decisions.Speaks.{AreGoingOurs}
 use Rattle.core_texts.specs.Texts.{key_at}
 use Rattle.router_laws.proofs.OfDecisions.Speaking.{known_keys}
@@ -92,7 +92,7 @@ module _ {texts : Texts} (laws : Laws) (judges : FollowsJudge) (service : Servic
   ruling = ruling_of service (key_at texts)
 
   module _ (it : Going) (so : HearsSo service.setup service.default_schema l bytes clock given (Some it) t now)
-      (ours : AreGoingOurs (rules_of service.rules) texts (Some it))
+      (ours : AreGoingOurs (rules_in service) texts (Some it))
       (ruled : IsRuledOn ruling (Some it) service.setup service.default_schema so.freed now so.goes) (setup : Setup) (codes : Codes) (plan : Plan)
       (of : IsOf (decided_with (deeds_of given (Some it)) router.counts log e router.core.decided) (length (with_entry log e)) plan)
       (fits : Fits (decided_with (deeds_of given (Some it)) router.counts log e router.core.decided).keys setup codes plan service.default_schema (tale_of setup plan (with_entry log e))) where
@@ -147,7 +147,7 @@ module _ {texts : Texts} (laws : Laws) (judges : FollowsJudge) (service : Servic
         (onward.were laws service log t now roomy l bytes clock given (Some it) router follow bytes_are so ours setup codes plan of fits))
 
   pub hears_judge : (going : Option Going) (so : HearsSo service.setup service.default_schema l bytes clock given going t now)
-      → AreGoingOurs (rules_of service.rules) texts going → IsRuledOn ruling going service.setup service.default_schema so.freed now so.goes
+      → AreGoingOurs (rules_in service) texts going → IsRuledOn ruling going service.setup service.default_schema so.freed now so.goes
       → JudgesThen service log e router.core.decided router.counts (deeds_of given going)
   hears_judge None so ours ruled = λ setup codes plan of fits. record {
     takes = λ y seated. tt;

@@ -1,6 +1,5 @@
 -- A core goes on with bytes on a link to a server.
-use Rattle.std.specs.Prelude.{◌≡◌, ◌⊎◌, ◌<◌, ◌+◌, ℕ, suc, Bool, true, false, ◌&&◌, ◌||◌, not, All, is_some, if◌then◌else◌, length, slice_index_or, List, [], ◌∷◌, Option, Some, None}
-use Rattle.std.specs.List.{list_any}
+use Rattle.std.specs.Prelude.{◌≡◌, ◌⊎◌, ◌+◌, ℕ, suc, Bool, true, false, ◌&&◌, ◌||◌, not, All, is_some, if◌then◌else◌, length, List, [], ◌∷◌, Option, Some, None}
 use Rattle.std.proofs.Common.{refl, sym, ap, ◌∙◌, subst, inl, inr}
 use Rattle.std.proofs.lemmas.Bool.{false≢true, true≢false}
 use Rattle.std.proofs.lemmas.List.Elements.{All-weaker}
@@ -11,11 +10,12 @@ use Rattle.mx_wire.specs.Moments.{AllLawful}
 use Rattle.mx_wire.specs.Tells.{MayFollow}
 use Rattle.mx_wire.specs.declared.entry.Entry.{Entry}
 use Rattle.mx_wire.specs.declared.entry.Entry.TheVariants as entry
+use Rattle.core_service.specs.Serves.{rules_in}
 use Rattle.core_service.specs.declared.service.Service.{Service}
 use Rattle.core_texts.specs.declared.texts.Texts.{Texts}
 use Rattle.client_session.specs.Setups.{Setup as Serving}
 use Rattle.private_model.proofs.Maps.{link_of}
-use Rattle.private_model.specs.Names.{ClientNo, LinkId, MessageName}
+use Rattle.private_model.specs.Names.{ClientNo, LinkId}
 use Rattle.private_model.specs.Story.{is_link_id}
 use Rattle.private_model.specs.View.{Setup}
 use Rattle.link_laws.specs.Stands.{Codes}
@@ -25,7 +25,6 @@ use Rattle.log_story.specs.Plan.{Behind, LastWord, Plan, WordPlace, own_at, word
 use Rattle.log_story.specs.Tale as tales
 use Rattle.log_story.specs.Tale.{Tale, is_to_server}
 use Rattle.log_story.specs.Telling.{tale_step, told}
-use Rattle.step_laws.proofs.Seating.{counted_seats}
 use Rattle.step_laws.proofs.Telling.{told_spares}
 use Rattle.step_laws.specs.Freed.{Ascend}
 use Rattle.step_laws.specs.Seats.{IsSeated}
@@ -46,7 +45,6 @@ use Rattle.core_laws.specs.entry.Cores.{GoesOn, IsSafely, with_entry}
 use Rattle.core_laws.specs.entry.Dues.{AreSilent, AreWrittenTo, EndsSaying, IsSaidLast}
 use Rattle.core_laws.specs.entry.Entries.{behind}
 use Rattle.core_laws.specs.entry.Grows.{IsHeardMore}
-use Rattle.core_laws.specs.entry.Safe.{IsSafe}
 use Rattle.core_laws.specs.entry.Speaks.{IsSilentOrSpoken}
 use Rattle.core_laws.specs.entry.Tells.{Fits, IsOf, ground}
 use Rattle.router_laws.proofs.OfClients.Continuing.{all_were}
@@ -78,7 +76,6 @@ use Rattle.router_laws.proofs.OfReading.Rows.{hears_keep_rows}
 use Rattle.router_laws.proofs.OfReading.Spoken.{all_spoken}
 use Rattle.router_laws.specs.reading.Hearing.{AreHeard, IsHearing, TellsFor, TellsSo, last_word}
 use Rattle.router_laws.specs.reading.Hears.{HearsSo}
-use Rattle.query_rules.specs.Passing.{rules_of}
 use Rattle.router_laws.proofs.OfDecisions.Speaking.{going_told}
 use Rattle.router_laws.specs.decisions.Speaks.{AreGoingOurs}
 
@@ -171,7 +168,7 @@ there_by g client (Some row) is going = refl
 module _ {texts : Texts} (laws : Laws) (service : Service) (log : Log) (t now : Tabled) (roomy : ClientNo → Bool) (l : LinkId) (bytes : List ℕ)
     (clock : ℕ) (given : Option GivenUp) (going : Option Going) (router : IsRouter service texts log t roomy) (follow : MayFollow log (entry.Got l bytes))
     (bytes_are : AreBytes bytes) (so : HearsSo service.setup service.default_schema l bytes clock given going t now)
-    (ours : AreGoingOurs (rules_of service.rules) texts going) (setup : Setup)
+    (ours : AreGoingOurs (rules_in service) texts going) (setup : Setup)
     (codes : Codes) (plan : Plan)
     (of : IsOf (decided_with (deeds_of given going) router.counts log (entry.Got l bytes) router.core.decided) (length (with_entry log (entry.Got l bytes))) plan)
     (fits : Fits (decided_with (deeds_of given going) router.counts log (entry.Got l bytes) router.core.decided).keys setup codes plan service.default_schema (tale_of setup plan (with_entry log (entry.Got l bytes)))) where
@@ -246,7 +243,7 @@ module _ {texts : Texts} (laws : Laws) (service : Service) (log : Log) (t now : 
       said_clients (all_sent service.setup (on g said) so.heard (told_to given) (λ (other : LinkId). false) stands gives)
 
   plans : PlansSo g log e its_deeds
-  plans = before.so (going_told d.keys (rules_of service.rules) texts given going router.known ours) ungiven
+  plans = before.so (going_told d.keys (rules_in service) texts given going router.known ours) ungiven
 
   pub is : IsHearing service.setup service.default_schema g log l bytes given going
   is = record {

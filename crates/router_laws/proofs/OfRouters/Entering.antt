@@ -1,11 +1,12 @@
 -- A router goes on with an entry by which nobody is called, ended or given up.
-use Rattle.std.specs.Prelude.{◌≡◌, ◌||◌, ℕ, suc, Bool, true, length, List, Option, None}
+use Rattle.std.specs.Prelude.{◌≡◌, ◌||◌, ℕ, suc, Bool, true, length, Option, None}
 use Rattle.std.proofs.Common.{refl, sym, ap, ◌∙◌}
 use Rattle.std.proofs.lemmas.List.Elements.{All-nil}
 use Rattle.mx_wire.specs.Log.{Log}
 use Rattle.mx_wire.specs.Tells.{MayFollow}
 use Rattle.mx_wire.specs.declared.entry.Entry.{Entry}
 use Rattle.server_side.specs.Account.{Account as Login}
+use Rattle.core_service.specs.Serves.{rules_in}
 use Rattle.core_service.specs.declared.service.Service.{Service}
 use Rattle.core_texts.specs.declared.texts.Texts.{Texts}
 use Rattle.private_model.specs.Names.{ClientNo}
@@ -30,7 +31,6 @@ use Rattle.router_laws.proofs.OfDecisions.Judging.{judges_none}
 use Rattle.router_laws.proofs.OfDecisions.Router.{router_goes_on, stood_before}
 use Rattle.router_laws.proofs.OfDecisions.Staying.{counts_kept}
 use Rattle.router_laws.proofs.OfDecisions.Working.{none_given}
-use Rattle.query_rules.specs.Passing.{rules_of}
 use Rattle.router_laws.proofs.OfDecisions.Speaking.{ours_of_link}
 use Rattle.router_laws.specs.decisions.Counting.{CallsNone, is_no_event}
 use Rattle.router_laws.specs.decisions.Deeds.{AreAlone, Deeds, IsAlone, counts_with, decided_with}
@@ -94,5 +94,5 @@ module _ {texts : Texts} (service : Service) (log : Log) (e : Entry) (login : Op
     }
 
   pub router_enters : AreOpenJust (with_entry log e) now → IsRouter service texts (with_entry log e) now room
-  router_enters = router_goes_on service log e deeds t now roomy room router may (ours_of_link (rules_of service.rules) texts login begun) waits
+  router_enters = router_goes_on service log e deeds t now roomy room router may (ours_of_link (rules_in service) texts login begun) waits
       (judges_none service log e d router.counts deeds (λ c. refl) (λ c. refl)) goes_so

@@ -26,7 +26,7 @@ use Rattle.log_story.specs.Owed.{talk_of}
 use Rattle.log_story.specs.Plan.{Plan, Route}
 use Rattle.log_story.specs.Servers.{logged_in_as}
 use Rattle.log_story.specs.Tale as tales
-use Rattle.log_story.specs.Tale.{Tale, is_to_server}
+use Rattle.log_story.specs.Tale.{is_to_server}
 use Rattle.step_laws.proofs.Seating.{counted_seats}
 use Rattle.step_laws.specs.Seats.{IsSeated}
 use Rattle.tale_world.proofs.Agreeing.{agrees-itself}
@@ -143,7 +143,7 @@ module _ (default : List ℕ) (d : Decided) (log : Log) where
   who_like x y like who =
       subst (IsWhoItSays setup plan default y) (ap opening_of (sym same)) (by (opening_of (talk_of plan x)) who) where
         same : talk_of plan y ≡ talk_of plan x
-        same = λ i. record { setup = plan.service; number = (like.number i).0; salt = like.salt i; read = like.read i }
+        same = λ i. record { setup = plan.service; number = (like.number i).0; port = like.port i; salt = like.salt i; read = like.read i }
 
         by : (o : Opening) → IsWhoItSays setup plan default x o → IsWhoItSays setup plan default y o
         by (Waits switched) is = tt

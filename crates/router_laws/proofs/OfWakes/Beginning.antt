@@ -1,7 +1,7 @@
 -- Where something may begin on a link, and where the text of an execute may be prepared there.
 use Rattle.std.specs.Prelude.{◌≡◌, ℕ, Bool, true, false, not, ◌&&◌, bytes_eq, nat_eq, if◌then◌else◌, List, [], ◌∷◌, Option, Some, None}
 use Rattle.std.specs.Cmp.Lexicographic.{bytes_decides}
-use Rattle.std.proofs.Common.{refl, sym, ap, ◌∙◌, subst}
+use Rattle.std.proofs.Common.{refl, sym, ap, ◌∙◌}
 use Rattle.std.proofs.lemmas.Bool.{and_from, and_parts, false≢true, true≢false}
 use Rattle.std.proofs.lemmas.List.{length-set, set-set}
 use Rattle.std.proofs.lemmas.Option.{none-some, same_Some}
@@ -26,7 +26,6 @@ use Rattle.tale_world.specs.Tests.{are_settings, is_schema, is_value}
 use Rattle.link_state.specs.Places as places
 use Rattle.link_state.specs.Places.{calm, calm_place, place_wish, settings_wish, text_of}
 use Rattle.link_state.specs.declared.state.Stage.TheVariants.{Quiet}
-use Rattle.link_state.specs.declared.wish.Wish.{Wish}
 use Rattle.link_state.specs.declared.wish.Wish.TheVariants as wishes
 use Rattle.link_laws.specs.Stands.{Codes, IsLink}
 use Rattle.lent_link.specs.Links.{is_in}

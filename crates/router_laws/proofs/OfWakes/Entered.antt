@@ -57,10 +57,10 @@ use Rattle.router_laws.proofs.OfDecisions.Gathering.{all_kept, all_silent, over_
 use Rattle.router_laws.proofs.OfDecisions.Keeping.{recorded_then}
 use Rattle.router_laws.proofs.OfDecisions.Listing.{open_with}
 use Rattle.router_laws.proofs.OfDecisions.Router.{router_goes_on, stood_before}
-use Rattle.query_rules.specs.Passing.{rules_of}
 use Rattle.core_promises.specs.Judges.{Rulebook}
 use Rattle.core_promises.specs.Ruled.{book_of, ruling_of}
 use Rattle.router_promises.specs.Takings.{Taking, takings_at}
+use Rattle.core_service.specs.Serves.{rules_in}
 use Rattle.core_service.specs.declared.service.Service.{Service}
 use Rattle.core_texts.specs.declared.texts.Texts.{Texts}
 use Rattle.router_laws.proofs.OfDecisions.Speaking.{ours_alone, ours_told}
@@ -163,7 +163,7 @@ module _ {texts : Texts} (service : Service) (knows : Knows service.setup) (log 
     (roomy room : ClientNo → Bool) (given : List GivenUp) (callers : List Caller) (links : List LinkId) (router : IsRouter service texts log t roomy)
     (may : MayFollow log e) (gives : GivesUpAll given t mid) (theirs : (c : ClientNo) → is_given given c ≡ true → is_called callers c ≡ true)
     (so_calls : CallsSo service.setup service.default_schema callers links mid now) (given_ours : All IsGivenOurs given)
-    (ours : All (IsCallerOurs (rules_of service.rules) texts) callers) (waits : WaitsThen service log e router.core.decided) (judges : TurnsJudge)
+    (ours : All (IsCallerOurs (rules_in service) texts) callers) (waits : WaitsThen service log e router.core.decided) (judges : TurnsJudge)
     (ruled : AreRuledAll (ruling_of service (key_at texts)) callers service.setup service.default_schema mid so_calls.turned so_calls.going)
     (tells : All (λ (k : Caller). TellsFor k.parting service.setup k.client) callers)
     (called_so : (g : Ground) → Rests service.setup g t roomy → PlansSo g log e (calls_deeds given callers) → AreCalled g e (is_called callers) roomy room) where
@@ -182,11 +182,11 @@ module _ {texts : Texts} (service : Service) (knows : Knows service.setup) (log 
   abbrev given_of : ClientNo → Option (List ℕ)
   given_of = payload_in given
 
-  all_ours : AreOurs (rules_of service.rules) texts made
-  all_ours = ours_of_calls (rules_of service.rules) texts given callers given_ours ours
+  all_ours : AreOurs (rules_in service) texts made
+  all_ours = ours_of_calls (rules_in service) texts given callers given_ours ours
 
   all_alone : AreAlone made
-  all_alone = ours_alone (rules_of service.rules) texts made all_ours
+  all_alone = ours_alone (rules_in service) texts made all_ours
 
   -- who isn't called isn't given up
   none_given : (c : ClientNo) → called c ≡ false → is_some (given_of c) ≡ false
@@ -220,7 +220,7 @@ module _ {texts : Texts} (service : Service) (knows : Knows service.setup) (log 
     given_up = knows.aside g t given_of stood.rests.stands (λ c payload is. all_unsent given t mid gives c (ap is_some is))
 
     so : PlansSo g log e made
-    so = stood.so (ours_told d.keys (rules_of service.rules) texts made router.known all_ours)
+    so = stood.so (ours_told d.keys (rules_in service) texts made router.known all_ours)
         (ungiven service.setup g t given_of (λ (l : LinkId). false) stood.rests.stands given_up)
 
     is_called_so : AreCalled g e called roomy room

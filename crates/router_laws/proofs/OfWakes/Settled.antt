@@ -1,5 +1,5 @@
 -- Tables that settle stand for the tale as before.
-use Rattle.std.specs.Prelude.{◌≡◌, ◌||◌, ℕ, Bool, true, false, not, ◌&&◌, nat_eq, is_some, List, [], ◌∷◌, ◌++◌, Option, Some, None, if◌then◌else◌}
+use Rattle.std.specs.Prelude.{◌≡◌, ◌||◌, ℕ, Bool, true, false, nat_eq, is_some, List, [], ◌∷◌, ◌++◌, Option, Some, None, if◌then◌else◌}
 use Rattle.std.specs.Option.{option_map}
 use Rattle.std.proofs.Common.{refl, sym, ap, ◌∙◌}
 use Rattle.mx_wire.specs.Log.{Log}
@@ -291,6 +291,8 @@ router_settled laws service texts log t now roomy router by = record {
   known = router.known;
   lawful = router.lawful;
   open_just = just_settled texts log t now by router.open_just;
+  rules = router.rules;
+  ruled = router.ruled;
   spoken = router.spoken;
   waited = router.waited;
   judged = router.judged;

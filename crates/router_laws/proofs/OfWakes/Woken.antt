@@ -10,6 +10,7 @@ use Rattle.mx_wire.specs.Log.{Log}
 use Rattle.mx_wire.specs.Tells.{MayFollow}
 use Rattle.mx_wire.specs.declared.entry.Entry.{Entry}
 use Rattle.mx_wire.specs.declared.entry.Entry.TheVariants.{OpenFailed, Woke}
+use Rattle.core_service.specs.Serves.{rules_in}
 use Rattle.core_service.specs.declared.service.Service.{Service}
 use Rattle.client_session.specs.Setups.{Setup as Serving}
 use Rattle.private_model.specs.Names.{ClientNo, LinkId}
@@ -29,7 +30,6 @@ use Rattle.core_stands.specs.Grounds.{Ground, view_on}
 use Rattle.core_stands.specs.Stands.{IsAt, IsCalm, Rests}
 use Rattle.core_laws.specs.entry.Cores.{with_entry}
 use Rattle.core_laws.specs.clients.Going.{GivenUp}
-use Rattle.query_rules.specs.Passing.{rules_of}
 use Rattle.core_promises.specs.Ruled.{ruling_of}
 use Rattle.router_laws.specs.decisions.Plans.{HasDeeds, PlansSo}
 use Rattle.router_laws.specs.decisions.Routers.{IsRouter, WaitsThen}
@@ -157,7 +157,7 @@ module _ (service : Service) (given : List GivenUp) (callers : List Caller) (lin
     }
 
   pub woke_router : {texts : Texts} → Knows service.setup → (router : IsRouter service texts log t roomy) → MayFollow log e → All IsGivenOurs given
-      → All (IsCallerOurs (rules_of service.rules) texts) callers → WaitsThen service log e router.core.decided → TurnsJudge
+      → All (IsCallerOurs (rules_in service) texts) callers → WaitsThen service log e router.core.decided → TurnsJudge
       → AreRuledAll (ruling_of service (key_at texts)) callers service.setup service.default_schema wakes.late wakes.calls.turned wakes.calls.going
       → All (λ (k : Caller). TellsFor k.parting service.setup k.client) callers → IsRouter service texts (with_entry log e) now room
   woke_router knows router may given_ours ours waits judges ruled tells =
@@ -205,7 +205,7 @@ module _ (service : Service) (given : List GivenUp) (callers : List Caller) (lin
     }
 
   pub fails_router : {texts : Texts} → Knows service.setup → IsRouter service texts log t roomy → MayFollow log failed → All IsGivenOurs given
-      → All (IsCallerOurs (rules_of service.rules) texts) callers → TurnsJudge
+      → All (IsCallerOurs (rules_in service) texts) callers → TurnsJudge
       → AreRuledAll (ruling_of service (key_at texts)) callers service.setup service.default_schema fails.late fails.calls.turned fails.calls.going
       → All (λ (k : Caller). TellsFor k.parting service.setup k.client) callers → IsRouter service texts (with_entry log failed) now roomy
   fails_router knows router may given_ours ours judges ruled tells =

@@ -31,5 +31,5 @@ pub record IsTurnedAway (port : Port) (link : LinkId) (salt : List ℕ) (c : Cli
   pub ends : IsSame new (left_in c ended between)
 
 abbrev pub ComesSo : Welcome → Service → Port → LinkId → (salt : List ℕ) → ClientNo → (old new : Tabled) → Type 0
-ComesSo Served service port link salt c old new = IsReceived (new_seat link c salt service) link c old new
+ComesSo Served service port link salt c old new = IsReceived (new_seat link c salt port service) link c old new
 ComesSo TurnedAway service port link salt c old new = IsTurnedAway port link salt c old new

@@ -18,6 +18,7 @@ is_read_on _ l = false
 pub record IsContinued (plan : Plan) (tale : Tale) (e : Entry) (was now : Client) : Type 0 where
   pub number : now.number ≡ was.number
   pub link : now.link ≡ was.link
+  pub port : now.port ≡ was.port
   pub salt : now.salt ≡ was.salt
   pub more : List ℕ
   pub read : now.read ≡ was.read ++ more
@@ -46,5 +47,5 @@ pub record IsLike (was now : Client) : Type 0 where
 
 -- it came by the entry
 abbrev pub HasCome : Tale → Entry → Client → Type 0
-HasCome tale (Accepted port link salt) now = IsLike (new_client (length tale.clients + 1) link salt) now
+HasCome tale (Accepted port link salt) now = IsLike (new_client (length tale.clients + 1) port link salt) now
 HasCome tale _ now = ⊥

@@ -1,6 +1,5 @@
 -- What a plan has of an entry.
 use Rattle.std.specs.Prelude.{◌≡◌, ℕ, suc, Bool, false, true, ◌||◌, ◌&&◌, All, is_some, List, None, Option, Some}
-use Rattle.mx_base.specs.declared.names.Port.{Port}
 use Rattle.mx_wire.specs.Log.{Log, opened_links}
 use Rattle.mx_wire.specs.declared.entry.Entry.{Entry}
 use Rattle.client_session.specs.Setups.{Setup as Service}
@@ -73,6 +72,6 @@ pub record PlansComing (g : Ground) (c : ClientNo) (whose over : ClientNo → Bo
   pub kept : gives_up g.plan (suc g.tale.moment) (record { client = c; ordinal = 0 }) ≡ false
   pub going : g.over c ≡ false
 
-pub record PlansAway (g : Ground) (port : Port) (c : ClientNo) (over : ClientNo → Bool) : Type 0 where
+pub record PlansAway (g : Ground) (c : ClientNo) (over : ClientNo → Bool) : Type 0 where
   pub coming : PlansComing g c (ends_of c true) over
-  pub word : g.plan.words c ≡ Some (away_word port (suc g.tale.moment))
+  pub word : g.plan.words c ≡ Some (away_word (suc g.tale.moment))

@@ -8,7 +8,8 @@ use Rattle.core_service.specs.declared.service.Service.{Service}
 use Rattle.core_texts.specs.Texts.{key_at}
 use Rattle.core_texts.specs.declared.texts.Texts.{Texts}
 use Rattle.client_session.specs.Setups.{Setup as Serving}
-use Rattle.private_model.specs.Names.{ClientNo, LinkId}
+use Rattle.query_rules.specs.declared.rule.Rule.{Rule}
+use Rattle.private_model.specs.Names.{ClientNo, LinkId, MessageName}
 use Rattle.private_model.specs.Story.{Key}
 use Rattle.private_model.specs.View.{Setup}
 use Rattle.link_laws.specs.Stands.{Codes}
@@ -22,11 +23,11 @@ use Rattle.core_laws.specs.entry.Dues.{AreWrittenTo}
 use Rattle.core_laws.specs.entry.Safe.{IsSafe}
 use Rattle.core_laws.specs.entry.Tells.{Fits, IsCore, IsOf, ground}
 use Rattle.router_laws.specs.decisions.Deeds.{AreToldBy, Counts, Deeds, counts_with, decided_with}
-use Rattle.query_rules.specs.Passing.{rules_of}
 use Rattle.router_promises.specs.Terms.{Terms, plan_in, setup_in}
 use Rattle.core_promises.specs.Waits.{AreDoneBy, WaitsSo}
 use Rattle.core_promises.specs.Judges.{JudgesBy}
 use Rattle.core_promises.specs.Ruled.{book_of}
+use Rattle.router_laws.specs.decisions.Force.{AreInForce}
 use Rattle.router_laws.specs.decisions.Speaks.{DecidesOwn}
 use Rattle.router_laws.specs.decisions.Plans.{AreUngiven, PlansSo}
 use Rattle.router_laws.specs.decisions.Records.{AreCountsBy, AreCountsOf, IsRecorded}
@@ -48,9 +49,11 @@ pub record IsRouter (service : Service) (texts : Texts) (log : Log) (t : Tabled)
   pub known : AreKnown texts core.decided.keys
   pub lawful : AllLawful MayFollow log
   pub open_just : AreOpenJust log t
-  pub spoken : DecidesOwn (rules_of service.rules) core.decided
+  pub rules : MessageName → List Rule
+  pub ruled : AreInForce service log rules
+  pub spoken : DecidesOwn rules core.decided
   pub waited : AreDoneBy service.default_schema core.decided log
-  pub judged : JudgesBy (book_of service) service.default_schema core.decided log
+  pub judged : JudgesBy (book_of service) rules service.default_schema core.decided log
 
 -- where the entry is a wait, all is done
 abbrev pub WaitsThen : Service → Log → Entry → Decided → Type 0

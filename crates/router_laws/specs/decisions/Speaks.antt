@@ -9,17 +9,17 @@ use Rattle.tale_world.specs.Decided.{Decided}
 use Rattle.core_laws.specs.clients.Follows.{Parting, Tells}
 use Rattle.core_laws.specs.clients.Going.{GivenUp, Going}
 use Rattle.core_laws.specs.clients.Turns.{Answers, Choice, Goes, Keyed}
-use Rattle.own_words.specs.Own.{IsAnswer, IsFailure, IsLastWord, IsOwn}
+use Rattle.own_words.specs.Own.{IsFailure, IsLastWord, IsOwn, IsOwnAnswer}
 use Rattle.router_laws.specs.decisions.Deeds.{Deeds, Word}
 
-pub record DecidesOwn (rules : List Rule) (d : Decided) : Type 0 where
-  pub own : (m : MessageName) (answer : OwnAnswer) → d.own m ≡ Some (Some answer) → IsOwn rules m.client answer.payloads
+pub record DecidesOwn (rules : MessageName → List Rule) (d : Decided) : Type 0 where
+  pub own : (m : MessageName) (answer : OwnAnswer) → d.own m ≡ Some (Some answer) → IsOwn (rules m) m.client answer.payloads
   pub words : (c : ClientNo) (word : LastWord) → d.words c ≡ Some word → IsLastWord word.payloads
 
 -- Of a client: no copies are made of its messages, the texts by which they go are among those that are kept, and what the router answers is its own.
 abbrev pub IsOurs : List Rule → Texts → ClientNo → Choice → Type 0
 IsOurs rules texts c (Goes route keyed) = (route.mirror ≡ None) × All (λ (one : Keyed). key_at texts one.number ≡ Some one.key) keyed
-IsOurs rules texts c (Answers payloads) = IsAnswer rules c payloads
+IsOurs rules texts c (Answers payloads) = IsOwnAnswer rules c payloads
 
 -- its end, and how it is ended behind its turns
 

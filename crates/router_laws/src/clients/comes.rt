@@ -53,7 +53,7 @@ pub fn turned_away_go()
     ensures { (service : Service) (default : List ℕ) (setup : Setup) (codes : Codes) (plan : Plan) (log : Log) (old new : Decided) (t now : Tabled)
         (roomy : ClientNo → Bool) (port : Port) (link : LinkId) (salt : List ℕ) (c : ClientNo)
         → FitsThen new.keys setup codes plan default log (Accepted port link salt) → of_link link log ≡ [] → c.0 ≡ length (accepted_links log) + 1
-        → PlansAway (ground setup codes plan old log) port c (over_by new) → ComesSo TurnedAway service port link salt c t now
+        → PlansAway (ground setup codes plan old log) c (over_by new) → ComesSo TurnedAway service port link salt c t now
         → GoesOn service setup codes plan log (Accepted port link salt) old new t now roomy roomy }
 {
     strangers_are_unseen();

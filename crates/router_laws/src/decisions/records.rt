@@ -4,12 +4,14 @@ ghost use Rattle.mx_wire.specs.Log.{Log};
 ghost use Rattle.mx_wire.specs.declared.entry.Entry.{Entry};
 ghost use Rattle.client_session.specs.Setups.{Setup as Service};
 ghost use Rattle.query_rules.specs.declared.rule.Rule.{Rule};
+ghost use Rattle.private_model.specs.Names.{MessageName};
 ghost use Rattle.tale_world.specs.Decided.{Decided};
 ghost use Rattle.core_texts.specs.declared.texts.Texts.{Texts};
 ghost use Rattle.core_laws.specs.entry.Cores.{with_entry};
 ghost use Rattle.core_laws.specs.entry.Grows.{IsMoreBy};
 ghost use Rattle.router_laws.specs.decisions.Deeds.{AreAlone, Counts, Deeds, counts_with, decided_with, no_counts};
 ghost use Rattle.router_laws.specs.decisions.Records.{IsRecorded, first_deciding};
+ghost use Rattle.router_laws.specs.decisions.Force.{rules_then};
 ghost use Rattle.router_laws.specs.decisions.Speaks.{AreOurs, DecidesOwn};
 
 /// With an entry's deeds more is decided.
@@ -31,7 +33,7 @@ pub fn decisions_are_recorded()
 
 /// With an entry's deeds what was decided to be said stays the router's own.
 pub fn speech_goes_on()
-    ensures { (rules : List Rule) (texts : Texts) (d : Decided) (n : Counts) (log : Log) (e : Entry) (deeds : Deeds) → DecidesOwn rules d
-        → AreOurs rules texts deeds
-        → DecidesOwn rules (decided_with deeds n log e d) }
+    ensures { (rules : List Rule) (texts : Texts) (d : Decided) (n : Counts) (log : Log) (e : Entry) (deeds : Deeds) → IsRecorded d n log
+        → (before : MessageName → List Rule) → DecidesOwn before d → AreOurs rules texts deeds
+        → DecidesOwn (rules_then n before rules) (decided_with deeds n log e d) }
 {}

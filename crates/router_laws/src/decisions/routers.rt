@@ -1,9 +1,13 @@
 // The core with all that is carried from entry to entry.
-ghost use Rattle.std.specs.Prelude.{All, Bool, List, [], None, length, true, ℕ, ◌≡◌};
+ghost use Rattle.std.specs.Prelude.{All, Bool, List, [], None, Some, length, true, ℕ, ◌≡◌};
 ghost use Rattle.mx_wire.specs.Log.{Log};
 ghost use Rattle.mx_wire.specs.Tells.{MayFollow};
 ghost use Rattle.mx_wire.specs.declared.entry.Entry.{Entry};
+ghost use Rattle.core_service.specs.Serves.{rules_in};
 ghost use Rattle.core_service.specs.declared.service.Service.{Service};
+ghost use Rattle.core_promises.specs.InForce.{AreLoaded, has_administrator};
+ghost use Rattle.query_rules.specs.Passing.{rules_of};
+ghost use Rattle.query_rules.specs.declared.rules.Rules.{Rules};
 ghost use Rattle.core_texts.specs.Texts.{AreLess, AreMore, key_at};
 ghost use Rattle.core_texts.specs.declared.texts.Texts.{Texts};
 ghost use Rattle.private_model.specs.Names.{ClientNo};
@@ -22,23 +26,29 @@ ghost use Rattle.core_laws.specs.entry.Tells.{Fits, IsOf};
 ghost use Rattle.router_laws.specs.decisions.Deeds.{Counts, Deeds, decided_with};
 ghost use Rattle.router_laws.specs.decisions.Judges.{JudgesThen};
 ghost use Rattle.router_laws.specs.decisions.Speaks.{AreOurs};
-ghost use Rattle.query_rules.specs.Passing.{rules_of};
 ghost use Rattle.router_laws.specs.decisions.Records.{IsRecorded};
 ghost use Rattle.router_laws.specs.decisions.Routers.{AreOpenJust, GoesSoBy, IsBefore, IsRouter, WaitsThen};
 
-/// Empty tables are a router's of the empty log, with no texts.
+/// Empty tables are a router's of the empty log, with no texts and with the rules of the configuration.
 pub fn first_router()
-    ensures { (service : Service) (texts : Texts) (roomy : ClientNo → Bool) → ((number : ℕ) → key_at texts number ≡ None)
-        → IsRouter service texts [] no_tables roomy }
+    ensures { (service : Service) (texts : Texts) (roomy : ClientNo → Bool) → service.loaded ≡ None
+        → ((number : ℕ) → key_at texts number ≡ None) → IsRouter service texts [] no_tables roomy }
 {
     core_stands::first_stands();
 }
+
+/// Once an administrator came, rules may be loaded: all is so with them in force.
+pub fn routers_load()
+    ensures { (service : Service) (texts : Texts) (log : Log) (t : Tabled) (roomy : ClientNo → Bool) (loaded : Rules)
+        → IsRouter service texts log t roomy → has_administrator log ≡ true → AreLoaded (rules_of loaded)
+        → IsRouter (record service { loaded = Some loaded }) texts log t roomy }
+{}
 
 /// A router goes on with an entry by its deeds.
 pub fn routers_go_on()
     ensures { (service : Service) (texts : Texts) (log : Log) (e : Entry) (deeds : Deeds) (t now : Tabled) (roomy room : ClientNo → Bool)
         → (router : IsRouter service texts log t roomy) → MayFollow log e
-        → AreOurs (rules_of service.rules) texts deeds → WaitsThen service log e router.core.decided
+        → AreOurs (rules_in service) texts deeds → WaitsThen service log e router.core.decided
         → JudgesThen service log e router.core.decided router.counts deeds
         → GoesSoBy service.setup service.default_schema log e router.core.decided router.counts deeds t now roomy room → AreOpenJust (with_entry log e) now
         → IsRouter service texts (with_entry log e) now room }

@@ -4,6 +4,7 @@ ghost use Rattle.mx_base.specs.declared.names.LinkId.{LinkId};
 ghost use Rattle.mx_wire.specs.Log.{Log};
 ghost use Rattle.mx_wire.specs.Tells.{MayFollow};
 ghost use Rattle.mx_wire.specs.declared.entry.Entry.{Entry};
+ghost use Rattle.core_service.specs.Serves.{rules_in};
 ghost use Rattle.core_service.specs.declared.service.Service.{Service};
 ghost use Rattle.core_texts.specs.Texts.{key_at};
 ghost use Rattle.core_texts.specs.declared.texts.Texts.{Texts};
@@ -13,7 +14,6 @@ ghost use Rattle.core_laws.specs.entry.Cores.{with_entry};
 ghost use Rattle.core_laws.specs.clients.Follows.{Parting};
 ghost use Rattle.core_laws.specs.clients.Turns.{Choice, Halt};
 ghost use Rattle.router_laws.specs.clients.Leaves.{IsLossOf, LeavesAgain, LeavesAtOnce, LeavesGoing};
-ghost use Rattle.query_rules.specs.Passing.{rules_of};
 ghost use Rattle.core_promises.specs.Ruled.{AreRuled, ruling_of};
 ghost use Rattle.router_laws.specs.decisions.Speaks.{IsOurs, IsPartingOurs};
 ghost use Rattle.router_laws.specs.decisions.Routers.{IsRouter};
@@ -43,7 +43,7 @@ pub fn leaves_going_router()
         (c : ClientNo) (links : List LinkId) (ordinal : ℕ) (choices : List Choice) (halt : Halt) (parting : Parting)
         → IsRouter service texts log t roomy → MayFollow log e → IsLossOf link e
         → (so : LeavesGoing service.setup service.default_schema link links ordinal choices halt parting c t now)
-        → All (IsOurs (rules_of service.rules) texts c) choices → IsPartingOurs parting → OthersLack c roomy room
+        → All (IsOurs (rules_in service) texts c) choices → IsPartingOurs parting → OthersLack c roomy room
         → AreRuled (ruling_of service (key_at texts)) choices halt service.setup service.default_schema c so.between so.follows.turned so.follows.turns
         → IsRouter service texts (with_entry log e) now room }
 {

@@ -4,6 +4,7 @@ ghost use Rattle.mx_base.specs.declared.names.LinkId.{LinkId};
 ghost use Rattle.mx_wire.specs.Log.{Log};
 ghost use Rattle.mx_wire.specs.Tells.{MayFollow};
 ghost use Rattle.mx_wire.specs.declared.entry.Entry.TheVariants.{Got};
+ghost use Rattle.core_service.specs.Serves.{rules_in};
 ghost use Rattle.core_service.specs.declared.service.Service.{Service};
 ghost use Rattle.core_texts.specs.Texts.{key_at};
 ghost use Rattle.core_texts.specs.declared.texts.Texts.{Texts};
@@ -13,7 +14,6 @@ ghost use Rattle.core_laws.specs.entry.Cores.{with_entry};
 ghost use Rattle.core_laws.specs.clients.Follows.{Parting};
 ghost use Rattle.core_laws.specs.clients.Turns.{Choice, Halt};
 ghost use Rattle.router_laws.specs.clients.Speaks.{SpeaksSo};
-ghost use Rattle.query_rules.specs.Passing.{rules_of};
 ghost use Rattle.core_promises.specs.Ruled.{AreRuled, ruling_of};
 ghost use Rattle.router_laws.specs.decisions.Speaks.{IsOurs, IsPartingOurs};
 ghost use Rattle.router_laws.specs.decisions.Routers.{IsRouter};
@@ -25,7 +25,7 @@ pub fn speaks_router()
         (c : ClientNo) (ordinal : ℕ) (choices : List Choice) (halt : Halt) (parting : Parting) (links : List LinkId)
         → IsRouter service texts log t roomy → MayFollow log (Got link bytes)
         → (so : SpeaksSo service.setup service.default_schema link bytes c ordinal choices halt parting links t now)
-        → All (IsOurs (rules_of service.rules) texts c) choices → IsPartingOurs parting
+        → All (IsOurs (rules_in service) texts c) choices → IsPartingOurs parting
         → OthersLack c roomy room
         → AreRuled (ruling_of service (key_at texts)) choices halt service.setup service.default_schema c so.heard so.follows.turned so.follows.turns
         → IsRouter service texts (with_entry log (Got link bytes)) now room }

@@ -1,5 +1,6 @@
 // Links to servers are lost.
 ghost use Rattle.std.specs.Prelude.{◌≡◌, Some, true};
+ghost use Rattle.core_service.specs.Serves.{rules_in};
 ghost use Rattle.core_service.specs.declared.service.Service.{Service};
 ghost use Rattle.core_texts.specs.Texts.{key_at};
 ghost use Rattle.core_texts.specs.declared.texts.Texts.{Texts};
@@ -18,7 +19,6 @@ ghost use Rattle.mx_wire.specs.Tells.{MayFollow};
 ghost use Rattle.private_model.specs.Names.{ClientNo};
 ghost use Rattle.core_laws.specs.entry.Cores.{with_entry};
 ghost use Rattle.core_laws.specs.clients.Going.{Going};
-ghost use Rattle.query_rules.specs.Passing.{rules_of};
 ghost use Rattle.core_promises.specs.Ruled.{ruling_of};
 ghost use Rattle.router_laws.specs.decisions.Speaks.{AreGivenOurs, AreGoingOurs};
 ghost use Rattle.router_laws.specs.decisions.Judges.{JudgesThen};
@@ -38,7 +38,7 @@ pub fn given_up_with_it()
 pub fn loses_judge()
     ensures { (service : Service) (texts : Texts) (log : Log) (t now : Tabled) (roomy : ClientNo → Bool) (l : LinkId) (how : Break)
         (given : Option GivenUp) (going : Option Going) → (router : IsRouter service texts log t roomy) → MayFollow log (entry_by how l)
-        → (so : LosesSo service.setup service.default_schema l given going t now) → AreGoingOurs (rules_of service.rules) texts going
+        → (so : LosesSo service.setup service.default_schema l given going t now) → AreGoingOurs (rules_in service) texts going
         → IsRuledOn (ruling_of service (key_at texts)) going service.setup service.default_schema so.lost now so.goes
         → JudgesThen service log (entry_by how l) router.core.decided router.counts (deeds_of given going) }
 {
@@ -60,7 +60,7 @@ pub fn loses_judge()
 pub fn loses_router()
     ensures { (service : Service) (texts : Texts) (log : Log) (t now : Tabled) (roomy : ClientNo → Bool) (l : LinkId) (how : Break)
         (given : Option GivenUp) (going : Option Going) → IsRouter service texts log t roomy → MayFollow log (entry_by how l)
-        → AreGivenOurs given → AreGoingOurs (rules_of service.rules) texts going → (so : LosesSo service.setup service.default_schema l given going t now)
+        → AreGivenOurs given → AreGoingOurs (rules_in service) texts going → (so : LosesSo service.setup service.default_schema l given going t now)
         → IsRuledOn (ruling_of service (key_at texts)) going service.setup service.default_schema so.lost now so.goes
         → IsRouter service texts (with_entry log (entry_by how l)) now roomy }
 {

@@ -5,6 +5,7 @@ ghost use Rattle.mx_base.specs.Fields.{AreBytes};
 ghost use Rattle.mx_wire.specs.Log.{Log};
 ghost use Rattle.mx_wire.specs.Tells.{MayFollow};
 ghost use Rattle.mx_wire.specs.declared.entry.Entry.TheVariants.{Got};
+ghost use Rattle.core_service.specs.Serves.{rules_in};
 ghost use Rattle.core_service.specs.declared.service.Service.{Service};
 ghost use Rattle.core_texts.specs.Texts.{key_at};
 ghost use Rattle.core_texts.specs.declared.texts.Texts.{Texts};
@@ -24,7 +25,6 @@ ghost use Rattle.router_laws.specs.decisions.Goings.{deeds_of};
 ghost use Rattle.router_laws.specs.decisions.Rulings.{IsRuledOn};
 ghost use Rattle.router_laws.specs.decisions.Routers.{GoesSoBy, IsRouter};
 ghost use Rattle.router_laws.specs.reading.Givings.{MayGiveUp};
-ghost use Rattle.query_rules.specs.Passing.{rules_of};
 ghost use Rattle.core_promises.specs.Ruled.{Ruling, ruling_of};
 ghost use Rattle.router_laws.specs.decisions.Speaks.{AreGivenOurs, AreGoingOurs};
 ghost use Rattle.router_laws.specs.reading.Hears.{HearsRuled, HearsSo};
@@ -40,7 +40,7 @@ pub fn hears_goes()
     ensures { (service : Service) (texts : Texts) (log : Log) (t now : Tabled) (roomy : ClientNo → Bool) (l : LinkId) (bytes : List ℕ)
         (clock : ℕ) (given : Option GivenUp) (going : Option Going) → (router : IsRouter service texts log t roomy) → MayFollow log (Got l bytes)
         → AreBytes bytes → HearsSo service.setup service.default_schema l bytes clock given going t now
-        → AreGoingOurs (rules_of service.rules) texts going
+        → AreGoingOurs (rules_in service) texts going
         → GoesSoBy service.setup service.default_schema log (Got l bytes) router.core.decided router.counts (deeds_of given going) t now roomy roomy }
 {
     core_laws::hearing::bytes_are_heard();
@@ -63,7 +63,7 @@ pub fn hears_judge()
     ensures { (service : Service) (texts : Texts) (log : Log) (t now : Tabled) (roomy : ClientNo → Bool) (l : LinkId) (bytes : List ℕ)
         (clock : ℕ) (given : Option GivenUp) (going : Option Going) → (router : IsRouter service texts log t roomy) → MayFollow log (Got l bytes)
         → AreBytes bytes → (so : HearsSo service.setup service.default_schema l bytes clock given going t now)
-        → AreGoingOurs (rules_of service.rules) texts going
+        → AreGoingOurs (rules_in service) texts going
         → IsRuledOn (ruling_of service (key_at texts)) going service.setup service.default_schema so.freed now so.goes
         → JudgesThen service log (Got l bytes) router.core.decided router.counts (deeds_of given going) }
 {
@@ -88,7 +88,7 @@ pub fn hears_router()
     ensures { (service : Service) (texts : Texts) (log : Log) (t now : Tabled) (roomy : ClientNo → Bool) (l : LinkId) (bytes : List ℕ)
         (clock : ℕ) (given : Option GivenUp) (going : Option Going) → IsRouter service texts log t roomy → MayFollow log (Got l bytes)
         → AreBytes bytes → (so : HearsSo service.setup service.default_schema l bytes clock given going t now) → AreGivenOurs given
-        → AreGoingOurs (rules_of service.rules) texts going
+        → AreGoingOurs (rules_in service) texts going
         → IsRuledOn (ruling_of service (key_at texts)) going service.setup service.default_schema so.freed now so.goes
         → IsRouter service texts (with_entry log (Got l bytes)) now roomy }
 {

@@ -5,6 +5,7 @@ ghost use Rattle.mx_base.specs.declared.names.ServerId.{ServerId};
 ghost use Rattle.mx_wire.specs.Log.{Log};
 ghost use Rattle.mx_wire.specs.Tells.{MayFollow};
 ghost use Rattle.mx_wire.specs.declared.entry.Entry.TheVariants.{OpenFailed, Woke};
+ghost use Rattle.core_service.specs.Serves.{rules_in};
 ghost use Rattle.core_service.specs.declared.service.Service.{Service};
 ghost use Rattle.core_texts.specs.Texts.{key_at};
 ghost use Rattle.core_texts.specs.declared.texts.Texts.{Texts};
@@ -18,7 +19,6 @@ ghost use Rattle.router_laws.specs.wakes.Calling.{Caller};
 ghost use Rattle.router_laws.specs.wakes.Deciding.{IsCallerOurs};
 ghost use Rattle.router_laws.specs.decisions.Speaks.{IsGivenOurs};
 ghost use Rattle.router_laws.specs.waits.Drained.{IsDrainedFor};
-ghost use Rattle.query_rules.specs.Passing.{rules_of};
 ghost use Rattle.core_promises.specs.Ruled.{ruling_of};
 ghost use Rattle.router_laws.specs.wakes.Waking.{FailsSo, WakesSo};
 
@@ -28,7 +28,7 @@ pub fn wakes_router()
         (callers : List Caller) (links : List LinkId) (until_ms now_ms : ℕ) → IsRouter service texts log t roomy
         → MayFollow log (Woke until_ms now_ms) → IsDrainedFor t log
         → (wakes : WakesSo service.setup service.default_schema given callers links roomy t now) → All IsGivenOurs given
-        → All (IsCallerOurs (rules_of service.rules) texts) callers
+        → All (IsCallerOurs (rules_in service) texts) callers
         → AreRuledAll (ruling_of service (key_at texts)) callers service.setup service.default_schema wakes.late wakes.calls.turned wakes.calls.going
         → IsRouter service texts (with_entry log (Woke until_ms now_ms)) now room }
 {
@@ -50,7 +50,7 @@ pub fn fails_router()
     ensures { (service : Service) (texts : Texts) (log : Log) (t now : Tabled) (roomy : ClientNo → Bool) (given : List GivenUp)
         (callers : List Caller) (links : List LinkId) (server : ServerId) (address : Address) → IsRouter service texts log t roomy
         → MayFollow log (OpenFailed server address) → (fails : FailsSo service.setup service.default_schema given callers links t now)
-        → All IsGivenOurs given → All (IsCallerOurs (rules_of service.rules) texts) callers
+        → All IsGivenOurs given → All (IsCallerOurs (rules_in service) texts) callers
         → AreRuledAll (ruling_of service (key_at texts)) callers service.setup service.default_schema fails.late fails.calls.turned fails.calls.going
         → IsRouter service texts (with_entry log (OpenFailed server address)) now roomy }
 {

@@ -2,16 +2,18 @@ use Rattle.core_promises.proofs.Verdicts.{asks-by}
 use Rattle.apart_cases.proofs.worked.kept_is_apart.Goals as goal
 
 pub returns : goal.returns
-returns c = λ terms log keeps speaks waits judges copies. record {
+returns c = λ terms log keeps rules force speaks waits judges copies. record {
   router = keeps.router;
   fits = keeps.fits;
   who = keeps.who;
   said = c.said_log.ensures terms log keeps;
   lawful = keeps.lawful;
   due = keeps.due;
+  rules = rules;
+  force = force;
   speaks = speaks;
   waits = waits;
-  asks = asks-by terms log judges;
+  asks = asks-by terms rules log judges;
   judges = judges;
   copies = copies;
 }

@@ -2,17 +2,17 @@ use Rattle.std.specs.Prelude.{◌∷◌, ◌≡◌, None}
 use Rattle.std.specs.Option.{option_and_then}
 use Rattle.std.proofs.Common.{subst}
 use Rattle.log_story.specs.Plan.{com_execute}
-use Rattle.core_promises.specs.Judges.{Situation, rulebook_of, transaction_of}
+use Rattle.core_promises.specs.Judges.{Situation, transaction_of}
 use Rattle.core_promises.specs.Statements.{number_named}
-use Rattle.core_promises.specs.Wrong.{IsOfStatement}
+use Rattle.core_promises.specs.Wrong.{book_up, IsOfStatement}
 use Rattle.core_promises.proofs.Statements.{runs-prepared}
 use Rattle.core_promises.proofs.Texts.{as-stood, keys_in, route-for, stood}
 use Rattle.core_promises.proofs.judging.runs_what_wasnt_prepared.Goals as goal
 
 pub returns : goal.returns
 returns c = λ terms rest route sends unprepared.
-    subst (IsOfStatement (transaction_of (rulebook_of terms.router) (stood terms (com_execute ∷ rest) sends.up)) route)
+    subst (IsOfStatement (transaction_of (book_up sends.up) (stood terms (com_execute ∷ rest) sends.up)) route)
     (as-stood terms (com_execute ∷ rest) sends.up
     (λ (situation : Situation). option_and_then situation.statements (number_named (com_execute ∷ rest)) ≡ None) unprepared)
-    (runs-prepared (rulebook_of terms.router) (stood terms (com_execute ∷ rest) sends.up) (keys_in terms) sends.up.client.number rest route
+    (runs-prepared (book_up sends.up) (stood terms (com_execute ∷ rest) sends.up) (keys_in terms) sends.up.client.number rest route
     (route-for terms (com_execute ∷ rest) route sends))

@@ -5,11 +5,12 @@ use Rattle.std.proofs.lemmas.Result.{IfOk-weaker}
 use Rattle.client_desk.specs.Desks.{session_of}
 use Rattle.client_desk.specs.Sessions.{is_open}
 use Rattle.mx_base.specs.declared.names.Hostgroup.{Hostgroup}
-use Rattle.query_rules.specs.Passing.{rules_of}
 use Rattle.server_rule.specs.Classes.{router_reads}
 use Rattle.message_judge.specs.Drafts.{draft_of}
 use Rattle.message_judge.specs.Judging.{Judged, judged}
 use Rattle.message_judge.specs.declared.caller.Prepared.{Prepared}
+use Rattle.query_rules.specs.declared.rule.Rule.{Rule}
+use Rattle.core_service.specs.Serves.{rules_in}
 use Rattle.core_turns.proofs.Named.{named-known, next-fresh}
 use Rattle.core_turns.proofs.judged.drafted.Goals as goal
 
@@ -29,6 +30,9 @@ returns-clause-known c = IfOk-weaker c.judge.result _ _
       named = λ one known. named-known texts c.args.desk.now.seat.statements c.args.payload.now c.args.named.now named one known;
       number = λ n next. next-fresh c.args.desk.now.seat.statements n next;
       is = subst (λ (p : Option Prepared). draft_of c.in_ok-caller.caller p found.draft
-          ≡ (judged router_reads (rules_of c.args.service.now.rules) c.in_ok-caller.caller (record { transaction = c.transaction.result; next_number = c.next_number.result }) p c.args.payload.now).draft)
-          c.prepared_in.ensures (ap (λ (j : Judged). j.draft) is);
+          ≡ (judged router_reads (rules_in c.args.service.now) c.in_ok-caller.caller (record { transaction = c.transaction.result; next_number = c.next_number.result }) p c.args.payload.now).draft)
+          c.prepared_in.ensures
+          (subst (λ (rules : List Rule). draft_of c.in_ok-caller.caller (option_copied c.prepared_in.result) found.draft
+          ≡ (judged router_reads rules c.in_ok-caller.caller (record { transaction = c.transaction.result; next_number = c.next_number.result }) (option_copied c.prepared_in.result) c.args.payload.now).draft)
+          c.rules.ensures (ap (λ (j : Judged). j.draft) is));
     }) c.judge.ensures.is

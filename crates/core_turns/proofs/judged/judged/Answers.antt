@@ -1,7 +1,7 @@
 use Rattle.std.specs.Prelude.{Option}
 use Rattle.std.proofs.Common.{subst}
 use Rattle.std.proofs.lemmas.Result.{IfOk-weaker}
-use Rattle.query_rules.specs.Passing.{rules_of}
+use Rattle.core_service.specs.Serves.{rules_in}
 use Rattle.core_promises.specs.Ruled.{book_of, situation_at}
 use Rattle.core_texts.specs.Texts.{key_at}
 use Rattle.core_turns.specs.Judged.{IsVerdictOn}
@@ -14,7 +14,7 @@ returns-clause-is c =
     (c.in_ok-verdict.ensures.is (book_of c.args.service.now) (key_at c.args.texts.now) c.args.client (c.in_ok-draft.ensures.known c.args.texts.now c.in_ok-named.ensures))
 
 pub returns-clause-own : goal.returns-clause-own
-returns-clause-own c = c.in_ok-verdict.ensures.own (rules_of c.args.service.now.rules) c.in_ok-draft.ensures.own
+returns-clause-own c = c.in_ok-verdict.ensures.own (rules_in c.args.service.now) c.in_ok-draft.ensures.own
 
 pub returns-clause-promised : goal.returns-clause-promised
 returns-clause-promised c =

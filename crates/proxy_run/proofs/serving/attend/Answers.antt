@@ -8,7 +8,7 @@ use Rattle.ready_loop.specs.declared.ends.ServeEnd.TheVariants as ended
 use Rattle.ready_loop.specs.Machine.{StandsFor}
 use Rattle.ready_loop.specs.Round.{wakes_of}
 use Rattle.ready_loop.specs.Serving.{IsOut, IsBusy, IsWanted, ListensFirst, StoodFor}
-use Rattle.shared_core.specs.Machine.{IsStanding}
+use Rattle.shared_core.specs.Machine.{IsStanding, unloaded}
 use Rattle.shared_core.specs.Says.{awaits, reads, sends}
 use Rattle.shared_core.specs.declared.whole.Core.{Core}
 use Rattle.proxy_run.specs.Serve.{RefusedAt, ServesAt}
@@ -16,7 +16,7 @@ use Rattle.proxy_run.proofs.Keeping.{listens-at, ran-of, stood-ran}
 use Rattle.proxy_run.proofs.serving.attend.Goals as goal
 
 -- what a core keeps that serves by the configuration
-serves : (config : Config) (core : Core) (told : Option Log) → ServesBy config core.service → StandsFor IsStanding core told
+serves : (config : Config) (core : Core) (told : Option Log) → ServesBy config (unloaded core) → StandsFor IsStanding core told
     → ListensFirst config.proxy.listen config.proxy.admin_listen told → ServesAt config told
 serves config core told by standing listens = record {
   run = λ log is. record { fits = (ran-of config core log by (standing.holds log is)).fits; listens = listens.holds log is };
@@ -24,8 +24,8 @@ serves config core told by standing listens = record {
 }
 
 -- and where memory was refused
-refused : (config : Config) (core : Core) (told : Option Log) → ServesBy config core.service
-    → StoodFor IsStanding (IsWanted reads sends (λ (c : Core). c.router.acting) (λ (c : Core). c.router.until) awaits) (λ (c : Core). c.service) core told
+refused : (config : Config) (core : Core) (told : Option Log) → ServesBy config (unloaded core)
+    → StoodFor IsStanding (IsWanted reads sends (λ (c : Core). c.router.acting) (λ (c : Core). c.router.until) awaits) unloaded core told
     → ListensFirst config.proxy.listen config.proxy.admin_listen told → RefusedAt config told
 refused config core told by stood listens = record {
   serves = λ log is.

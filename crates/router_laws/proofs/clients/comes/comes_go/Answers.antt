@@ -18,12 +18,12 @@ pub returns : goal.returns
 returns c = λ service default setup codes plan log old new t now roomy port link salt n fits fresh counts plans so.
     let g : Ground = ground setup codes plan old log in
     let tally : length g.tale.clients ≡ length (accepted_links log) = (c.tales_follow.ensures setup plan log).clients in
-    let count : n ≡ (newest g link salt).number = number_is g link salt n log tally counts in
+    let count : n ≡ (newest g port link salt).number = number_is g port link salt n log tally counts in
     let undone : Rests service g t roomy → NoneDone setup plan (counted g.tale) =
     λ rests. c.counts_rest.ensures service g t rests.stands plans.decided.still rests.rested in
-    let coming : (rests : Rests service g t roomy) → IsComing g link salt =
+    let coming : (rests : Rests service g t roomy) → IsComing g port link salt =
     λ rests.
-    coming_so setup codes plan old log link salt n fresh count plans.decided.still plans.unrouted plans.going
+    coming_so setup codes plan old log port link salt n fresh count plans.decided.still plans.unrouted plans.going
     (c.strangers_are_unseen.ensures setup plan log n (λ m route routed. fits.single m route routed) rests.stands.lawful
     (omega (arith, counts, tally))) in
     entered_goes_on service setup codes plan log (Accepted port link salt) old new t now roomy roomy nobody plans.decided

@@ -22,14 +22,14 @@ returns c = λ service default setup codes plan log old new t now roomy port lin
     let g : Ground = ground setup codes plan old log in
     let p : PlansComing g n (ends_of n true) (over_by new) = plans.coming in
     let tally : length g.tale.clients ≡ length (accepted_links log) = (c.tales_follow.ensures setup plan log).clients in
-    let count : n ≡ (newest g link salt).number = number_is g link salt n log tally counts in
+    let count : n ≡ (newest g port link salt).number = number_is g port link salt n log tally counts in
     let undone : Rests service g t roomy → NoneDone setup plan (counted g.tale) =
     λ rests. c.counts_rest.ensures service g t rests.stands p.decided.still rests.rested in
-    let coming : (rests : Rests service g t roomy) → IsComing g link salt =
+    let coming : (rests : Rests service g t roomy) → IsComing g port link salt =
     λ rests.
-    coming_so setup codes plan old log link salt n fresh count p.decided.still p.unrouted p.going
+    coming_so setup codes plan old log port link salt n fresh count p.decided.still p.unrouted p.going
     (c.strangers_are_unseen.ensures setup plan log n (λ m route routed. fits.single m route routed) rests.stands.lawful (omega (arith, counts, tally))) in
-    let away : (rests : Rests service g t roomy) → Stands service (ending (newest g link salt).number (accepted port link salt g)) so.between =
+    let away : (rests : Rests service g t roomy) → Stands service (ending (newest g port link salt).number (accepted port link salt g)) so.between =
     λ rests.
     c.clients_are_turned_away.ensures service g t so.between port link salt so.comes.statements so.comes.note rests.stands (coming rests)
     (ap plan.words (sym count) ∙ plans.word)

@@ -2,4 +2,4 @@ use Rattle.router_laws.proofs.OfDecisions.Speaking.{spoken_then}
 use Rattle.router_laws.proofs.decisions.records.speech_goes_on.Goals as goal
 
 pub returns : goal.returns
-returns c = λ rules texts d n log e deeds spoken ours. spoken_then rules texts d n log e deeds spoken ours
+returns c = spoken_then

@@ -1,4 +1,4 @@
-use Rattle.query_rules.specs.Passing.{rules_of}
+use Rattle.core_service.specs.Serves.{rules_in}
 use Rattle.router_laws.proofs.OfDecisions.Speaking.{ours_of_going}
 use Rattle.router_laws.proofs.OfWaits.Then.{break_waits}
 use Rattle.router_laws.proofs.OfLinks.LossOnward.{goes_so, loses_keep_rows, loses_open}
@@ -10,7 +10,7 @@ use Rattle.router_laws.proofs.links.losing.loses_router.Goals as goal
 pub returns : goal.returns
 returns c = λ service texts log t now roomy l how given going router follow given_ours ours so ruled.
     c.routers_go_on.ensures service texts log (entry_by how l) (deeds_of given going) t now roomy roomy router follow
-    (ours_of_going (rules_of service.rules) texts given going given_ours ours) (break_waits service log how l router.core.decided)
+    (ours_of_going (rules_in service) texts given going given_ours ours) (break_waits service log how l router.core.decided)
     (c.loses_judge.ensures service texts log t now roomy l how given going router follow so ours ruled)
     (λ setup codes plan of fits.
     goes_so (record {

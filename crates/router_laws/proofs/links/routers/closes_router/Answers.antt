@@ -1,5 +1,4 @@
-use Rattle.std.specs.Prelude.{◌||◌, is_some}
-use Rattle.std.proofs.Common.{ap, sym, ◌∙◌, refl}
+use Rattle.std.proofs.Common.{sym, refl}
 use Rattle.mx_wire.specs.declared.entry.Entry.TheVariants.{Closed}
 use Rattle.router_laws.specs.decisions.Deeds.{decided_with, no_deeds}
 use Rattle.router_laws.proofs.OfLinks.Calming.{calm_router}

@@ -1,17 +1,18 @@
 use Rattle.std.specs.Prelude.{None, true}
 use Rattle.std.proofs.Common.{refl}
 use Rattle.marked_tables.proofs.Going.{first_known}
-use Rattle.shared_core.proofs.Standing.{first_stands}
+use Rattle.shared_core.proofs.Standing.{first_stands, nobody}
 use Rattle.shared_core.proofs.router.Router.new.Goals as goal
 
 pub returns-clause-stands : goal.returns-clause-stands
-returns-clause-stands c = λ service.
+returns-clause-stands c = λ service unloaded.
     first_stands c.first_router.ensures service (record {
       alloc = c.args.alloc;
       marked = c.in_ok-new.field-0;
       texts = c.new-2.result;
       policy = c.in_ok-new-2.field-0;
-      came = 0;
+      admin = c.in_ok-admin_of.field-0;
+      came = nobody;
       roomy = c.new-4.result;
       asked = None;
       leaving = None;
@@ -19,7 +20,7 @@ returns-clause-stands c = λ service.
       acting = true;
       until = 0;
       clock = 0;
-    }) c.in_ok-new.ensures.tables refl c.new-2.ensures.none
+    }) c.in_ok-new.ensures.tables refl c.new-2.ensures.none unloaded
 
 pub returns-clause-known : goal.returns-clause-known
 returns-clause-known c = first_known c.in_ok-new.field-0 c.in_ok-new.ensures.tables

@@ -10,7 +10,7 @@ use Rattle.shared_core.proofs.router.Router.receives.Goals as goal
 pub returns-clause-received : goal.returns-clause-received
 returns-clause-received c =
     on_ok_weaker c.come.result
-    (λ is. received (new_seat c.args.link c.args.client c.args.salt c.args.service.now.setup) c.args.link c.args.client c.in_ok-seat.seat c.no_note.result
+    (λ is. received (new_seat c.args.link c.args.client c.args.salt c.args.port c.args.service.now.setup) c.args.link c.args.client c.in_ok-seat.seat c.no_note.result
     (tables_of c.args.self.now.marked.tables) (tables_of c.come.new.self.tables) c.in_ok-seat.ensures.is
     (λ on number. ap (option_map numbered) (c.in_ok-seat.ensures.none number)) is) c.come.ensures.is
 

@@ -1,0 +1,38 @@
+// What administrators work on.
+ghost use Rattle.std.specs.Prelude.{◌≤◌, All};
+
+use crate::loaded::Loaded;
+use admin_port::{Fault, Staged};
+use hostgroups::ServerRow;
+use mx_base::OutOfMemory;
+use query_rules::RuleRow;
+use std::alloc::Global;
+
+/// What administrators work on: the staged rows; the rows of servers and of rules that were loaded since it was looked at; and the rules that
+/// come in force by it, behind the event.
+#[derive(Drop)]
+pub struct Administrator {
+    pub staged: Staged,
+    pub servers: Option<Vec<ServerRow>>,
+    pub rules: Option<Vec<RuleRow>>,
+    pub loaded: Option<Loaded>,
+}
+
+impl Administrator {
+    /// Staged are the rows of a configuration. Where its rules can't be staged, as of no configuration that was read, nothing is.
+    pub fn of(alloc: Global, servers: &[ServerRow], rules: &[RuleRow]) -> Result<Self, OutOfMemory>
+        requires { All (λ row. 1 ≤ row.weight) servers.now }
+    {
+        let staged = match Staged::of(alloc, servers, rules) {
+            Ok(staged) => staged,
+            Err(Fault::Refused) => Staged::new(alloc),
+            Err(Fault::OutOfMemory) => return Err(OutOfMemory),
+        };
+        Ok(Administrator {
+            staged,
+            servers: None,
+            rules: None,
+            loaded: None,
+        })
+    }
+}

@@ -1,0 +1,11 @@
+use Rattle.shared_core.proofs.Keeping.{keeps_then}
+use Rattle.shared_core.proofs.Goings.{went_chosen}
+use Rattle.shared_core.proofs.router.Router.takes_turns.Goals as goal
+
+pub returns-clause-is : goal.returns-clause-is
+returns-clause-is c =
+    went_chosen c.args.service.now c.args.client c.in_ok-went.went c.args.self.now c.takes_up.new.self c.took.new.self c.in_ok-took.ensures
+    c.in_ok-went.ensures.is
+
+pub returns-clause-keeps : goal.returns-clause-keeps
+returns-clause-keeps c = keeps_then _ _ _ c.in_ok-took.ensures c.in_ok-went.ensures.keeps

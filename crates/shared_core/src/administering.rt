@@ -1,0 +1,42 @@
+// What follows of a client's turns for what is chosen by.
+ghost use Rattle.std.specs.Prelude.{◌≤◌, All, OnOk};
+ghost use Rattle.shared_core.specs.Stands.{Chooses};
+
+use crate::router::Router;
+use core_turns::{Administrator, Stop, Went};
+use mx_base::{ClientNo, OutOfMemory};
+use mx_config::Config;
+use std::alloc::Global;
+
+/// Staged are the rows of a configuration that was read.
+pub(crate) fn admin_of(alloc: Global, config: &Config) -> Result<Administrator, OutOfMemory>
+    requires { All (λ row. 1 ≤ row.weight) config.now.servers }
+{
+    Administrator::of(alloc, config.servers.as_slice(), config.rules.as_slice())
+}
+
+impl Router {
+    /// A client took its turns: a statement that became due is counted, a login that was refused is noted, and what an administrator put in
+    /// force is followed.
+    pub(crate) fn took(&mut self, client: ClientNo, went: &Option<Went>) -> Result<(), OutOfMemory>
+        ensures { OnOk result (Chooses self.old self.new) }
+    {
+        match went {
+            Some(Went { due: Some(_), .. }) => self.policy.board.counts.states(),
+            Some(
+                Went {
+                    stop: Stop::Ends,
+                    ..
+                },
+            ) => self.policy.login_refused(client, self.clock),
+            _ => {}
+        }
+        if let Some(rows) = self.admin.servers.take() {
+            self.policy.reloaded(rows, self.clock);
+        }
+        if let Some(rows) = self.admin.rules.take() {
+            self.policy.board.rules = rows;
+        }
+        Ok(())
+    }
+}
