@@ -1,6 +1,7 @@
 // A log that keeps clients apart.
 ghost use Rattle.std.specs.Prelude.{List};
 ghost use Rattle.core_promises.specs.Asks.{CopiesNothing};
+ghost use Rattle.core_promises.specs.Causes.{GivesUpSo};
 ghost use Rattle.core_promises.specs.InForce.{MayRule};
 ghost use Rattle.private_model.specs.Names.{MessageName};
 ghost use Rattle.query_rules.specs.declared.rule.Rule.{Rule};
@@ -17,13 +18,13 @@ ghost use Rattle.router_promises.specs.Terms.{Terms, plan_in};
 use promise_tests::kept_by_test;
 use router_promises::said_log;
 
-/// A log that keeps the whole promise keeps this one, where the router speaks its own words, waits only with all done, and does with each message
+/// A log that keeps the whole promise keeps this one, where the router speaks its own words, gives up for a cause, waits only with all done, and does with each message
 /// what the verdict says that serves no prepared statements, and sends none to two servers.
 pub fn kept_is_apart()
     ensures { (terms : Terms) (log : Log) → Keeps terms log
         → (rules : MessageName → List Rule) → ((name : MessageName) → MayRule terms.router.rules log (rules name))
         → SpeaksOwn rules (plan_in terms)
-        → AllLawful (WaitsSo terms) log → JudgesSo terms rules log
+        → GivesUpSo terms log → AllLawful (WaitsSo terms) log → JudgesSo terms rules log
         → CopiesNothing (plan_in terms) → KeepsApart terms log }
 {
     said_log();

@@ -11,6 +11,7 @@ pub mod Named
 pub mod Carrying
 pub mod Moving
 pub mod Giving
+pub mod Owning
 pub mod Counting
 pub mod Forgetting
 pub mod Redesking

@@ -4,11 +4,11 @@ use crate::events::Events;
 use crate::shown::Shown;
 use admin_port::{NamedRow, Running, Staged, variables_of};
 use core_service::Failure;
+use digest_counts::Digests;
 use hostgroups::ServerRow;
 use link_state::Purpose;
 use mx_base::OutOfMemory;
 use mx_config::Config;
-use query_digest::DigestTable;
 use query_rules::RuleRow;
 use std::alloc::Global;
 
@@ -37,7 +37,7 @@ pub struct Board {
     pub servers: Vec<ServerRow>,
     pub rules: Vec<RuleRow>,
     pub variables: Vec<NamedRow>,
-    pub digests: DigestTable,
+    pub digests: Digests,
     pub events: Events,
     pub counts: Counts,
 }
@@ -106,7 +106,7 @@ impl Counts {
     }
 
     /// A statement became due to a server.
-    pub fn states(&mut self) {
+    pub(crate) fn states(&mut self) {
         more(&mut self.statements);
     }
 
@@ -119,6 +119,7 @@ impl Counts {
             Failure::StepRefused { .. } => more(&mut self.steps_refused),
             Failure::BadBytes { .. } => more(&mut self.bad_bytes),
             Failure::BuffersFull { .. } => more(&mut self.buffers_full),
+            Failure::ShuttingDown => {}
         }
     }
 }
@@ -130,7 +131,7 @@ impl Board {
             servers: config.servers.as_slice().to_vec(alloc)?,
             rules: rules_of(alloc, config.rules.as_slice())?,
             variables: variables_of(alloc, &config.proxy)?,
-            digests: DigestTable::new(alloc),
+            digests: Digests::new(alloc),
             events: Events::new(alloc),
             counts: Counts::new(),
         })
@@ -141,7 +142,7 @@ impl Board {
         Running {
             servers: shown.servers.as_slice(),
             rules: self.rules.as_slice(),
-            digests: &self.digests,
+            digests: self.digests.table(),
             pool: shown.pool.as_slice(),
             processes: shown.processes.as_slice(),
             totals: shown.totals.as_slice(),

@@ -65,6 +65,7 @@ impl Policy {
             served,
             ended: false,
             counted: 0,
+            last: 0,
         };
         self.clients.insert(client.0, part)?;
         self.board.counts.comes(served);
@@ -74,6 +75,7 @@ impl Policy {
         if served {
             self.one_more(port);
             self.todo.clients.logins.put(slot, 0, now);
+            self.dismisses_new(part);
         }
         Ok(())
     }
@@ -92,6 +94,7 @@ impl Policy {
         self.kept = part.counts(row, self.kept);
         let ends = is_ended(row) && !part.ended;
         part.ended = part.ended || ends;
+        let part = *part;
         if let Some(waiting) = behind {
             self.left_behind(slot, waiting, row);
         }
@@ -100,6 +103,7 @@ impl Policy {
         }
         self.ended(slot, ends, row, now);
         self.logs_in(slot, row);
+        self.dismisses(part, row);
     }
 
     // It ended: its link closes once all is written, or its time is over.

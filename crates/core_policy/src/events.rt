@@ -36,6 +36,7 @@ fn code_of(event: &Event) -> Option<u16> {
         (_, Some(Failure::StepRefused { .. })) => Some(9104),
         (_, Some(Failure::BadBytes { .. })) => Some(9110),
         (_, Some(Failure::BuffersFull { .. })) => Some(9112),
+        (_, Some(Failure::ShuttingDown)) => Some(1053),
         (_, None) => None,
     }
 }

@@ -5,6 +5,7 @@
 mod asks;
 mod board;
 mod clients;
+mod counting;
 mod deed;
 mod events;
 mod hearing;
@@ -20,6 +21,7 @@ mod parts;
 mod policy;
 mod reloading;
 mod shown;
+mod shutting;
 mod slots;
 mod steps;
 mod todo;

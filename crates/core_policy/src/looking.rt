@@ -112,7 +112,7 @@ impl Policy {
         if is_lendable(row) {
             self.rests(link, row, now)?;
         }
-        if !row.may_take() {
+        if !row.may_take() || self.is_shut_out(tables, row) {
             return Ok(None);
         }
         match begins_on(self.alloc, tables, texts, link, row)? {

@@ -19,7 +19,8 @@ pub struct Standpoint {
 }
 
 /// Of a client: its small number; the port that it came to; its statement that waits for a link; where it stood at its last statement, and at the one before by another
-/// key, unless that may have changed since; whether it counts as connected, and is known to have ended; and how many of its bytes count.
+/// key, unless that may have changed since; whether it counts as connected, and is known to have ended; how many of its bytes count; and the ordinal of its
+/// message that was in work as the router began to shut down, 0 for none.
 #[derive(Clone, Copy)]
 pub struct ClientPart {
     pub slot: u32,
@@ -30,6 +31,7 @@ pub struct ClientPart {
     pub served: bool,
     pub ended: bool,
     pub counted: u64,
+    pub last: u64,
 }
 
 /// Of a link to a server: its small number, its key, and the number of that with what it was told, unless that may have changed since; whether

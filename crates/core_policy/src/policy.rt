@@ -19,14 +19,14 @@ use std::collections::HashMap;
 /// The connections that servers allow in all, at most, and the clients that a configuration does.
 pub(crate) const MOST_LINKS: u32 = 10_000;
 
-const MOST_CLIENTS: u32 = 4_000;
+pub(crate) const MOST_CLIENTS: u32 = 4_000;
 
 /// The administrators that are served, and one on each port that is being refused.
-const OTHER_CLIENTS: u32 = 18;
+pub(crate) const OTHER_CLIENTS: u32 = 18;
 
 /// What is chosen by: servers; keys of links; small numbers and more of clients and links; links that may be lent; statements that wait and
 /// for which no link is readied, by key; what is left to do; how many clients and administrators are connected, and how many bytes of clients
-/// are kept; and what is kept for administrators. The pool and what is left to do are large, and stand on the heap.
+/// are kept; what is kept for administrators; and the one who had the router shut down. The pool and what is left to do are large, and stand on the heap.
 #[derive(Drop)]
 pub struct Policy {
     pub alloc: Global,
@@ -43,6 +43,7 @@ pub struct Policy {
     pub admins: u64,
     pub kept: u64,
     pub board: Board,
+    pub shut_by: Option<ClientNo>,
 }
 
 /// The place of a server among the counts of links.
@@ -128,6 +129,7 @@ impl Policy {
             admins: 0,
             kept: 0,
             board,
+            shut_by: None,
         })
     }
 

@@ -42,7 +42,8 @@ pub struct KeyTodo {
     pub rooms: Line,
 }
 
-/// Clients that part, that ended, whose statements may wait again, that have to log in, and that are to be ended at the next wake.
+/// Clients that part, that ended, whose statements may wait again, that have to log in, that are to be ended at the next wake, and of those the ones that are
+/// since the router shuts down.
 #[derive(Drop)]
 pub struct ClientTodo {
     pub parts: Line,
@@ -50,6 +51,7 @@ pub struct ClientTodo {
     pub anew: Line,
     pub logins: Ages,
     pub ousted: Line,
+    pub dismissed: Line,
 }
 
 /// What is left to do, the oldest first, and servers that are shunned.
@@ -97,12 +99,14 @@ fn no_clients(alloc: Global, clients: u32) -> Result<ClientTodo, OutOfMemory>
     let anew = Line::new(alloc, clients)?;
     let logins = Ages::new(alloc, clients, 1)?;
     let ousted = Line::new(alloc, clients)?;
+    let dismissed = Line::new(alloc, clients)?;
     Ok(ClientTodo {
         parts,
         leavers,
         anew,
         logins,
         ousted,
+        dismissed,
     })
 }
 
@@ -128,6 +132,7 @@ impl Todo {
     pub fn is_due(&self) -> bool {
         let is_done = self.clients.anew.is_empty()
             && self.clients.ousted.is_empty()
+            && self.clients.dismissed.is_empty()
             && self.links.looks.is_empty()
             && self.links.unreadies.is_empty()
             && self.links.held.is_empty()
@@ -150,5 +155,6 @@ impl Todo {
         self.clients.anew.take(slot);
         self.clients.logins.take(slot);
         self.clients.ousted.take(slot);
+        self.clients.dismissed.take(slot);
     }
 }

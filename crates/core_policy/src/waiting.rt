@@ -115,6 +115,9 @@ impl Policy {
         let Some(work) = unsent(row) else {
             return Ok(());
         };
+        if self.is_late(client, work) {
+            return Ok(());
+        }
         match row.desk.session(work.hostgroup).home {
             Some(link) => {
                 self.look_at(link);

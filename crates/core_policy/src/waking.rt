@@ -29,7 +29,7 @@ fn not_lent(tables: &Tables, client: ClientNo, since: u64, now_ms: u64) -> GiveU
 
 impl Policy {
     /// The loop woke at this moment: servers that were shunned long enough serve again, links that were idle too long are looked at, and
-    /// clients that ended have no more time. Statements that waited too long are given up.
+    /// clients that ended have no more time. Statements that waited too long are given up, and those that came too late as the router shuts down.
     pub fn woke(
         &mut self,
         tables: &Tables,
@@ -42,6 +42,7 @@ impl Policy {
         self.part_late(service, now);
         let mut given = Vec::new(self.alloc);
         self.late(tables, service, now, &mut given)?;
+        self.dismissed(tables, &mut given)?;
         self.held_up(tables, &mut given)?;
         Ok(given)
     }

@@ -30,6 +30,7 @@ use Rattle.router_promises.specs.Router as routers
 use Rattle.router_promises.specs.Router.{Router, service_of}
 use Rattle.router_promises.specs.Terms.{AreWhoTheySay, IsWhoItSays, Terms, plan_in, setup_in}
 use Rattle.own_words.specs.Own.{SpeaksOwn}
+use Rattle.core_promises.specs.Causes.{CausedBy}
 use Rattle.core_promises.specs.Sessions.{KeepsApart, Separates}
 use Rattle.query_rules.specs.declared.rule.Rule.{Rule}
 use Rattle.core_promises.specs.InForce.{MayRule}
@@ -82,6 +83,7 @@ module _ (router : Router) (log : Log) (t : Tabled) (roomy : ClientNo → Bool)
     (single : (m : MessageName) (route : Route) → core.decided.routes m ≡ Some (Some route) → route.mirror ≡ None)
     (rules : MessageName → List Rule) (force : (name : MessageName) → MayRule router.rules log (rules name))
     (judges : JudgesBy (rulebook_of router) rules router.proxy.default_schema core.decided log) (speaks : SpeaksOwn rules (plan_of core.decided))
+    (caused : CausedBy router.proxy.wait_ms router.proxy.default_schema core.decided log)
     (waited : AreDoneBy router.proxy.default_schema core.decided log)
     (fits : AllLawful FitsLog log) where
   abbrev plan : Plan
@@ -132,6 +134,7 @@ module _ (router : Router) (log : Log) (t : Tabled) (roomy : ClientNo → Bool)
           asks = asks-by terms rules log judged;
           judges = judged;
           speaks = speaks;
+          gives = caused (setup_in terms) its_key plan (itself core.decided (length log)) fitting;
           waits = waited terms its_key (itself core.decided (length log)) fitting;
         }
 

@@ -3,6 +3,7 @@ pub mod Growing
 pub mod Past
 pub mod Who
 pub mod Apart
+pub mod Given
 pub mod Done
 pub mod Texts
 pub mod Verdicts

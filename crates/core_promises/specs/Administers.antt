@@ -1,21 +1,19 @@
 -- What an administrator is answered.
-use Rattle.std.specs.Prelude.{◌≡◌, ◌⊎◌, ℕ, List, [], ◌∷◌, None}
+use Rattle.std.specs.Prelude.{◌≡◌, ◌⊎◌, ℕ, List, [], ◌∷◌}
 use Rattle.client_session.specs.Errors.{malformed_command, unknown_command}
 use Rattle.reply_text.specs.Replies.{ok_payload}
 use Rattle.admin_port.specs.Answers.{IsAnswered, Reply, refusal_for}
-use Rattle.admin_port.specs.Answers.Reply.{Done, Rows, Refused, Loads, ShutsDown}
+use Rattle.admin_port.specs.Answers.Reply.{Refused, Loads}
 use Rattle.admin_port.specs.Commands.{IsCommand}
 use Rattle.admin_port.specs.Payloads.{reply_payloads, status}
 use Rattle.admin_port.specs.Staged.{StagedRows}
 use Rattle.admin_port.specs.declared.command.AdminCommand.{AdminCommand}
 use Rattle.admin_port.specs.declared.command.AdminCommand.TheVariants.{Query, Ping, Quit, Malformed, Unknown}
-use Rattle.admin_port.specs.declared.answer.Refusal.TheVariants as refusals
 use Rattle.admin_port.specs.declared.running.Running.{Running}
 
--- Rows that are put in force are so, or are refused for their table; the router ends, or that is no statement.
+-- Rows that are put in force are so, or are refused for their table.
 abbrev pub IsDone : (wanted reply : Reply) → Type 0
 IsDone (Loads table) reply = (reply ≡ Loads table) ⊎ (reply ≡ Refused (refusal_for table))
-IsDone ShutsDown reply = (reply ≡ ShutsDown) ⊎ (reply ≡ Refused (refusals.Unknown None))
 IsDone wanted reply = reply ≡ wanted
 
 -- A statement's answer is the one on some staged rows, and on what some router runs by.

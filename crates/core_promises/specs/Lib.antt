@@ -4,6 +4,7 @@ pub mod Administers
 pub mod InForce
 pub mod Judges
 pub mod Ruled
+pub mod Causes
 pub mod Waits
 pub mod Sessions
 pub mod Wrong

@@ -9,6 +9,7 @@ use Rattle.private_model.specs.Names.{MessageName, ServerId}
 use Rattle.query_rules.specs.declared.rule.Rule.{Rule}
 use Rattle.own_words.specs.Own.{SpeaksOwn}
 use Rattle.core_promises.specs.Asks.{AsksSo, CopiesNothing}
+use Rattle.core_promises.specs.Causes.{GivesUpSo}
 use Rattle.core_promises.specs.InForce.{MayRule}
 use Rattle.core_promises.specs.Judges.{JudgesSo}
 use Rattle.core_promises.specs.Waits.{WaitsSo}
@@ -20,8 +21,8 @@ use Rattle.router_promises.specs.Terms.{AreWhoTheySay, Decided, IsRouters, Terms
 -- The log is one of a wire. Of each moment: clients are who they say, and begin where they say; each question's bytes are a front of its
 -- spelling, and nothing begins on a link before what was begun there is whole; the story is lawful, so that no session is lent that another's
 -- is in; and each client's bytes are a front of what it is due. What a server is asked for a client is the client's own text, or what the rules
--- make of it. What becomes of each message is what the verdict says, by rules that may be in force. What the router says by itself are its own words, whatever it decided. At
--- each wait all is done but lending.
+-- make of it. What becomes of each message is what the verdict says, by rules that may be in force. What the router says by itself are its own words, whatever it decided; and
+-- a statement is given up for a cause. At each wait all is done but lending.
 pub record KeepsApart (terms : Terms) (log : Log) : Type 0 where
   pub router : IsRouters terms
   pub fits : AllLawful Fits log
@@ -35,6 +36,7 @@ pub record KeepsApart (terms : Terms) (log : Log) : Type 0 where
   pub copies : CopiesNothing (plan_in terms)
   pub judges : JudgesSo terms rules log
   pub speaks : SpeaksOwn rules (plan_in terms)
+  pub gives : GivesUpSo terms log
   pub waits : AllLawful (WaitsSo terms) log
 
 -- All by one decision for the whole log, whatever servers have stored.

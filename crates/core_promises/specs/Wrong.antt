@@ -1,5 +1,5 @@
 -- Words for routers that are wrong: what no log has that keeps clients apart.
-use Rattle.std.specs.Prelude.{◌≡◌, ℕ, suc, ◌<◌, Bool, true, false, ◌||◌, nat_eq, List, ◌∷◌, ◌++◌, length, slice_get, slice_index_or, unwrap_or, Option, Some, None}
+use Rattle.std.specs.Prelude.{◌≡◌, ℕ, suc, ◌<◌, Bool, true, false, ◌||◌, nat_eq, List, ◌∷◌, ◌++◌, length, [], slice_get, slice_index_or, unwrap_or, Option, Some, None}
 use Rattle.mx_base.specs.declared.names.Port.TheVariants.{Traffic}
 use Rattle.mx_wire.specs.Log.{Log, is_open}
 use Rattle.mx_wire.specs.declared.entry.Entry.{Entry}
@@ -61,6 +61,17 @@ pub record Expects (terms : Terms) (before : Log) (client : Client) (route : Rou
   pub unanswered : was_answered terms (now_at terms before) client ≡ false
   pub goes_to : (plan_in terms).routes (name_of client client.taken) ≡ Some route
   pub sent : is_unsent terms (now_at terms before).tale (session_for terms before client route) ≡ false
+
+-- A statement of this client was given up at an entry behind these, and answered by this payload.
+pub record IsGivenUp (terms : Terms) (before : Log) (e : Entry) (client : Client) (payload : List ℕ) : Type 0 where
+  pub more : Log
+  pub keeps : KeepsApart terms (before ++ e ∷ more)
+  pub place : ℕ
+  pub within : place < length (tale_at terms (before ++ e ∷ more)).clients
+  pub is : slice_index_or (tale_at terms (before ++ e ∷ more)).clients place client ≡ client
+  pub count : ℕ
+  pub taken : count < client.taken
+  pub own : (plan_in terms).own (name_of client (suc count)) ≡ Some (record { from = suc (length before); payloads = payload ∷ [] })
 
 -- a message with this payload was taken up of a client
 pub record TakesUp (terms : Terms) (payload : List ℕ) : Type 0 where

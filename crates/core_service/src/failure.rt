@@ -3,7 +3,7 @@ ghost use Rattle.std.specs.Prelude.{◌≡◌, IfOk};
 ghost use Rattle.client_session.specs.Errors.{bad_server_bytes};
 ghost use Rattle.core_service.specs.Failures.{payload_of};
 ghost use Rattle.own_words.specs.Own.{IsFailure};
-ghost use Rattle.router_promises.specs.Errors.{buffers_full, no_connection, own_error, replay_refused};
+ghost use Rattle.router_promises.specs.Errors.{buffers_full, no_connection, own_error, replay_refused, server_shutdown};
 
 use mx_base::OutOfMemory;
 use std::alloc::Global;
@@ -23,6 +23,8 @@ pub enum Failure {
     BadBytes { place: u64 },
     /// 9112: so many bytes of clients are kept, and so many were announced.
     BuffersFull { kept: u64, announced: u64 },
+    /// 1053: the router shuts down.
+    ShuttingDown,
 }
 
 // An error of the router's own (client/server protocol, "ERR_Packet").
@@ -35,6 +37,18 @@ fn error(alloc: Global, code: u16, text: &[u8]) -> Result<Vec<u8>, OutOfMemory>
     payload.extend_from_slice(&[0xFF, low, high])?;
     payload.extend_from_slice(b"#HY000")?;
     payload.extend_from_slice(text)?;
+    Ok(payload)
+}
+
+// A server's error as it shuts down (MariaDB documentation, "MariaDB Error Codes").
+#[tactic(auto, unfolding(router_promises::specs::Errors::server_shutdown))]
+fn server_shutdown(alloc: Global) -> Result<Vec<u8>, OutOfMemory>
+    ensures { IfOk result (λ payload. payload.items ≡ server_shutdown) }
+{
+    let mut payload = Vec::new(alloc);
+    payload.extend_from_slice(&[0xFF, 29, 4])?;
+    payload.extend_from_slice(b"#08S01")?;
+    payload.extend_from_slice(b"Server shutdown in progress")?;
     Ok(payload)
 }
 
@@ -85,5 +99,6 @@ pub fn payload_of(alloc: Global, why: Failure) -> Result<Vec<u8>, OutOfMemory>
         Failure::StepRefused { code } => replay_refused(alloc, code),
         Failure::BadBytes { place } => bad_server_bytes(alloc, place),
         Failure::BuffersFull { kept, announced } => buffers_full(alloc, kept, announced),
+        Failure::ShuttingDown => server_shutdown(alloc),
     }
 }

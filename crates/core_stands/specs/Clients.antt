@@ -38,6 +38,7 @@ pub record IsWorking (g : Ground) (client : tales.Client) (row : Client) (work :
   pub only : 0 < number_of g.plan (name_of client work.ordinal) → work.command ≡ Prepare
   pub prepares : work.command ≡ Prepare → (message : Framed) → slice_get (messages g.plan client) (client.taken - 1) ≡ Some message
       → nat_eq (slice_index_or message.payload 0 0) com_prepare ≡ true
+  pub keyed : work.command ≡ Prepare → (route : Route) → g.plan.routes (name_of client client.taken) ≡ Some route → route.key ≡ work.key
   pub first : (message : Framed) → slice_get (messages g.plan client) (client.taken - 1) ≡ Some message → row.desk.seat.first ≡ next_id message.last
   pub unsent : work.sent ≡ false → row.desk.seat.outbox.coming ≡ []
   pub there : work.sent ≡ true → (session_of row.desk work.hostgroup).home ≡ (view_on g).carriers (name_of client work.ordinal)

@@ -1,5 +1,5 @@
 -- How the core's tables stand for a tale.
-use Rattle.std.specs.Prelude.{◌≡◌, ◌<◌, ◌-◌, ℕ, Bool, true, false, All, drop, is_some, take, List, Option, Some, None}
+use Rattle.std.specs.Prelude.{◌≡◌, ◌<◌, ◌≤◌, ◌-◌, ℕ, Bool, true, false, All, drop, is_some, take, List, Option, Some, None}
 use Rattle.std.specs.List.{list_any}
 use Rattle.packet_frame.specs.Packets.{Framed}
 use Rattle.mx_base.specs.declared.names.Hostgroup.{Hostgroup}
@@ -12,8 +12,8 @@ use Rattle.private_model.specs.View.{Setup, View}
 use Rattle.server_rule.specs.Classes.{core}
 use Rattle.session_vars.specs.declared.change.SlotValue.{SlotValue}
 use Rattle.log_story.specs.Executes.{Prepared, prepared_by}
-use Rattle.log_story.specs.Owed.{messages}
-use Rattle.log_story.specs.Plan.{Plan, Route}
+use Rattle.log_story.specs.Owed.{messages, name_of}
+use Rattle.log_story.specs.Plan.{Plan, Route, own_at}
 use Rattle.log_story.specs.Tale as tales
 use Rattle.log_story.specs.Tale.{is_to_server}
 use Rattle.row_laws.specs.Whose.{name_in}
@@ -78,7 +78,7 @@ KnowsFirst view plan client statements n =
     → is_some (number_in statements number) ≡ true
 
 -- What a client that goes on has prepared stands so by its numbers, it stands there for as long as the client knows it, and none was given that is
--- greater than the last: of its messages but for the last, and of that once it is answered.
+-- greater than the last: of its messages but for the last, and of that once it is answered. What the router answers itself no server answers.
 
 pub record IsPrepared (g : Ground) (client : tales.Client) (row : Client) : Type 0 where
   pub each : (number : ℕ) (one : Numbered) → number_in row.desk.seat.statements number ≡ Some one
@@ -89,6 +89,8 @@ pub record IsPrepared (g : Ground) (client : tales.Client) (row : Client) : Type
       → prepared_by (view_on g) g.plan client number 1 (take client.taken (messages g.plan client)) ≡ None
   pub known : KnowsFirst (view_on g) g.plan client row.desk.seat.statements (client.taken - 1)
   pub stands : row.desk.seat.answered ≡ true → KnowsFirst (view_on g) g.plan client row.desk.seat.statements client.taken
+  pub unserved : (ordinal : ℕ) → 0 < ordinal → ordinal ≤ client.taken → is_some (own_at g.plan g.tale.moment (name_of client ordinal)) ≡ true
+      → (view_on g).replies (name_of client ordinal) ≡ None
 
 abbrev pub ArePrepared : Ground → Tabled → Type 0
 ArePrepared g t =

@@ -1,7 +1,8 @@
 -- Keys that are more: what stood under a number stands there.
-use Rattle.std.specs.Prelude.{◌≡◌, ◌⊎◌, ◌<◌, ◌≤◌, ℕ, List, Option, Some, None}
+use Rattle.std.proofs.lemmas.Bool.{true≢false}
+use Rattle.std.specs.Prelude.{◌≡◌, ◌⊎◌, ◌<◌, ◌≤◌, ℕ, List, Option, Some, None, true, is_some}
 use Rattle.std.specs.Option.{option_and_then}
-use Rattle.std.proofs.Common.{refl, arith, inl, inr}
+use Rattle.std.proofs.Common.{refl, arith, inl, inr, sym, ap}
 use Rattle.std.proofs.lemmas.List.Elements.{All-weaker}
 use Rattle.mx_base.specs.declared.names.ClientNo.{ClientNo}
 use Rattle.private_model.specs.Story.{Key}
@@ -96,7 +97,11 @@ module _ (keys more : Keys) (has : HasKeys keys more) where
       All-weaker (λ (one : Keyed). keys one.number ≡ Some one.key) (λ (one : Keyed). more one.number ≡ Some one.key)
       (λ one at. has.each one.number one.key at) keyed under
 
+  more_some : (number : ℕ) (found : Option Key) → keys number ≡ found → is_some found ≡ true → is_some (more number) ≡ true
+  more_some number None at is = absurd (true≢false (sym is))
+  more_some number (Some key) at is = ap is_some (has.each number key at)
+
   pub more_said : (book : Rulebook) (c : ClientNo) (choice : Choice) → IsSaid (record { book = book; keys = keys }) c choice
       → IsSaid (record { book = book; keys = more }) c choice
-  more_said book c (Goes route keyed) said = (said.0, more_under keyed said.1)
+  more_said book c (Goes route keyed) said = (said.0, more_under keyed said.1, λ numbered. more_some route.key (keys route.key) refl (said.2 numbered))
   more_said book c (Answers payloads) said = said

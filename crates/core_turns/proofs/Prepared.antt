@@ -1,5 +1,5 @@
 -- A text goes to a server to be prepared, and what was prepared is executed there: a statement of it is due.
-use Rattle.std.specs.Prelude.{◌≡◌, ◌<◌, ◌+◌, ℕ, Bool, true, false, nat_eq, List, [], ◌∷◌, Option, Some, None}
+use Rattle.std.specs.Prelude.{◌≡◌, ◌<◌, ◌+◌, ℕ, Bool, true, false, nat_eq, List, [], ◌∷◌, Option, Some, None, is_some}
 use Rattle.std.specs.Option.{option_and_then, option_map}
 use Rattle.std.proofs.Common.{refl, sym, ap, subst, ◌∙◌, arith}
 use Rattle.std.proofs.lemmas.List.Elements.{All-cons, All-head, All-nil, All-tail}
@@ -182,6 +182,7 @@ due_prepared book judged texts more ordinal flag since hostgroup text multiplex 
       there = refl;
       single = refl;
       under = All-cons (λ (k : Keyed). key_at texts k.number ≡ Some k.key) one [] due.keyed (All-nil (λ (k : Keyed). key_at texts k.number ≡ Some k.key));
+      prepares = λ numbered. ap is_some due.keyed;
       ruled = record {
         wanted = record {
           route = record (route_by hostgroup (Some text) multiplex) { number = promised.number };

@@ -267,6 +267,7 @@ module _ (book : Rulebook) (judged texts : Texts) (more : HasKeys (key_at judged
       single = refl;
       under = All-cons (λ (k : Keyed). key_at texts k.number ≡ Some k.key) first (second ∷ []) first-there
           (All-cons (λ (k : Keyed). key_at texts k.number ≡ Some k.key) second [] second-there (All-nil (λ (k : Keyed). key_at texts k.number ≡ Some k.key)));
+      prepares = λ numbered. absurd (let none : 0 < 0 = numbered in omega (arith, none));
       ruled = record {
         wanted = record {
           route = route_by hostgroup None multiplex;

@@ -127,6 +127,7 @@ module _ (service : Service) (default : List ℕ) (c : ClientNo) (old between : 
       there = is.there;
       single = is.single;
       under = is.under;
+      prepares = is.prepares;
       ruled = is.ruled;
     }
 
@@ -208,7 +209,7 @@ module _ (ruling : Ruling) (service : Service) (default : List ℕ) (c : ClientN
   answered-choice is = record { choice = Answers is.0; said = is.1; turns = is.2 }
 
   pub due-choice : (hostgroup : Hostgroup) → IsTurned (turns.Due hostgroup) ruling service default c old new → HasChosen ruling service default c old new
-  due-choice hostgroup is = record { choice = Goes is.route is.keyed; said = (is.single, is.under); turns = (is.goes, is.ruled) }
+  due-choice hostgroup is = record { choice = Goes is.route is.keyed; said = (is.single, is.under, is.prepares); turns = (is.goes, is.ruled) }
 
   pub chosen-some : HasChosen ruling service default c old new → IsSome (new.clients c)
   chosen-some is = turn-some is.choice service default c old new is.turns.0

@@ -1,7 +1,7 @@
 -- A message that came up, by the row of its client.
-use Rattle.std.specs.Prelude.{◌≡◌, ℕ, Bool, true, false, nat_eq, slice_index_or, IfSome, IsSome, List, [], Option, Some, None, if◌then◌else◌}
+use Rattle.std.specs.Prelude.{◌≡◌, ◌<◌, ℕ, Bool, true, false, nat_eq, slice_index_or, IfSome, IsSome, List, [], Option, Some, None, if◌then◌else◌}
 use Rattle.std.specs.Option.{option_and_then, option_map, option_map_or}
-use Rattle.std.proofs.Common.{refl, sym, ap, subst, ◌∙◌}
+use Rattle.std.proofs.Common.{refl, sym, ap, subst, ◌∙◌, arith}
 use Rattle.std.proofs.lemmas.List.Elements.{All-nil}
 use Rattle.std.proofs.lemmas.Option.{none-some}
 use Rattle.mx_base.specs.Fields.{number_at}
@@ -158,6 +158,7 @@ due-there ruling hostgroup ordinal flag since text multiplex form c old new send
       there = refl;
       single = refl;
       under = All-nil (λ (one : Keyed). ruling.keys one.number ≡ Some one.key);
+      prepares = λ numbered. absurd (let none : 0 < 0 = numbered in omega (arith, none));
       ruled = unkeyed ruling.book ruling.keys due.row c message.payload hostgroup text multiplex port ruled;
       flag = flag;
       command = due.command;

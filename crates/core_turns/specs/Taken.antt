@@ -1,5 +1,5 @@
 -- What code makes of the tables with a message that came up.
-use Rattle.std.specs.Prelude.{◌≡◌, ℕ, Bool, true, false, All, List, Option, None, Some}
+use Rattle.std.specs.Prelude.{◌≡◌, ℕ, Bool, true, false, All, List, Option, None, Some, ◌<◌, is_some}
 use Rattle.mx_base.specs.declared.names.ClientNo.{ClientNo}
 use Rattle.mx_base.specs.declared.names.Hostgroup.{Hostgroup}
 use Rattle.packet_frame.specs.Packets.{Framed, spellings}
@@ -64,6 +64,7 @@ pub record IsDueThere (hostgroup : Hostgroup) (ordinal : ℕ) (ruling : Ruling) 
   pub there : route.hostgroup ≡ hostgroup
   pub single : route.mirror ≡ None
   pub under : AreUnder ruling.keys keyed
+  pub prepares : 0 < route.number → is_some (ruling.keys route.key) ≡ true
   pub ruled : IsRoutedFor ruling.book (situation_at ruling.keys row.desk) ruling.keys c message.payload route
   pub flag : ℕ
   pub command : Command

@@ -1,5 +1,5 @@
 -- What code makes of the tables as it takes up a client's messages, up to where the client leaves.
-use Rattle.std.specs.Prelude.{◌≡◌, ◌<◌, ◌+◌, ℕ, nat_lt, Bool, true, false, ◌&&◌, All, List, [], ◌∷◌, Option, None, Some}
+use Rattle.std.specs.Prelude.{◌≡◌, ◌<◌, ◌+◌, ℕ, nat_lt, Bool, true, false, ◌&&◌, All, List, [], ◌∷◌, Option, None, Some, is_some}
 use Rattle.std.specs.List.{list_all}
 use Rattle.std.specs.Option.{option_map_or}
 use Rattle.mx_base.specs.declared.names.ClientNo.{ClientNo}
@@ -102,6 +102,7 @@ pub record IsDueIn (hostgroup : Hostgroup) (ruling : Ruling) (service : Service)
   pub there : route.hostgroup ≡ hostgroup
   pub single : route.mirror ≡ None
   pub under : AreUnder ruling.keys keyed
+  pub prepares : 0 < route.number → is_some (ruling.keys route.key) ≡ true
   pub ruled : IsRoutedFor ruling.book (situation_up ruling.keys service default goes.up.row) ruling.keys c goes.up.message.payload route
 
 abbrev pub IsTurned : Turn → Ruling → Service → (default : List ℕ) → ClientNo → (old new : Tabled) → Type 0
@@ -114,7 +115,8 @@ IsTurned (turns.Due hostgroup) ruling service default c old new = IsDueIn hostgr
 -- own words, and what becomes of each is what the verdict says. What is prepared so stands under the keys that there are then.
 
 abbrev pub IsSaid : Ruling → ClientNo → Choice → Type 0
-IsSaid ruling c (Goes route keyed) = (route.mirror ≡ None) × AreUnder ruling.keys keyed
+IsSaid ruling c (Goes route keyed) =
+    (route.mirror ≡ None) × AreUnder ruling.keys keyed × (0 < route.number → is_some (ruling.keys route.key) ≡ true)
 IsSaid ruling c (Answers payloads) = IsOwnAnswer ruling.book.rules c payloads
 
 pub record HasChosen (ruling : Ruling) (service : Service) (default : List ℕ) (c : ClientNo) (old new : Tabled) : Type 0 where

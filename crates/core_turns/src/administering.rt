@@ -100,7 +100,7 @@ fn load_rules(alloc: Global, admin: &mut Administrator) -> Result<Answer, OutOfM
     }
 }
 
-// What a statement says is done, but for what it staged: rows are put in force. A shutdown isn't there yet.
+// What a statement says is done, but for what it staged: rows are put in force, and the router shuts down.
 fn carry_out(
     alloc: Global,
     answer: Answer,
@@ -115,7 +115,10 @@ fn carry_out(
     match answer {
         Answer::Load(StagedTable::Servers) => load_servers(alloc, service, admin, servers),
         Answer::Load(StagedTable::Rules) => load_rules(alloc, admin),
-        Answer::Shutdown => Ok(Answer::Refused(Refusal::Unknown(None))),
+        Answer::Shutdown => {
+            admin.shuts = true;
+            Ok(Answer::Shutdown)
+        }
         other => Ok(other),
     }
 }

@@ -8,14 +8,15 @@ use mx_base::OutOfMemory;
 use query_rules::RuleRow;
 use std::alloc::Global;
 
-/// What administrators work on: the staged rows; the rows of servers and of rules that were loaded since it was looked at; and the rules that
-/// come in force by it, behind the event.
+/// What administrators work on: the staged rows; the rows of servers and of rules that were loaded since it was looked at; the rules that
+/// come in force by it, behind the event; and whether the router is to shut down, which was said since it was looked at.
 #[derive(Drop)]
 pub struct Administrator {
     pub staged: Staged,
     pub servers: Option<Vec<ServerRow>>,
     pub rules: Option<Vec<RuleRow>>,
     pub loaded: Option<Loaded>,
+    pub shuts: bool,
 }
 
 impl Administrator {
@@ -33,6 +34,7 @@ impl Administrator {
             servers: None,
             rules: None,
             loaded: None,
+            shuts: false,
         })
     }
 }

@@ -14,9 +14,9 @@ use Rattle.admin_port.specs.Sheets.{Sheet}
 use Rattle.admin_port.specs.declared.answer.Refusal.{Refusal}
 use Rattle.admin_port.specs.declared.answer.Refusal.TheVariants as refusals
 use Rattle.private_model.specs.Names.{ClientNo}
-use Rattle.router_promises.specs.Errors.{buffers_full, diagnostics_gone, names_connection, no_connection, no_server_in, out_of_memory, refused_by_rule, replay_refused, server_offline, sets_server, too_many_statements, unknown_statement}
+use Rattle.router_promises.specs.Errors.{buffers_full, diagnostics_gone, names_connection, no_connection, no_server_in, out_of_memory, refused_by_rule, replay_refused, server_offline, server_shutdown, sets_server, too_many_statements, unknown_statement}
 use Rattle.own_words.specs.Codes.{code_in, failure_codes, is_among, is_last_code, is_own_code, refusal_codes}
-use Rattle.own_words.specs.Own.{Answers, Shows, BadBytes, BuffersFull, ByRule, DiagnosticsGone, Fails, GivesUp, IsAnswer, IsFailure, IsLastWord, IsOwn, IsRefusal, LinkLost, MalformedCommand, NamesConnection, NoConnection, NoLink, NoMemory, NoServerIn, Nothing, Number, Offline, OkByRule, Okay, Refuses, SetsServer, StepRefused, TooManyStatements, TurnedAway, UnknownCommand, UnknownStatement, is_error_text, is_ok_text, number_payloads}
+use Rattle.own_words.specs.Own.{Answers, Shows, BadBytes, BuffersFull, ByRule, DiagnosticsGone, Fails, GivesUp, IsAnswer, IsFailure, IsLastWord, IsOwn, IsRefusal, LinkLost, MalformedCommand, NamesConnection, NoConnection, NoLink, NoMemory, NoServerIn, Nothing, Number, Offline, OkByRule, Okay, Refuses, SetsServer, ShuttingDown, StepRefused, TooManyStatements, TurnedAway, UnknownCommand, UnknownStatement, is_error_text, is_ok_text, number_payloads}
 
 pub never : {A : Type 0} → true ≡ false → A
 never is = absurd (cc)
@@ -58,7 +58,7 @@ refusal-error rules _ MalformedCommand = record { first = refl; code = refl }
 refusal-error rules _ UnknownCommand = record { first = refl; code = refl }
 
 failure-error : (payload : List ℕ) → IsFailure payload → IsError failure_codes payload
-unfolding connection_lost no_connection connection_refused replay_refused server_offline bad_server_bytes buffers_full out_of_memory
+unfolding connection_lost no_connection connection_refused replay_refused server_offline bad_server_bytes buffers_full server_shutdown out_of_memory
 failure-error _ LinkLost = record { first = refl; code = refl }
 failure-error _ (NoConnection since now since_fits now_fits) = record { first = refl; code = refl }
 failure-error _ NoLink = record { first = refl; code = refl }
@@ -66,6 +66,7 @@ failure-error _ (StepRefused code fits) = record { first = refl; code = refl }
 failure-error _ Offline = record { first = refl; code = refl }
 failure-error _ (BadBytes place fits) = record { first = refl; code = refl }
 failure-error _ (BuffersFull kept announced kept_fits announced_fits) = record { first = refl; code = refl }
+failure-error _ ShuttingDown = record { first = refl; code = refl }
 failure-error _ NoMemory = record { first = refl; code = refl }
 
 no-room : IsError (1040 ∷ []) too_many_connections
@@ -165,7 +166,7 @@ last-error _ code state text TurnedAway is none =
 -- Texts.
 
 failure-lost : (payload : List ℕ) → IsFailure payload → code_in payload ≡ 9101 → payload ≡ connection_lost
-unfolding no_connection connection_refused replay_refused server_offline bad_server_bytes buffers_full out_of_memory
+unfolding no_connection connection_refused replay_refused server_offline bad_server_bytes buffers_full server_shutdown out_of_memory
 failure-lost _ LinkLost at = refl
 failure-lost _ (NoConnection since now since_fits now_fits) at = absurd (omega (arith, at))
 failure-lost _ NoLink at = absurd (omega (arith, at))
@@ -173,6 +174,7 @@ failure-lost _ (StepRefused code fits) at = absurd (omega (arith, at))
 failure-lost _ Offline at = absurd (omega (arith, at))
 failure-lost _ (BadBytes place fits) at = absurd (omega (arith, at))
 failure-lost _ (BuffersFull kept announced kept_fits announced_fits) at = absurd (omega (arith, at))
+failure-lost _ ShuttingDown at = absurd (omega (arith, at))
 failure-lost _ NoMemory at = absurd (omega (arith, at))
 
 pub own-lost : (rules : List Rule) (client : ClientNo) (payloads : List (List ℕ)) (state text : List ℕ) → IsOwn rules client payloads

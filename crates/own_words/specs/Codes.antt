@@ -12,7 +12,7 @@ refusal_codes = 1047 ∷ 1148 ∷ 1243 ∷ 9100 ∷ 9106 ∷ 9107 ∷ 9108 ∷ 9
 
 -- of those by which a statement is given up
 abbrev pub failure_codes : List ℕ
-failure_codes = 9101 ∷ 9102 ∷ 9103 ∷ 9104 ∷ 9105 ∷ 9110 ∷ 9112 ∷ 9199 ∷ []
+failure_codes = 1053 ∷ 9101 ∷ 9102 ∷ 9103 ∷ 9104 ∷ 9105 ∷ 9110 ∷ 9112 ∷ 9199 ∷ []
 
 abbrev pub is_among : List ℕ → (code : ℕ) → Bool
 is_among codes code = list_any (nat_eq code) codes

@@ -13,7 +13,7 @@ use Rattle.admin_port.specs.Payloads.{reply_payloads}
 use Rattle.private_model.specs.Names.{ClientNo, MessageName}
 use Rattle.log_story.specs.Plan.{LastWord, OwnAnswer, Plan}
 use Rattle.router_promises.specs.Due.{turned_away}
-use Rattle.router_promises.specs.Errors.{buffers_full, diagnostics_gone, names_connection, no_connection, no_server_in, out_of_memory, refused_by_rule, replay_refused, server_offline, sets_server, too_many_statements, unknown_statement}
+use Rattle.router_promises.specs.Errors.{buffers_full, diagnostics_gone, names_connection, no_connection, no_server_in, out_of_memory, refused_by_rule, replay_refused, server_offline, server_shutdown, sets_server, too_many_statements, unknown_statement}
 
 -- a rule has this text as its OK_msg, or as its error_msg
 abbrev pub is_ok_text : List Rule → (text : List ℕ) → Bool
@@ -58,7 +58,7 @@ abbrev pub IsOwnAnswer : List Rule → ClientNo → (payloads : List (List ℕ))
 IsOwnAnswer rules client payloads = IsAnswer rules client payloads ⊎ IsShown payloads
 
 -- Why a statement is given up, or a client told a last word: the link was lost; none was lent, or none could be opened; a step was refused; the
--- server was taken offline; bytes of it are no reply; too many bytes of clients wait; or there is no memory.
+-- server was taken offline; bytes of it are no reply; too many bytes of clients wait; the router shuts down; or there is no memory.
 pub data IsFailure : (payload : List ℕ) → Type 0 where
   LinkLost : IsFailure connection_lost
   NoConnection : (since now : ℕ) → since < 2 ^ 64 → now < 2 ^ 64 → IsFailure (no_connection since now)
@@ -67,6 +67,7 @@ pub data IsFailure : (payload : List ℕ) → Type 0 where
   Offline : IsFailure server_offline
   BadBytes : (place : ℕ) → place < 2 ^ 64 → IsFailure (bad_server_bytes place)
   BuffersFull : (kept announced : ℕ) → kept < 2 ^ 64 → announced < 2 ^ 64 → IsFailure (buffers_full kept announced)
+  ShuttingDown : IsFailure server_shutdown
   NoMemory : IsFailure out_of_memory
 
 -- What a message is answered in place of a reply.

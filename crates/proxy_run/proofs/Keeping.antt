@@ -1,5 +1,5 @@
 -- A core that stands for a log keeps clients apart in it, and so it did where memory was refused.
-use Rattle.std.specs.Prelude.{◌≡◌, ◌⊎◌, ℕ, Bool, List, [], ◌∷◌, ◌++◌, None, Option, Some, unwrap_or}
+use Rattle.std.specs.Prelude.{◌≡◌, ◌⊎◌, ◌&&◌, ℕ, Bool, true, false, List, [], ◌∷◌, ◌++◌, None, Option, Some, unwrap_or}
 use Rattle.std.proofs.Common.{refl, sym, ap, ◌∙◌, subst, inl, inr, append_assoc, append-nil}
 use Rattle.std.proofs.lemmas.Option.{none-some}
 use Rattle.client_session.specs.Setups.{Setup}
@@ -9,13 +9,14 @@ use Rattle.own_words.specs.Own.{IsOwn, SpeaksOwn}
 use Rattle.query_rules.specs.declared.rule.Rule.{Rule}
 use Rattle.tale_world.specs.Decided.{Decided, plan_of}
 use Rattle.core_promises.proofs.Apart.{apart}
+use Rattle.core_promises.specs.Causes.{CausedBy}
 use Rattle.core_promises.specs.Sessions.{ServesApart}
 use Rattle.core_promises.specs.Judges.{JudgesBy, Rulebook, rulebook_of}
 use Rattle.core_promises.specs.Ruled.{book_of}
 use Rattle.core_promises.specs.Waits.{AreDoneBy}
 use Rattle.core_service.specs.Serves.{ServesBy}
 use Rattle.query_rules.specs.Passing.{rules_of}
-use Rattle.core_promises.specs.InForce.{MayRule}
+use Rattle.core_promises.specs.InForce.{MayRule, has_administrator}
 use Rattle.core_service.specs.declared.service.Service.{Service}
 use Rattle.core_texts.specs.declared.texts.Texts.{Texts}
 use Rattle.core_tables.specs.Tables.{Tabled}
@@ -35,7 +36,7 @@ use Rattle.router_laws.specs.decisions.Speaks.{DecidesOwn}
 use Rattle.router_promises.specs.Router.{IsConfiguredBy, Router, service_of}
 use Rattle.row_laws.specs.Readied.{AreClasses}
 use Rattle.server_rule.specs.Classes.{router_reads}
-use Rattle.shared_core.specs.Machine.{IsStanding, unloaded}
+use Rattle.shared_core.specs.Machine.{IsStanding, is_stopped, unloaded}
 use Rattle.shared_core.specs.Says.{awaits, reads, sends}
 use Rattle.shared_core.specs.declared.whole.Core.{Core}
 use Rattle.proxy_run.specs.Serve.{GoesOnWith}
@@ -72,13 +73,14 @@ book-is : (config : Config) (service : Service) → ServesBy config service
 book-is config service by = λ i. record { rules = rules_of service.configured; home = λ user. by.homes user i; hostgroups = by.hostgroups i }
 
 -- what a router of a log has, by how clients log in, the default schema, and what messages are judged by
-record Served (setup : Setup) (default : List ℕ) (book : Rulebook) (log : Log) (t : Tabled) (roomy : ClientNo → Bool) : Type 0 where
+record Served (setup : Setup) (wait_ms : ℕ) (default : List ℕ) (book : Rulebook) (log : Log) (t : Tabled) (roomy : ClientNo → Bool) : Type 0 where
   rules : MessageName → List Rule
   force : (name : MessageName) → MayRule book.rules log (rules name)
   core : IsCore setup default log t roomy
   single : (m : MessageName) (route : Route) → core.decided.routes m ≡ Some (Some route) → route.mirror ≡ None
   judges : JudgesBy book rules default core.decided log
   speaks : SpeaksOwn rules (plan_of core.decided)
+  caused : CausedBy wait_ms default core.decided log
   waited : AreDoneBy default core.decided log
 
 -- what was decided to be said are the router's own words
@@ -91,7 +93,7 @@ speaks_so rules d spoken = record { own = λ m answer is. own m answer (d.own m)
   own m answer (Some (Some other)) there is = spoken.own m answer (there ∙ ap Some is)
 
 served_by : (service : Service) (texts : Texts) (log : Log) (t : Tabled) (roomy : ClientNo → Bool) → IsRouter service texts log t roomy
-    → Served service.setup service.default_schema (record (book_of service) { rules = rules_of service.configured }) log t roomy
+    → Served service.setup service.wait_ms service.default_schema (record (book_of service) { rules = rules_of service.configured }) log t roomy
 served_by service texts log t roomy is = record {
   core = is.core;
   rules = is.rules;
@@ -99,6 +101,7 @@ served_by service texts log t roomy is = record {
   single = is.recorded.alone;
   judges = is.judged;
   speaks = speaks_so is.rules is.core.decided is.spoken;
+  caused = is.caused;
   waited = is.waited;
 }
 
@@ -106,14 +109,15 @@ apart_of : (config : Config) (service : Service) (texts : Texts) (log : Log) (t 
     → IsRouter service texts log t roomy → ServesApart config log
 apart_of config service texts log t roomy by stands =
     let router : Router = router_by config service in
-    let kept : Served service.setup service.default_schema (rulebook_of router) log t roomy =
-    subst (λ (book : Rulebook). Served service.setup service.default_schema book log t roomy) (book-is config service by)
+    let kept : Served service.setup service.wait_ms service.default_schema (rulebook_of router) log t roomy =
+    subst (λ (book : Rulebook). Served service.setup service.wait_ms service.default_schema book log t roomy) (book-is config service by)
     (served_by service texts log t roomy stands) in
-    let is : Served (service_of router) config.proxy.default_schema (rulebook_of router) log t roomy = rw (by.setup, by.default_schema) at kept in
+    let is : Served (service_of router) config.proxy.wait_ms config.proxy.default_schema (rulebook_of router) log t roomy =
+    rw (by.setup, by.wait_ms, by.default_schema) at kept in
     record {
       router = router;
       configured = configured_by config service by;
-      separates = apart router log t roomy is.core classes is.single is.rules is.force is.judges is.speaks is.waited (fits-of log stands.lawful);
+      separates = apart router log t roomy is.core classes is.single is.rules is.force is.judges is.speaks is.caused is.waited (fits-of log stands.lawful);
     }
 
 -- what is loaded is none of the configuration's
@@ -125,6 +129,7 @@ loaded-by config core by = record {
   default_schema = by.default_schema;
   homes = by.homes;
   hostgroups = by.hostgroups;
+  wait_ms = by.wait_ms;
   rules = by.rules;
   patterns = by.patterns;
 }
@@ -138,6 +143,14 @@ pub ran-of : (config : Config) (core : Core) (log : Log) → ServesBy config (un
 ran-of config core log by stands =
     let router = stands.stands.router in
     record { fits = fits-of log router.lawful; serves = apart_of config core.service _ log _ _ (loaded-by config core by) router }
+
+right-of : (a b : Bool) → (a && b) ≡ true → b ≡ true
+right-of true b both = both
+right-of false b both = absurd (let no = both in cc)
+
+-- where it has shut down an administrator came
+pub shut-of : (core : Core) (log : Log) → IsStanding core log → is_stopped core ≡ true → has_administrator log ≡ true
+shut-of core log stands stopped = stands.stands.counted.administrator (right-of core.router.stopped core.router.came.administrator stopped)
 
 -- Marks and the answers of calls by which memory may be refused write nothing.
 

@@ -1,6 +1,6 @@
 -- What a replay puts, and why it stops short.
 use Rattle.mx_wire.specs.Outside.{HasUnder, Takes, TakesFront}
-use Rattle.std.specs.Prelude.{Bool, Err, List, None, Ok, Option, Some, [], length, true, ℕ, ◌++◌, ◌<◌, ◌∷◌, ◌≡◌, ◌≤◌}
+use Rattle.std.specs.Prelude.{Bool, Err, List, None, Ok, Option, Some, [], length, true, ℕ, ◌++◌, ◌<◌, ◌∷◌, ◌≡◌, ◌≤◌, ◌⊎◌}
 use Rattle.mx_base.{specs.declared.names.LinkId.LinkId, specs.declared.names.Port.Port}
 use Rattle.mx_wire.specs.Log.{read_of}
 use Rattle.mx_wire.specs.Tells.{IsOpen}
@@ -10,7 +10,7 @@ use Rattle.ready_loop.specs.Drained.{read_dry}
 use Rattle.mem_wire.{specs.Play.IsPlay, specs.Told.Played}
 use Rattle.mx_config.{specs.Reading.reading_of, specs.Values.Agrees, specs.declared.config.Config.Config, specs.declared.fault.ConfigFault.ConfigFault}
 use Rattle.mx_wire.{specs.Log.Log, specs.Moments.AllLawful, specs.Tells.Fits, specs.declared.entry.Entry.TheVariants.Over}
-use Rattle.core_promises.{specs.Sessions.ServesApart}
+use Rattle.core_promises.{specs.InForce.has_administrator, specs.Sessions.ServesApart}
 use Rattle.proxy_run.{specs.Words.Named, specs.Words.replay_words, specs.declared.stop.Stop.Stop}
 use Rattle.recording.{specs.Recording.recording_of, specs.Transcript.transcript_of, specs.declared.entry.RecordEntry.RecordEntry}
 use Rattle.recording.{specs.declared.fault.RecordFault.RecordFault}
@@ -63,6 +63,12 @@ pub record ServesToEnd (config : Config) (log : Log) : Type 0 where
   pub before : Log
   pub over : log ≡ before ++ Over ∷ []
 
+-- Clients are kept apart, until the router has shut down: an administrator came.
+pub record ServesUntilShut (config : Config) (log : Log) : Type 0 where
+  pub run : IsRunBy config log
+  pub serves : ServesApart config log
+  pub administrator : has_administrator log ≡ true
+
 -- The recording was played to its end: each of its moments came, each of its clients was accepted, and of each open link that was read dry all
 -- was read that the recording has for it.
 pub record IsPlayedOut (entries : List RecordEntry) (log : Log) : Type 0 where
@@ -71,10 +77,15 @@ pub record IsPlayedOut (entries : List RecordEntry) (log : Log) : Type 0 where
   pub read : (link : LinkId) (k : Known) → with_link link (known entries log) ≡ Some k → IsOpen link log → read_dry link log ≡ true
       → read_of link log ≡ bytes_for k.name entries
 
+-- so it was, and clients were kept apart
+pub record PlayedToEnd (config : Config) (entries : List RecordEntry) (log : Log) : Type 0 where
+  pub serves : ServesToEnd config log
+  pub played : IsPlayedOut entries serves.before
+
 -- what a tape tells that has played these entries
 pub record HasPlayed (config : Config) (entries : List RecordEntry) (tape : Played) : Type 0 where
   pub plays : (log : Log) → IsPlay tape.recording log → IsPlay entries log
-  pub serves : (log : Log) → tape.told ≡ Some log → ServesToEnd config log
+  pub serves : (log : Log) → tape.told ≡ Some log → ServesToEnd config log ⊎ ServesUntilShut config log
 
 -- a play of which the same holds, in which one wake took as many calls as it may
 pub record IsSpent (config : Config) (entries : List RecordEntry) (log : Log) : Type 0 where
@@ -133,8 +144,7 @@ pub record IsReplay (words : List (List ℕ)) (held : Held) (log : Log) : Type 0
   pub entries : List RecordEntry
   pub under : IsUnder names.recording held entries
   pub play : IsPlay entries log
-  pub serves : ServesToEnd configured.config log
-  pub played : IsPlayedOut entries serves.before
+  pub served : PlayedToEnd configured.config entries log ⊎ ServesUntilShut configured.config log
 
 -- and the transcript of that log is put
 pub record Replayed (words : List (List ℕ)) (held : Held) (old new : Option (List ℕ)) : Type 0 where

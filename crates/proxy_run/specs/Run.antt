@@ -7,12 +7,12 @@ use Rattle.recording.specs.declared.fault.RecordFault.{RecordFault}
 use Rattle.mx_config.specs.declared.fault.ConfigFault.{ConfigFault}
 use Rattle.proxy_run.specs.declared.stop.Stop.{Stop}
 use Rattle.proxy_run.specs.declared.stop.Stop.TheVariants as stop
-use Rattle.ready_loop.specs.Serving.{EndsWith, IsOver, IsPortFault}
+use Rattle.ready_loop.specs.Serving.{EndsWith, IsPortFault}
 use Rattle.proxy_run.specs.ReportWords.{ReportNamed, report_words}
 use Rattle.proxy_run.specs.Reports.{Reported, ReportedInPart}
 use Rattle.proxy_run.specs.Words.{Named, replay_words, serve_words, text_words}
 use Rattle.proxy_run.specs.Replay.{Held, IsMisconfigured, Replayed, ReplayedInPart, IsUnconfigured, IsRefused, RanOut, IsUnread}
-use Rattle.proxy_run.specs.Serve.{Served, ServedUntil, IsUntouched, IsWornOut}
+use Rattle.proxy_run.specs.Serve.{IsServed, Served, ServedUntil, IsUntouched, IsWornOut}
 
 -- a front of the line was put, and the sink failed
 pub record FailsAt (line : List ℕ) (old : Option (List ℕ)) (before : ℕ) (new : Option (List ℕ)) (now : ℕ) : Type 0 where
@@ -75,7 +75,7 @@ pub data ReplayOutcome (words : List (List ℕ)) (held : Held) (read_before read
 
 -- The same of `serve`, on a wire that tells this log in the end.
 pub data ServeOutcome (name : List ℕ) (held : Held) (read_before read_now : ℕ) (told : Option Log) (ports_before ports_now : ℕ) (old : Option (List ℕ)) (before : ℕ) (new : Option (List ℕ)) (now : ℕ) : ℕ → Type 0 where
-  ServedOut : Served name held (EndsWith IsOver) told → Silent old before new now → ServeOutcome name held read_before read_now told ports_before ports_now old before new now 0
+  ServedOut : Served name held IsServed told → Silent old before new now → ServeOutcome name held read_before read_now told ports_before ports_now old before new now 0
   Misconfigured : (fault : ConfigFault) → IsMisconfigured name held fault → Says (config_line fault) old before new now → ServeOutcome name held read_before read_now told ports_before ports_now old before new now 1
   NotRead : read_before < read_now → Says (codes "read fault\n") old before new now → ServeOutcome name held read_before read_now told ports_before ports_now old before new now 3
   RefusedMemory : ServedUntil name held told → Says (codes "out of memory\n") old before new now → ServeOutcome name held read_before read_now told ports_before ports_now old before new now 5

@@ -1,11 +1,12 @@
 -- What serving by a configuration keeps on a wire that tells its log, and why it stops.
-use Rattle.std.specs.Prelude.{◌≡◌, ◌⊎◌, ℕ, ◌<◌, List, [], ◌∷◌, ◌++◌, Option, Some}
+use Rattle.std.specs.Prelude.{◌≡◌, ◌⊎◌, ℕ, ◌<◌, List, [], ◌∷◌, ◌++◌, Option, Some, true}
 use Rattle.mx_base.specs.declared.names.LinkId.{LinkId}
 use Rattle.mx_wire.specs.Log.{AreMarks, Log, written_of}
 use Rattle.mx_wire.specs.declared.entry.Entry.{Entry}
 use Rattle.mx_config.specs.declared.config.Config.{Config}
 use Rattle.ready_loop.specs.Round.{wakes_of}
-use Rattle.ready_loop.specs.Serving.{EndsWith, IsPortFault, IsBusy}
+use Rattle.ready_loop.specs.Serving.{EndsWith, IsOver, IsPortFault, IsBusy}
+use Rattle.core_promises.specs.InForce.{has_administrator}
 use Rattle.core_promises.specs.Sessions.{ServesApart}
 use Rattle.proxy_run.specs.declared.stop.Stop.{Stop}
 use Rattle.proxy_run.specs.declared.stop.Stop.TheVariants as stop
@@ -23,6 +24,14 @@ pub record IsUntouched (told : Option Log) : Type 0 where
 -- so many waits woke, or one wake took as many calls as it may
 pub record IsWornOut (told : Option Log) : Type 0 where
   pub worn : (log : Log) → told ≡ Some log → (wakes_of log ≡ 4611686018427387904) ⊎ IsBusy log
+
+-- an administrator came, who may have it shut down
+pub record IsShutDown (told : Option Log) : Type 0 where
+  pub administrator : (log : Log) → told ≡ Some log → has_administrator log ≡ true
+
+-- the wire has nothing more, or the router has shut down
+abbrev pub IsServed : Option Log → Type 0
+IsServed told = EndsWith IsOver told ⊎ IsShutDown told
 
 -- the router served by this configuration, and its log ends so
 pub record Attended (config : Config) (Ends : Option Log → Type 0) (told : Option Log) : Type 0 where

@@ -53,7 +53,7 @@ fn read<F: Files>(alloc: Global, name: &str, files: &mut F) -> Result<Vec<Record
     }
 }
 
-// Plays a recording to its end.
+// Plays a recording to its end, or until an administrator has the router shut down.
 fn play(alloc: Global, config: &Config, entries: Vec<RecordEntry>) -> Result<Tape, Stop>
     requires playable { IsPlayable entries.items }
     requires lawful { IsLawful config.now }
@@ -67,12 +67,13 @@ fn play(alloc: Global, config: &Config, entries: Vec<RecordEntry>) -> Result<Tap
     drop(core);
     match end {
         ServeEnd::Over => Ok(tape),
+        ServeEnd::Stopped => Ok(tape),
         ServeEnd::OutOfMemory => Err(Stop::OutOfMemory),
         ServeEnd::TurnsSpent => match tape.log() {
             Some(_) => Err(Stop::TurnsSpent),
             None => Err(Stop::OutOfMemory),
         },
-        ServeEnd::Stopped | ServeEnd::ListenFault => unreachable!(),
+        ServeEnd::ListenFault => unreachable!(),
     }
 }
 

@@ -2,8 +2,7 @@
 ghost use Rattle.std.specs.Prelude.{◌≡◌, ◌<◌, [], Some, OnOk, IfErr};
 ghost use Rattle.mx_config.specs.Lawful.{IsLawful};
 ghost use Rattle.mx_wire.specs.Log.{Log};
-ghost use Rattle.proxy_run.specs.Serve.{Attended, AttendStops, IsEarly, Served, ServeStops};
-ghost use Rattle.ready_loop.specs.Serving.{EndsWith, IsOver};
+ghost use Rattle.proxy_run.specs.Serve.{Attended, AttendStops, IsEarly, IsServed, Served, ServeStops};
 
 use crate::replay::configure;
 use crate::stop::Stop;
@@ -20,7 +19,7 @@ const TURNS: u64 = 4_611_686_018_427_387_904;
 fn attend<W: Wire>(alloc: Global, config: &Config, wire: &mut W) -> Result<(), Stop>
     requires fresh { (log : Log) → W.told wire.old ≡ Some log → log ≡ [] }
     requires lawful { IsLawful config.now }
-    ensures ok { OnOk result (Attended config.now (EndsWith IsOver) (W.told wire.new)) }
+    ensures ok { OnOk result (Attended config.now IsServed (W.told wire.new)) }
     ensures err { IfErr result (λ stop. AttendStops stop config.now (W.told wire.new) (W.port_faults wire.old) (W.port_faults wire.new)) }
 {
     let mut core = Core::new(alloc, config)?;
@@ -28,14 +27,14 @@ fn attend<W: Wire>(alloc: Global, config: &Config, wire: &mut W) -> Result<(), S
     drop(core);
     match end {
         ServeEnd::Over => Ok(()),
+        ServeEnd::Stopped => Ok(()),
         ServeEnd::ListenFault => Err(Stop::ListenFault),
         ServeEnd::TurnsSpent => Err(Stop::TurnsSpent),
         ServeEnd::OutOfMemory => Err(Stop::OutOfMemory),
-        ServeEnd::Stopped => unreachable!(),
     }
 }
 
-/// Serves by the configuration under the name, until the wire has nothing more.
+/// Serves by the configuration under the name, until the wire has nothing more, or an administrator has the router shut down.
 pub fn serve_by<F: Files, W: Wire>(
     alloc: Global,
     name: &str,
@@ -43,7 +42,7 @@ pub fn serve_by<F: Files, W: Wire>(
     wire: &mut W,
 ) -> Result<(), Stop>
     requires fresh { (log : Log) → W.told wire.old ≡ Some log → log ≡ [] }
-    ensures ok { OnOk result (Served name.now (F.held files.old) (EndsWith IsOver) (W.told wire.new)) }
+    ensures ok { OnOk result (Served name.now (F.held files.old) IsServed (W.told wire.new)) }
     ensures untouched { IfErr result (λ stop. IsEarly stop → wire.new ≡ wire.old) }
     ensures err { IfErr result (λ stop. ServeStops stop name.now (F.held files.old) (F.faults files.old) (F.faults files.new) (W.told wire.new) (W.port_faults wire.old) (W.port_faults wire.new)) }
 {

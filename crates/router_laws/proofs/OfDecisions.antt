@@ -11,6 +11,9 @@ pub mod Gathering
 pub mod Working
 pub mod Tallying
 pub mod Forcing
+pub mod Holding
+pub mod Held
+pub mod Causing
 pub mod Router
 pub mod Learning
 pub mod Staying

@@ -5,7 +5,9 @@ pub mod Links
 pub mod Counting
 pub mod Speaks
 pub mod Judges
+pub mod Causes
 pub mod Force
+pub mod Held
 pub mod Routers
 pub mod Goings
 pub mod Rulings

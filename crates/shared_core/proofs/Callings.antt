@@ -14,7 +14,10 @@ use Rattle.mx_wire.specs.declared.entry.Entry.TheVariants.{OpenFailed, Woke}
 use Rattle.private_model.proofs.Maps.{client_of}
 use Rattle.private_model.specs.Story.{is_client}
 use Rattle.client_seat.specs.Seats.{is_ended}
+use Rattle.core_policy.specs.declared.verdict.GiveUp.{GiveUp}
+use Rattle.core_service.specs.Failures.{payload_of}
 use Rattle.core_service.specs.Serves.{rules_in}
+use Rattle.core_service.specs.declared.failure.Failure.{Failure}
 use Rattle.core_service.specs.declared.service.Service.{Service}
 use Rattle.core_tables.specs.Parting.{given_row, given_up}
 use Rattle.core_tables.specs.Tables.{IsSame, Tabled}
@@ -23,7 +26,11 @@ use Rattle.core_laws.specs.clients.Going.{GivenUp, is_going}
 use Rattle.core_laws.specs.entry.Cores.{with_entry}
 use Rattle.router_laws.specs.decisions.Routers.{IsRouter}
 use Rattle.router_laws.specs.wakes.Calling.{Caller, GivesUpAll, IsThere, is_called, is_given}
+use Rattle.client_session.specs.Errors.{connection_refused}
+use Rattle.core_promises.specs.Causes.{IsLateCause}
+use Rattle.core_promises.specs.InForce.{has_administrator}
 use Rattle.core_promises.specs.Ruled.{ruling_of}
+use Rattle.router_laws.specs.decisions.Causes.{AreLate, AreRefused}
 use Rattle.router_laws.specs.decisions.Rulings.{AreRuledAll}
 use Rattle.router_laws.specs.decisions.Speaks.{IsGivenOurs}
 use Rattle.router_laws.specs.waits.Drained.{IsDrainedFor}
@@ -33,7 +40,9 @@ use Rattle.router_laws.proofs.OfWakes.Settled.{same_itself}
 use Rattle.router_laws.proofs.OfDecisions.Learning.{learns}
 use Rattle.core_texts.specs.declared.texts.Texts.{Texts}
 use Rattle.core_texts.specs.Texts.{AreMore, key_at}
+use Rattle.shared_core.proofs.Causing.{late_by, late_more, refused_by}
 use Rattle.shared_core.proofs.Coming.{come_as, come_on}
+use Rattle.shared_core.specs.Causes.{given_with, is_late, is_refused}
 use Rattle.shared_core.specs.Follows.{AreRising, HasAnswered, HaveFollowed, is_of}
 use Rattle.shared_core.specs.Stands.{Carries, CarriesWhere, is_roomy, tables}
 use Rattle.shared_core.specs.Wakes.{AreCalled, HasFailed, HasWoken, HaveGivenUp, IsWaiting}
@@ -77,10 +86,11 @@ given_either (x ∷ xs) ys c is left right =
     or_by (is_client c x.client) (is_given (xs ++ ys) c) is (λ e. left (or_first (is_client c x.client) (is_given xs c) e))
     (λ e. given_either xs ys c e (λ its. left (or_true (is_client c x.client) (is_given xs c) its)) right)
 
-pub none_given : (roomy : Roomy) (t : Tabled) → HaveGivenUp roomy roomy t t
-none_given roomy t = record {
+pub none_given : (wait_ms now_ms : ℕ) (came : Bool) (roomy : Roomy) (t : Tabled) → HaveGivenUp wait_ms now_ms came roomy roomy t t
+none_given wait_ms now_ms came roomy t = record {
   given = [];
   ours = All-nil _;
+  late = All-nil _;
   gives = same_itself t;
   calls = λ c is. absurd (true≢false (sym is));
   going = λ c is. absurd (true≢false (sym is));
@@ -88,9 +98,11 @@ none_given roomy t = record {
 }
 
 -- one that is given up is answered by the router's own
-all_one : (c : ClientNo) {old new : Tabled} (answered : HasAnswered c old new)
-    → All IsGivenOurs (record { client = c; payload = answered.payload } ∷ [])
-all_one c answered = All-cons IsGivenOurs (record { client = c; payload = answered.payload }) [] answered.own (All-nil IsGivenOurs)
+all_one : (up : GiveUp) {old new : Tabled} (answered : HasAnswered up.client up.why old new) → All IsGivenOurs (given_with up ∷ [])
+all_one up answered = All-cons IsGivenOurs (given_with up) [] answered.own (All-nil IsGivenOurs)
+
+alone_so : (P : GivenUp → Type 0) (up : GivenUp) → P up → All P (up ∷ [])
+alone_so P up is = All-cons P up [] is (All-nil P)
 
 its_alone : (c d : ClientNo) → (is_client d c || false) ≡ true → d ≡ c
 its_alone c d is = by (is_client d c) refl is where
@@ -98,23 +110,27 @@ its_alone c d is = by (is_client d c) refl is where
   by true its some = client_of d c its
   by false its some = absurd (true≢false (sym some))
 
-pub one_given : (before called : Roomy) (c : ClientNo) (old new : Tabled) → IsWaiting c old → HasAnswered c old new → is_roomy called c ≡ true
-    → ((d : ClientNo) → is_roomy before d ≡ true → is_roomy called d ≡ true) → HaveGivenUp before called old new
-one_given before called c old new waiting answered its kept = record {
-  given = record { client = c; payload = answered.payload } ∷ [];
-  ours = all_one c answered;
+pub one_given : (wait_ms now_ms : ℕ) (came : Bool) (before called : Roomy) (up : GiveUp) (old new : Tabled) → is_late wait_ms now_ms came up.why ≡ true
+    → IsWaiting up.client old → HasAnswered up.client up.why old new → is_roomy called up.client ≡ true
+    → ((d : ClientNo) → is_roomy before d ≡ true → is_roomy called d ≡ true) → HaveGivenUp wait_ms now_ms came before called old new
+one_given wait_ms now_ms came before called up old new late waiting answered its kept = record {
+  given = given_with up ∷ [];
+  ours = all_one up answered;
+  late = alone_so (λ (one : GivenUp). IsLateCause wait_ms now_ms came one.payload) (given_with up) (late_by wait_ms now_ms came up.why late);
   gives = (new, record { late = waiting.unsent; same = answered.same }, same_itself new);
-  calls = λ d is. ap (is_roomy called) (its_alone c d is) ∙ its;
+  calls = λ d is. ap (is_roomy called) (its_alone up.client d is) ∙ its;
   going = λ d is.
-      going_still c answered.payload old new answered.same d
-      ∙ (ap (λ (n : ClientNo). is_going (old.clients n)) (its_alone c d is) ∙ waiting.going);
+      going_still up.client (payload_of up.why) old new answered.same d
+      ∙ (ap (λ (n : ClientNo). is_going (old.clients n)) (its_alone up.client d is) ∙ waiting.going);
   kept = kept;
 }
 
-pub given_along : (a b c : Roomy) (s t u : Tabled) → HaveGivenUp a b s t → HaveGivenUp b c t u → HaveGivenUp a c s u
-given_along a b c s t u first next = record {
+pub given_along : (wait_ms now_ms : ℕ) (came : Bool) (a b c : Roomy) (s t u : Tabled) → HaveGivenUp wait_ms now_ms came a b s t
+    → HaveGivenUp wait_ms now_ms came b c t u → HaveGivenUp wait_ms now_ms came a c s u
+given_along wait_ms now_ms came a b c s t u first next = record {
   given = first.given ++ next.given;
   ours = All-append IsGivenOurs first.given next.given first.ours next.ours;
+  late = All-append (λ (up : GivenUp). IsLateCause wait_ms now_ms came up.payload) first.given next.given first.late next.late;
   gives = gives_along first.given next.given s t u first.gives next.gives;
   calls = λ d is. given_either first.given next.given d is (λ e. next.kept d (first.calls d e)) (λ e. next.calls d e);
   going = λ d is. given_either first.given next.given d is (λ e. all_going next.given t u next.gives d ∙ first.going d e) (λ e. next.going d e);
@@ -131,24 +147,28 @@ going_there : (t : Tabled) (c : ClientNo) (row : Client) → t.clients c ≡ Som
 going_there t c row there going = ap is_going there ∙ ap not going
 
 -- more were called before
-pub given_since : (first roomy called : Roomy) (old new : Tabled) → ((c : ClientNo) → is_roomy first c ≡ true → is_roomy roomy c ≡ true)
-    → HaveGivenUp roomy called old new → HaveGivenUp first called old new
-given_since first roomy called old new more given = record {
+pub given_since : (wait_ms now_ms : ℕ) (came : Bool) (first roomy called : Roomy) (old new : Tabled)
+    → ((c : ClientNo) → is_roomy first c ≡ true → is_roomy roomy c ≡ true) → HaveGivenUp wait_ms now_ms came roomy called old new
+    → HaveGivenUp wait_ms now_ms came first called old new
+given_since wait_ms now_ms came first roomy called old new more given = record {
   given = given.given;
   ours = given.ours;
+  late = given.late;
   gives = given.gives;
   calls = given.calls;
   going = given.going;
   kept = λ c has. given.kept c (more c has);
 }
 
-pub have_woken : (service : Service) (texts : Texts) (roomy called : Roomy) (clients : List ClientNo) (old mid new : Tabled) → HaveGivenUp roomy called old mid
-    → AreCalled called clients mid → HaveFollowed service texts clients mid new → HasWoken service texts roomy old new
-have_woken service texts roomy called clients old mid new given are followed = record {
+pub have_woken : (service : Service) (texts : Texts) (now_ms : ℕ) (came : Bool) (roomy called : Roomy) (clients : List ClientNo) (old mid new : Tabled)
+    → HaveGivenUp service.wait_ms now_ms came roomy called old mid → AreCalled called clients mid → HaveFollowed service texts clients mid new
+    → HasWoken service texts now_ms came roomy old new
+have_woken service texts now_ms came roomy called clients old mid new given are followed = record {
   given = given.given;
   callers = followed.callers;
   links = followed.links;
   given_ours = given.ours;
+  late = given.late;
   ours = followed.ours;
   so = record {
     late = mid;
@@ -167,6 +187,7 @@ none_fails service texts t = record {
   callers = [];
   links = [];
   given_ours = All-nil _;
+  refused = All-nil _;
   ours = All-nil _;
   so = record {
     late = t;
@@ -189,19 +210,20 @@ none_fails service texts t = record {
   ruled = tt;
 }
 
-pub one_fails : (service : Service) (texts : Texts) (c : ClientNo) (old mid new : Tabled) → IsWaiting c old → HasAnswered c old mid
-    → HaveFollowed service texts (c ∷ []) mid new → HasFailed service texts old new
-one_fails service texts c old mid new waiting answered followed = record {
-  given = record { client = c; payload = answered.payload } ∷ [];
+pub one_fails : (service : Service) (texts : Texts) (up : GiveUp) (old mid new : Tabled) → is_refused up.why ≡ true → IsWaiting up.client old
+    → HasAnswered up.client up.why old mid → HaveFollowed service texts (up.client ∷ []) mid new → HasFailed service texts old new
+one_fails service texts up old mid new refused waiting answered followed = record {
+  given = given_with up ∷ [];
   callers = followed.callers;
   links = followed.links;
-  given_ours = all_one c answered;
+  given_ours = all_one up answered;
+  refused = alone_so (λ (one : GivenUp). one.payload ≡ connection_refused) (given_with up) (refused_by up.why refused);
   ours = followed.ours;
   so = record {
     late = mid;
     gives = (mid, record { late = waiting.unsent; same = answered.same }, same_itself mid);
-    all_given = λ d is. called_of followed.callers (c ∷ []) followed.named d ∙ is;
-    none_else = λ d is. sym (called_of followed.callers (c ∷ []) followed.named d) ∙ is;
+    all_given = λ d is. called_of followed.callers (up.client ∷ []) followed.named d ∙ is;
+    none_else = λ d is. sym (called_of followed.callers (up.client ∷ []) followed.named d) ∙ is;
     calls = followed.calls;
   };
   ruled = followed.ruled;
@@ -212,10 +234,10 @@ one_fails service texts c old mid new waiting answered followed = record {
 pub rising_one : (c : ClientNo) → AreRising (c ∷ [])
 rising_one c = (All-nil (λ (other : ClientNo). c.0 < other.0), tt)
 
-pub there_one : (c : ClientNo) (old mid : Tabled) → IsWaiting c old → HasAnswered c old mid → All (λ (d : ClientNo). IsThere mid d) (c ∷ [])
-there_one c old mid waiting answered =
+pub there_one : (c : ClientNo) (why : Failure) (old mid : Tabled) → IsWaiting c old → HasAnswered c why old mid → All (λ (d : ClientNo). IsThere mid d) (c ∷ [])
+there_one c why old mid waiting answered =
     All-cons (λ (d : ClientNo). IsThere mid d) c []
-    (there_by mid c (mid.clients c) refl (going_still c answered.payload old mid answered.same c ∙ waiting.going))
+    (there_by mid c (mid.clients c) refl (going_still c (payload_of why) old mid answered.same c ∙ waiting.going))
     (All-nil (λ (d : ClientNo). IsThere mid d))
 
 -- The router is carried over the entry.
@@ -223,7 +245,7 @@ there_one c old mid waiting answered =
 abbrev pub Fails : Type 0
 Fails = (service : Service) (texts : Texts) (log : Log) (t now : Tabled) (roomy : ClientNo → Bool) (given : List GivenUp)
     (callers : List Caller) (links : List LinkId) (server : ServerId) (address : Address) → IsRouter service texts log t roomy
-    → MayFollow log (OpenFailed server address) → (fails : FailsSo service.setup service.default_schema given callers links t now) → All IsGivenOurs given
+    → MayFollow log (OpenFailed server address) → (fails : FailsSo service.setup service.default_schema given callers links t now) → All IsGivenOurs given → AreRefused given
     → All (IsCallerOurs (rules_in service) texts) callers
     → AreRuledAll (ruling_of service (key_at texts)) callers service.setup service.default_schema fails.late fails.calls.turned fails.calls.going
     → IsRouter service texts (with_entry log (OpenFailed server address)) now roomy
@@ -233,20 +255,23 @@ pub fails_carries : Fails → (service : Service) (server : ServerId) (old new :
 fails_carries law service server old new failed roomy came more address =
     carries_by service old new roomy came more (OpenFailed server address) refl (λ log may is.
     law service new.texts log (tables old) (tables new) (is_roomy old.roomy) failed.given failed.callers failed.links server address
-    is may failed.so failed.given_ours failed.ours failed.ruled)
+    is may failed.so failed.given_ours failed.refused failed.ours failed.ruled)
 
 abbrev pub Wakes : Type 0
 Wakes = (service : Service) (texts : Texts) (log : Log) (t now : Tabled) (roomy room : ClientNo → Bool) (given : List GivenUp)
     (callers : List Caller) (links : List LinkId) (until_ms now_ms : ℕ) → IsRouter service texts log t roomy → MayFollow log (Woke until_ms now_ms)
     → IsDrainedFor t log → (wakes : WakesSo service.setup service.default_schema given callers links roomy t now) → All IsGivenOurs given
+    → AreLate service.wait_ms now_ms (has_administrator log) given
     → All (IsCallerOurs (rules_in service) texts) callers
     → AreRuledAll (ruling_of service (key_at texts)) callers service.setup service.default_schema wakes.late wakes.calls.turned wakes.calls.going
     → IsRouter service texts (with_entry log (Woke until_ms now_ms)) now room
 
-pub wakes_carries : Wakes → (service : Service) (now_ms : ℕ) (old new : Router) → HasWoken service new.texts old.roomy (tables old) (tables new)
+pub wakes_carries : Wakes → (service : Service) (now_ms : ℕ) (old new : Router)
+    → HasWoken service new.texts now_ms old.came.administrator old.roomy (tables old) (tables new)
     → new.came ≡ old.came → AreMore old.texts new.texts → (until_ms : ℕ) → CarriesWhere (IsDrainedFor (tables old)) service (Woke until_ms now_ms) old new
 wakes_carries law service now_ms old new woken came more until_ms log drained may stands = record {
   router = law service new.texts log (tables old) (tables new) (is_roomy old.roomy) (is_roomy new.roomy) woken.given woken.callers
-      woken.links until_ms now_ms (learns service old.texts new.texts log (tables old) (is_roomy old.roomy) stands.router more) may drained woken.so woken.given_ours woken.ours woken.ruled;
+      woken.links until_ms now_ms (learns service old.texts new.texts log (tables old) (is_roomy old.roomy) stands.router more) may drained woken.so woken.given_ours
+      (late_more service.wait_ms now_ms old.came.administrator (has_administrator log) stands.counted.administrator woken.given woken.late) woken.ours woken.ruled;
   counted = come_as (with_entry log (Woke until_ms now_ms)) old.came new.came came (come_on log (Woke until_ms now_ms ∷ []) old.came refl stands.counted);
 }

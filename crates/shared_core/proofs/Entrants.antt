@@ -186,5 +186,7 @@ router_still service texts log t roomy c row there at router = record {
   spoken = router.spoken;
   waited = router.waited;
   judged = router.judged;
+  held = router.held;
+  caused = router.caused;
   known = router.known;
 }

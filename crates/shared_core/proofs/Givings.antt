@@ -9,6 +9,8 @@ use Rattle.session_state.specs.declared.names.SessionName.{SessionName}
 use Rattle.client_desk.specs.Desks.{session_of}
 use Rattle.client_desk.specs.declared.work.Work.{Work}
 use Rattle.core_policy.specs.declared.verdict.GiveUp.{GiveUp}
+use Rattle.core_service.specs.Failures.{payload_of}
+use Rattle.core_service.specs.declared.failure.Failure.{Failure}
 use Rattle.core_service.specs.declared.service.Service.{Service}
 use Rattle.core_tables.specs.Parting.{given_to, given_up, given_up_in}
 use Rattle.core_tables.specs.Tables.{IsSame, Tabled}
@@ -22,6 +24,7 @@ use Rattle.router_laws.specs.links.Loses.{IsGivenUpWith}
 use Rattle.router_laws.specs.wakes.Calling.{IsUnsent}
 use Rattle.core_texts.specs.declared.texts.Texts.{Texts}
 use Rattle.shared_core.proofs.Tabling.{same_by, tables_are}
+use Rattle.shared_core.specs.Causes.{given_with}
 use Rattle.shared_core.specs.Follows.{HasAnswered, HasCalled, HasFollowed, HasGiven, IsFor, called_by, told_client, up_client}
 use Rattle.shared_core.specs.Rows.{IsLentNoOther, WorkIsAside, WorkIsAsideWith, WorkIsBroken, WorkIsUnsent, home_at, home_in, lent_home_at}
 
@@ -93,18 +96,25 @@ client-so a b same = client_of a b same
 pub own-as : (said kept payload : List ℕ) → said ≡ kept → kept ≡ payload → IsFailure payload → IsFailure said
 own-as said kept payload is same own = subst IsFailure (sym (is ∙ same)) own
 
-pub none-given : (t : Tabled) → HasGiven None t t
-none-given t = record { told = None; ours = tt; its = refl; same = nobody_so t }
+-- and it is the failure's
+pub answered-as : (c : ClientNo) (why : Failure) (old new : Tabled) (said kept : List ℕ) → said ≡ kept → kept ≡ payload_of why
+    → IsFailure (payload_of why) → IsSame new (given_up c said old) → HasAnswered c why old new
+answered-as c why old new said kept is same own gives =
+    record { own = own; same = subst (λ (payload : List ℕ). IsSame new (given_up c payload old)) (is ∙ same) gives }
 
-pub one-given : (up : GiveUp) (old new : Tabled) → HasAnswered up.client old new → HasGiven (Some up) old new
+pub none-given : (t : Tabled) → HasGiven None t t
+none-given t = record { told = None; ours = tt; its = refl; is = refl; same = nobody_so t }
+
+pub one-given : (up : GiveUp) (old new : Tabled) → HasAnswered up.client up.why old new → HasGiven (Some up) old new
 one-given up old new answered = record {
-  told = Some (record { client = up.client; payload = answered.payload });
+  told = Some (given_with up);
   ours = answered.own;
   its = refl;
-  same = same_by new (given_up_in (given_to up.client answered.payload) old)
-      (tables_are new (given_up up.client answered.payload old) answered.same
-      ∙ tables_are (given_up up.client answered.payload old) (given_up_in (given_to up.client answered.payload) old)
-      (one_so old up.client answered.payload));
+  is = refl;
+  same = same_by new (given_up_in (given_to up.client (payload_of up.why)) old)
+      (tables_are new (given_up up.client (payload_of up.why) old) answered.same
+      ∙ tables_are (given_up up.client (payload_of up.why) old) (given_up_in (given_to up.client (payload_of up.why)) old)
+      (one_so old up.client (payload_of up.why)));
 }
 
 -- Who is called.

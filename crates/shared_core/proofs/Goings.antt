@@ -1,12 +1,13 @@
 -- Clients go on, one after the other.
-use Rattle.std.specs.Prelude.{◌≡◌, ◌<◌, ◌≤◌, ◌+◌, ℕ, Bool, true, false, not, ◌||◌, All, drop, get_or, length, map, take, List, [], ◌∷◌, ◌++◌, Option, Some, None}
+use Rattle.std.proofs.lemmas.Bool.{true≢false}
+use Rattle.std.specs.Prelude.{◌≡◌, ◌<◌, ◌≤◌, ◌+◌, ℕ, Bool, true, false, not, ◌||◌, All, drop, get_or, length, map, take, List, [], ◌∷◌, ◌++◌, Option, Some, None, is_some}
 use Rattle.std.proofs.Common.{◌∙◌, ap, arith, refl, subst, sym}
 use Rattle.std.proofs.lemmas.List.{drop_more, take_all, take_more}
 use Rattle.std.proofs.lemmas.List.Elements.{All-append, All-cons, All-head, All-nil, All-tail}
 use Rattle.mx_base.specs.declared.names.ClientNo.{ClientNo}
 use Rattle.mx_base.specs.declared.names.LinkId.{LinkId}
 use Rattle.private_model.proofs.Maps.{same_number}
-use Rattle.private_model.specs.Story.{is_client}
+use Rattle.private_model.specs.Story.{is_client, Key}
 use Rattle.client_session.specs.Setups.{Setup}
 use Rattle.client_seat.specs.Seats.{ended, is_ended}
 use Rattle.core_service.specs.Serves.{rules_in}
@@ -104,7 +105,10 @@ parts-so c ends halt a b d e before parts behind rested =
 choice_more : (rules : List Rule) (old new : Texts) → AreMore old new → (c : ClientNo) (choice : Choice) → IsOurs rules old c choice
     → IsOurs rules new c choice
 choice_more rules old new more c (Goes route keyed) is =
-    (is.0, λ k d within. (let one = get_or keyed k d in more.kept one.number one.key (is.1 k d within)))
+    (is.0, (λ k d within. (let one = get_or keyed k d in more.kept one.number one.key (is.1 k d within))), λ numbered. stays (key_at old route.key) refl (is.2 numbered)) where
+      stays : (found : Option Key) → key_at old route.key ≡ found → is_some found ≡ true → is_some (key_at new route.key) ≡ true
+      stays None at some = absurd (true≢false (sym some))
+      stays (Some key) at some = ap is_some (more.kept route.key key at)
 choice_more rules old new more c (Answers payloads) is = is
 
 pub ours_more : (rules : List Rule) (old new : Texts) → AreMore old new → (c : ClientNo) (choices : List Choice) → All (IsOurs rules old c) choices

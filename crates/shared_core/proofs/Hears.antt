@@ -36,7 +36,9 @@ use Rattle.router_laws.specs.decisions.Speaks.{AreGivenOurs, AreGoingOurs}
 use Rattle.router_laws.specs.reading.Hears.{HearsRuled, HearsSo}
 use Rattle.core_texts.specs.declared.texts.Texts.{Texts}
 use Rattle.core_texts.specs.Texts.{key_at}
+use Rattle.router_laws.specs.decisions.Causes.{IsHeardFor}
 use Rattle.shared_core.proofs.Carrying.{carries_by}
+use Rattle.shared_core.proofs.Causing.{heard_for}
 use Rattle.shared_core.specs.Follows.{HasCalled, HasGiven, IsFor, Keeps, MayBeGiven, told_client, up_client}
 use Rattle.shared_core.specs.Hears.{HasHeard}
 use Rattle.shared_core.specs.Stands.{Carries, is_roomy, tables}
@@ -66,12 +68,13 @@ Routes =
     (given : Option GivenUp) (going : Option Going) → IsRouter service texts log t roomy → MayFollow log (entry.Got l bytes)
     → AreBytes bytes → (so : HearsSo service.setup service.default_schema l bytes clock given going t now) → AreGivenOurs given
     → AreGoingOurs (rules_in service) texts going
-    → IsRuledOn (ruling_of service (key_at texts)) going service.setup service.default_schema so.freed now so.goes → IsRouter service texts (with_entry log (entry.Got l bytes)) now roomy
+    → IsRuledOn (ruling_of service (key_at texts)) going service.setup service.default_schema so.freed now so.goes → IsHeardFor l t given
+    → IsRouter service texts (with_entry log (entry.Got l bytes)) now roomy
 
 -- What is given up may be, and who is called for that goes on still.
 
 may_of : (link : LinkId) (name : Option SessionName) (heard : Tabled) (told : Option GivenUp) (given : Option GiveUp) → told_client told ≡ up_client given
-    → IfSome given (λ up. MayBeGiven link name up.client heard) → MayGiveUp link told heard
+    → IfSome given (λ up. MayBeGiven link name up heard) → MayGiveUp link told heard
 may_of link name heard None given its may = tt
 may_of link name heard (Some up) None its may = absurd (none-some up.client (sym its))
 may_of link name heard (Some up) (Some give) its may =
@@ -83,7 +86,7 @@ its_then None c heard freed still is = still ∙ is
 its_then (Some n) c heard freed still is = is
 
 for_then : (link : LinkId) (name : Option SessionName) (heard freed : Tabled) (given : Option GiveUp)
-    → ((c : ClientNo) → is_going (freed.clients c) ≡ is_going (heard.clients c)) → IfSome given (λ up. MayBeGiven link name up.client heard)
+    → ((c : ClientNo) → is_going (freed.clients c) ≡ is_going (heard.clients c)) → IfSome given (λ up. MayBeGiven link name up heard)
     → IfSome given (λ up. IsFor name up.client freed)
 for_then link name heard freed None still may = tt
 for_then link name heard freed (Some up) still may = its_then name up.client heard freed (still up.client) may.its
@@ -105,7 +108,7 @@ server_of (Some server) some = (server, refl)
 -- All of it.
 pub heard_so : Hears → StillGoes → (service : Service) (link : LinkId) (bytes : List ℕ) (old new : Router) (name : Option SessionName) (said : Said)
     (given : Option GiveUp) (read heard mid freed : Tabled) → name ≡ carried_at ((tables old).links link)
-    → IsHeard link bytes old.clock said read (tables old) → IsKeptFor said link read heard → IfSome given (λ up. MayBeGiven link name up.client heard) → HasGiven given heard mid
+    → IsHeard link bytes old.clock said read (tables old) → IsKeptFor said link read heard → IfSome given (λ up. MayBeGiven link name up heard) → HasGiven given heard mid
     → IsSame freed (freed_in link mid)
     → ((told : Option GivenUp) → told_client told ≡ up_client given → IfSome given (λ up. IsFor name up.client freed)
     → HasCalled service new.texts name told freed (tables new)) → IsSome ((tables old).links link) → reads_on old.marked link ≡ true
@@ -130,6 +133,7 @@ heard_so hears still service link bytes old new name said given read_table heard
       given = gives.told;
       going = goes_on.going;
       given_ours = gives.ours;
+      why = heard_for link name (tables old) heard gives.told given gives.is carried may;
       ours = goes_on.ours;
       so = all.so;
       ruled = all.ruled;
@@ -142,4 +146,4 @@ read_carries routes service link bytes old new keeps are heard =
     carries_by service old new keeps.roomy keeps.came keeps.texts (entry.Got link bytes) refl
     (λ log may router.
     routes service new.texts log (tables old) (tables new) (is_roomy old.roomy) link bytes old.clock heard.given heard.going router may
-    are heard.so heard.given_ours heard.ours heard.ruled)
+    are heard.so heard.given_ours heard.ours heard.ruled heard.why)

@@ -17,6 +17,7 @@ pub mod Carrying
 pub mod Coming
 pub mod Rooming
 pub mod Writings
+mod Causing
 pub mod Hears
 mod Closings
 mod LinkLosses
@@ -26,3 +27,4 @@ pub mod Acting
 pub mod Standing
 pub mod ClientCloses
 pub mod Needs
+pub mod Needed

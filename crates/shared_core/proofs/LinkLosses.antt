@@ -36,7 +36,9 @@ use Rattle.router_laws.specs.links.Loses.{Break, GoesWithIt, IsGivenUpWith, Lose
 use Rattle.router_laws.specs.wakes.Calling.{AreHomesOf}
 use Rattle.core_texts.specs.declared.texts.Texts.{Texts}
 use Rattle.core_texts.specs.Texts.{key_at}
+use Rattle.router_laws.specs.decisions.Causes.{IsLostFor}
 use Rattle.shared_core.proofs.Carrying.{carries_by}
+use Rattle.shared_core.proofs.Causing.{lost_for}
 use Rattle.shared_core.proofs.Hears.{its_then}
 use Rattle.shared_core.proofs.Tabling.{tables_are}
 use Rattle.shared_core.specs.Follows.{HasCalled, HasGiven, IsFor, Keeps, MayBeGivenWith, is_of, told_client, up_client}
@@ -52,7 +54,7 @@ Routes =
     (service : Service) (texts : Texts) (log : Log) (t now : Tabled) (roomy : ClientNo → Bool) (l : LinkId) (how : Break)
     (given : Option GivenUp) (going : Option Going) → IsRouter service texts log t roomy → MayFollow log (entry_by how l)
     → AreGivenOurs given → AreGoingOurs (rules_in service) texts going → (so : LosesSo service.setup service.default_schema l given going t now)
-    → IsRuledOn (ruling_of service (key_at texts)) going service.setup service.default_schema so.lost now so.goes
+    → IsRuledOn (ruling_of service (key_at texts)) going service.setup service.default_schema so.lost now so.goes → IsLostFor l t given
     → IsRouter service texts (with_entry log (entry_by how l)) now roomy
 
 abbrev pub EndedRoutes : Type 0
@@ -95,7 +97,7 @@ called_then (Some n) told old mid called still is = (is.0, is.1 ∙ ap (λ (b : 
 
 for_then : (link : LinkId) (name : Option SessionName) (given : Option GiveUp) (old mid : Tabled)
     → ((c : ClientNo) → is_going (mid.clients c) ≡ is_going (old.clients c))
-    → IfSome given (λ (up : GiveUp). MayBeGivenWith link name up.client old) → IfSome given (λ (up : GiveUp). IsFor name up.client mid)
+    → IfSome given (λ (up : GiveUp). MayBeGivenWith link name up old) → IfSome given (λ (up : GiveUp). IsFor name up.client mid)
 for_then link name None old mid still may = tt
 for_then link name (Some up) old mid still may = its_then name up.client old mid (still up.client) may.its
 
@@ -114,7 +116,7 @@ given_is (Some told) (Some up) c its =
     ∙ ap (λ (k : ClientNo). nat_eq k.0 c.0) (same_Some told.client up.client its)
 
 may_of : (link : LinkId) (name : Option SessionName) (t : Tabled) (told : Option GivenUp) (given : Option GiveUp) → told_client told ≡ up_client given
-    → IfSome given (λ (up : GiveUp). MayBeGivenWith link name up.client t) → MayGiveUpWith link told t
+    → IfSome given (λ (up : GiveUp). MayBeGivenWith link name up t) → MayGiveUpWith link told t
 may_of link name t None given its may = tt
 may_of link name t (Some told) None its may = absurd (none-some told.client (sym its))
 may_of link name t (Some told) (Some up) its may =
@@ -149,6 +151,7 @@ lost_so service texts link name given old lost mid new loses gave calls may =
       given = gave.told;
       going = goes_on.going;
       given_ours = gave.ours;
+      why = lost_for link name old gave.told given gave.is may.carried may.may;
       ours = goes_on.ours;
       so = record {
         server = may.server;
@@ -261,7 +264,7 @@ held_by link given ended client t is ends = subst (λ (o : Option ClientNo). End
 
 -- before it is lost
 pub may_lose : (link : LinkId) (name : Option SessionName) (given : Option GiveUp) (ended : Option ClientNo) (t : Tabled)
-    → name ≡ carried_at (t.links link) → IfSome given (λ (up : GiveUp). MayBeGivenWith link name up.client t) → ended ≡ None
+    → name ≡ carried_at (t.links link) → IfSome given (λ (up : GiveUp). MayBeGivenWith link name up t) → ended ≡ None
     → EndsWith link given ended t → is_some (t.links link) ≡ true → MayLose link name given t
 may_lose link name given ended t named may none ends there = by (t.links link) refl there where
   by : (found : Option Server) → t.links link ≡ found → is_some found ≡ true → MayLose link name given t
@@ -271,6 +274,7 @@ may_lose link name given ended t named may none ends there = by (t.links link) r
     there = at;
     named = named ∙ ap carried_at at;
     may = may;
+    carried = named;
     with_it = subst (λ (o : Option ClientNo). EndsWith link given o t) none ends;
   }
 
@@ -304,7 +308,7 @@ module _ (service : Service) (link : LinkId) (old new : Router) where
       carries_by service old new keeps.roomy keeps.came keeps.texts (entry_by how link) (none_come how link)
       (λ log may router.
       routes service new.texts log (tables old) (tables new) (is_roomy old.roomy) link how has.given has.going router may
-      has.given_ours has.ours has.so has.ruled))
+      has.given_ours has.ours has.so has.ruled has.why))
 
   pub ended_loses : EndedRoutes → (c : ClientNo) → Keeps old new → HasLostEnded link c (tables old) (tables new) → Loses service link old new
   ended_loses routes c keeps has =

@@ -27,6 +27,7 @@ use Rattle.marked_tables.specs.Goes.{GoesOn, reads_on}
 use Rattle.marked_tables.specs.declared.marked.MarkedTables.{MarkedTables}
 use Rattle.core_texts.specs.declared.texts.Texts.{Texts}
 use Rattle.core_texts.specs.Texts.{AreLess}
+use Rattle.router_laws.specs.decisions.Held.{KeepsTexts}
 use Rattle.router_laws.proofs.OfDecisions.Learning.{forgets}
 use Rattle.shared_core.proofs.Coming.{come_as}
 use Rattle.shared_core.specs.Machine.{Tells}
@@ -138,11 +139,11 @@ module _ (service : Service) (bytes : List ℕ) (old new : Router) where
 
 -- Texts that nobody needs are forgotten.
 
-pub forgets_stands : (service : Service) (log : Log) (a b : Router) → AreLess a.texts b.texts → b ≡ record a { texts = b.texts }
-    → StandsFor service log a → StandsFor service log b
-forgets_stands service log a b less same stands =
+pub forgets_stands : (service : Service) (log : Log) (a b : Router) → AreLess a.texts b.texts → KeepsTexts a.texts b.texts (tables a)
+    → b ≡ record a { texts = b.texts } → StandsFor service log a → StandsFor service log b
+forgets_stands service log a b less keeps same stands =
     subst (λ (r : Router). StandsFor service log r) (sym same) (record {
-      router = forgets service a.texts b.texts log (tables a) (is_roomy a.roomy) stands.router less;
+      router = forgets service a.texts b.texts log (tables a) (is_roomy a.roomy) stands.router less keeps;
       counted = stands.counted;
     })
 
@@ -153,11 +154,11 @@ moves_forgot a b c same moves =
 -- An event goes through, the router settles, and texts are forgotten.
 
 pub tells_along : SettlesRouters → (service : Service) (event : Event) (bytes : List ℕ) (old mid settled forgot new : Router)
-    → Tells service event bytes old mid → SettlesSo mid settled → AreLess settled.texts forgot.texts
+    → Tells service event bytes old mid → SettlesSo mid settled → AreLess settled.texts forgot.texts → KeepsTexts settled.texts forgot.texts (tables settled)
     → forgot ≡ record settled { texts = forgot.texts } → Chooses forgot new → Tells service event bytes old new
-tells_along law service event bytes old mid settled forgot new tells settles less same chosen until_ms e told log due may stands =
+tells_along law service event bytes old mid settled forgot new tells settles less keeps same chosen until_ms e told log due may stands =
     shown_stands service (with_entry log e) forgot new chosen.same
-    (forgets_stands service (with_entry log e) settled forgot less same
+    (forgets_stands service (with_entry log e) settled forgot less keeps same
     (law service mid settled settles (with_entry log e) (tells until_ms e told log due may stands)))
 
 pub moves_along : (old mid settled new : Router) → Moves old mid → Moves mid settled → Chooses settled new → Moves old new

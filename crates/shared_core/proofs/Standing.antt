@@ -39,7 +39,7 @@ use Rattle.query_rules.specs.Passing.{rules_of}
 use Rattle.query_rules.specs.declared.rules.Rules.{Rules}
 use Rattle.shared_core.proofs.Coming.{come_as, come_on}
 use Rattle.shared_core.specs.declared.came.Came.{Came}
-use Rattle.shared_core.specs.Machine.{IsDueIn, IsStanding, Tells}
+use Rattle.shared_core.specs.Machine.{IsDueIn, IsStanding, Tells, is_stopped}
 use Rattle.shared_core.specs.Says.{IsAskedFor, awaits, reads, sends, target_of}
 use Rattle.shared_core.specs.Stands.{ActsSo, Carries, Chooses, IsClosed, Moves, PartsFor, Shown, StandsBy, StandsFor}
 use Rattle.shared_core.specs.Stands.{is_roomy, parted, shown, tables, without_client, without_link}
@@ -219,7 +219,7 @@ named_keeps core m same known = record {
 
 pub named_says : (core : Core) (m : MarkedTables) → m.tables ≡ core.router.marked.tables
     → ((link : LinkId) → is_known m.changed link ≡ is_known core.router.marked.changed link)
-    → SaysSame reads sends (λ (core : Core). core.router.until) (λ (core : Core). false) core (record core { router = record core.router { marked = m } })
+    → SaysSame reads sends (λ (core : Core). core.router.until) is_stopped core (record core { router = record core.router { marked = m } })
 named_says core m same known = record {
   read = λ link i. known link i && reads_in (tables_of (same i)) link;
   written = λ link i. if known link i then sends_in (tables_of (same i)) link else None;

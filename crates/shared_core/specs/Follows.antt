@@ -8,7 +8,9 @@ use Rattle.private_model.specs.Story.{is_client}
 use Rattle.session_state.specs.declared.names.SessionName.{SessionName}
 use Rattle.client_seat.specs.Seats.{account_in}
 use Rattle.core_policy.specs.declared.verdict.GiveUp.{GiveUp}
+use Rattle.core_service.specs.Failures.{payload_of}
 use Rattle.core_service.specs.Serves.{rules_in}
+use Rattle.core_service.specs.declared.failure.Failure.{Failure}
 use Rattle.core_service.specs.declared.service.Service.{Service}
 use Rattle.core_tables.specs.Parting.{given_up, given_up_in}
 use Rattle.core_tables.specs.Tables.{IsSame, Tabled}
@@ -28,6 +30,7 @@ use Rattle.router_laws.specs.reading.Givings.{MayBeGivenUp}
 use Rattle.router_laws.specs.links.Loses.{IsGivenUpWith}
 use Rattle.router_laws.specs.wakes.Calling.{AllGoOn, Caller, CallerGoesOn, CallsSo}
 use Rattle.router_laws.specs.wakes.Deciding.{IsCallerOurs}
+use Rattle.shared_core.specs.Causes.{given_with, is_heard, is_lost}
 use Rattle.shared_core.specs.declared.router.Router.{Router}
 
 -- What stays as it was, but for tables, marks, and what is chosen by; the links that aren't marked say no more than before, and texts are kept.
@@ -130,11 +133,10 @@ pub record HaveGone (service : Service) (texts : Texts) (clients : List ClientNo
   pub going : AllGoOn callers service.setup service.default_schema old new
   pub ruled : AreRuledAll (ruling_of service (key_at texts)) callers service.setup service.default_schema old new going
 
--- The router answered a client's statement itself.
-pub record HasAnswered (c : ClientNo) (old new : Tabled) : Type 0 where
-  pub payload : List ℕ
-  pub own : IsFailure payload
-  pub same : IsSame new (given_up c payload old)
+-- The router answered a client's statement itself, by this failure.
+pub record HasAnswered (c : ClientNo) (why : Failure) (old new : Tabled) : Type 0 where
+  pub own : IsFailure (payload_of why)
+  pub same : IsSame new (given_up c (payload_of why) old)
 
 abbrev pub up_client : Option GiveUp → Option ClientNo
 up_client given = option_map (λ (up : GiveUp). up.client) given
@@ -147,6 +149,7 @@ pub record HasGiven (given : Option GiveUp) (old new : Tabled) : Type 0 where
   pub told : Option GivenUp
   pub ours : AreGivenOurs told
   pub its : told_client told ≡ up_client given
+  pub is : told ≡ option_map given_with given
   pub same : IsSame new (given_up_in (told_to told) old)
 
 -- Who is called by a link that carries this session, where that client's statement is given up: its own client; or else one that goes on.
@@ -156,13 +159,15 @@ IsFor None c t = is_going (t.clients c) ≡ true
 
 -- What may be given up as bytes come on a link, and as a link is lost.
 
-pub record MayBeGiven (link : LinkId) (name : Option SessionName) (c : ClientNo) (t : Tabled) : Type 0 where
-  pub its : IsFor name c t
-  pub may : MayBeGivenUp link c t
+pub record MayBeGiven (link : LinkId) (name : Option SessionName) (up : GiveUp) (t : Tabled) : Type 0 where
+  pub its : IsFor name up.client t
+  pub may : MayBeGivenUp link up.client t
+  pub why : is_heard (is_some name) up.why ≡ true
 
-pub record MayBeGivenWith (link : LinkId) (name : Option SessionName) (c : ClientNo) (t : Tabled) : Type 0 where
-  pub its : IsFor name c t
-  pub may : IsGivenUpWith link c t
+pub record MayBeGivenWith (link : LinkId) (name : Option SessionName) (up : GiveUp) (t : Tabled) : Type 0 where
+  pub its : IsFor name up.client t
+  pub may : IsGivenUpWith link up.client t
+  pub why : is_lost (is_some name) up.why ≡ true
 
 -- Whoever was called went on.
 

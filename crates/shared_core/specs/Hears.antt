@@ -6,6 +6,7 @@ use Rattle.core_service.specs.declared.service.Service.{Service}
 use Rattle.core_laws.specs.clients.Going.{GivenUp, Going}
 use Rattle.core_promises.specs.Ruled.{ruling_of}
 use Rattle.core_texts.specs.Texts.{key_at}
+use Rattle.router_laws.specs.decisions.Causes.{IsHeardFor}
 use Rattle.router_laws.specs.decisions.Rulings.{IsRuledOn}
 use Rattle.router_laws.specs.decisions.Speaks.{AreGivenOurs, AreGoingOurs}
 use Rattle.router_laws.specs.reading.Hears.{HearsSo}
@@ -17,6 +18,7 @@ pub record HasHeard (service : Service) (link : LinkId) (bytes : List ℕ) (old 
   pub given : Option GivenUp
   pub going : Option Going
   pub given_ours : AreGivenOurs given
+  pub why : IsHeardFor link (tables old) given
   pub ours : AreGoingOurs (rules_in service) new.texts going
   pub so : HearsSo service.setup service.default_schema link bytes old.clock given going (tables old) (tables new)
   pub ruled : IsRuledOn (ruling_of service (key_at new.texts)) going service.setup service.default_schema so.freed (tables new) so.goes

@@ -1,11 +1,13 @@
 pub mod Says
 pub mod Rows
+pub mod Needed
 pub mod Follows
 pub mod Hears
 pub mod Losses
 pub mod Clients
 pub mod Telling
 pub mod Came
+pub mod Causes
 pub mod Stands
 pub mod Machine
 pub mod Links

@@ -19,6 +19,8 @@ use Rattle.router_laws.specs.links.Loses.{GoesWithIt, LosesEnded, LosesSo}
 use Rattle.core_promises.specs.Ruled.{ruling_of}
 use Rattle.core_texts.specs.Texts.{key_at}
 use Rattle.core_texts.specs.declared.texts.Texts.{Texts}
+use Rattle.marked_tables.specs.Marking.{carried_at}
+use Rattle.router_laws.specs.decisions.Causes.{IsLostFor}
 use Rattle.router_laws.specs.decisions.Rulings.{IsRuledOn}
 use Rattle.router_laws.specs.decisions.Speaks.{AreGivenOurs, AreGoingOurs}
 use Rattle.shared_core.specs.Follows.{MayBeGivenWith}
@@ -48,7 +50,8 @@ pub record MayLose (link : LinkId) (name : Option SessionName) (given : Option G
   pub server : Server
   pub there : t.links link ≡ Some server
   pub named : name ≡ name_in server.row.link.state.carries
-  pub may : IfSome given (λ (up : GiveUp). MayBeGivenWith link name up.client t)
+  pub may : IfSome given (λ (up : GiveUp). MayBeGivenWith link name up t)
+  pub carried : name ≡ carried_at (t.links link)
   pub with_it : GoesWithIt link (is_given given) t
 
 -- A statement was given up, if one was, and a client went on, if one was called.
@@ -56,6 +59,7 @@ pub record HasLost (service : Service) (texts : Texts) (link : LinkId) (old new 
   pub given : Option GivenUp
   pub going : Option Going
   pub given_ours : AreGivenOurs given
+  pub why : IsLostFor link old given
   pub ours : AreGoingOurs (rules_in service) texts going
   pub so : LosesSo service.setup service.default_schema link given going old new
   pub ruled : IsRuledOn (ruling_of service (key_at texts)) going service.setup service.default_schema so.lost new so.goes

@@ -1,5 +1,5 @@
 -- The core as a machine: how it stands for a log, and what its router is told.
-use Rattle.std.specs.Prelude.{◌≡◌, ℕ, false, true, List, None, Option, IsSome}
+use Rattle.std.specs.Prelude.{◌≡◌, ◌&&◌, ℕ, Bool, false, true, List, None, Option, IsSome}
 use Rattle.std.specs.Option.{option_map}
 use Rattle.mx_wire.specs.Log.{Log}
 use Rattle.mx_wire.specs.declared.entry.Entry.{Entry}
@@ -18,6 +18,10 @@ use Rattle.shared_core.specs.declared.router.Router.{Router}
 -- what it serves by, but for rules that were loaded
 abbrev pub unloaded : Core → Service
 unloaded core = record core.service { loaded = None }
+
+-- it has shut down, as an administrator wanted
+abbrev pub is_stopped : Core → Bool
+is_stopped core = core.router.stopped && core.router.came.administrator
 
 -- only what administrators work on is another
 abbrev pub IsRuledAnew : (old new : Router) → Type 0

@@ -1,5 +1,5 @@
 -- What is made of the tables at a wake, and where a link can't be opened.
-use Rattle.std.specs.Prelude.{◌≡◌, ℕ, true, All, if◌then◌else◌, List, [], ◌∷◌, ◌++◌}
+use Rattle.std.specs.Prelude.{◌≡◌, ℕ, Bool, true, All, if◌then◌else◌, List, [], ◌∷◌, ◌++◌}
 use Rattle.mx_base.specs.declared.names.ClientNo.{ClientNo}
 use Rattle.mx_base.specs.declared.names.LinkId.{LinkId}
 use Rattle.core_service.specs.Serves.{rules_in}
@@ -10,6 +10,7 @@ use Rattle.router_laws.specs.wakes.Calling.{Caller, GivesUpAll, IsThere, IsUnsen
 use Rattle.core_promises.specs.Ruled.{ruling_of}
 use Rattle.core_texts.specs.Texts.{key_at}
 use Rattle.core_texts.specs.declared.texts.Texts.{Texts}
+use Rattle.router_laws.specs.decisions.Causes.{AreLate, AreRefused}
 use Rattle.router_laws.specs.decisions.Rulings.{AreRuledAll}
 use Rattle.router_laws.specs.decisions.Speaks.{IsGivenOurs}
 use Rattle.router_laws.specs.wakes.Deciding.{IsCallerOurs}
@@ -23,10 +24,11 @@ pub record IsWaiting (c : ClientNo) (t : Tabled) : Type 0 where
   pub going : is_going (t.clients c) ≡ true
   pub unsent : IsUnsent c t
 
--- Statements were given up, and their clients called, which go on; and whoever was called before still is.
-pub record HaveGivenUp (before called : Roomy) (old new : Tabled) : Type 0 where
+-- Statements were given up that waited too long, and their clients called, which go on; and whoever was called before still is.
+pub record HaveGivenUp (wait_ms now_ms : ℕ) (came : Bool) (before called : Roomy) (old new : Tabled) : Type 0 where
   pub given : List GivenUp
   pub ours : All IsGivenOurs given
+  pub late : AreLate wait_ms now_ms came given
   pub gives : GivesUpAll given old new
   pub calls : (c : ClientNo) → is_given given c ≡ true → is_roomy called c ≡ true
   pub going : (c : ClientNo) → is_given given c ≡ true → is_going (new.clients c) ≡ true
@@ -48,11 +50,12 @@ pub record AreCalled (called : Roomy) (clients : List ClientNo) (t : Tabled) : T
   pub all : (c : ClientNo) → is_roomy called c ≡ true → is_going (t.clients c) ≡ true → is_of clients c ≡ true
 
 -- Some were given up, and those clients and all that have room again went on.
-pub record HasWoken (service : Service) (texts : Texts) (roomy : Roomy) (old new : Tabled) : Type 0 where
+pub record HasWoken (service : Service) (texts : Texts) (now_ms : ℕ) (came : Bool) (roomy : Roomy) (old new : Tabled) : Type 0 where
   pub given : List GivenUp
   pub callers : List Caller
   pub links : List LinkId
   pub given_ours : All IsGivenOurs given
+  pub late : AreLate service.wait_ms now_ms came given
   pub ours : All (IsCallerOurs (rules_in service) texts) callers
   pub so : WakesSo service.setup service.default_schema given callers links (is_roomy roomy) old new
   pub ruled : AreRuledAll (ruling_of service (key_at texts)) callers service.setup service.default_schema so.late so.calls.turned so.calls.going
@@ -63,6 +66,7 @@ pub record HasFailed (service : Service) (texts : Texts) (old new : Tabled) : Ty
   pub callers : List Caller
   pub links : List LinkId
   pub given_ours : All IsGivenOurs given
+  pub refused : AreRefused given
   pub ours : All (IsCallerOurs (rules_in service) texts) callers
   pub so : FailsSo service.setup service.default_schema given callers links old new
   pub ruled : AreRuledAll (ruling_of service (key_at texts)) callers service.setup service.default_schema so.late so.calls.turned so.calls.going

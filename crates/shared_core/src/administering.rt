@@ -17,12 +17,15 @@ pub(crate) fn admin_of(alloc: Global, config: &Config) -> Result<Administrator, 
 
 impl Router {
     /// A client took its turns: a statement that became due is counted, a login that was refused is noted, and what an administrator put in
-    /// force is followed.
+    /// force is followed, or that the router is to shut down.
     pub(crate) fn took(&mut self, client: ClientNo, went: &Option<Went>) -> Result<(), OutOfMemory>
         ensures { OnOk result (Chooses self.old self.new) }
     {
         match went {
-            Some(Went { due: Some(_), .. }) => self.policy.board.counts.states(),
+            Some(Went { due: Some(_), .. }) => {
+                self.policy
+                    .states(&self.marked.tables, &self.texts, client)?;
+            }
             Some(
                 Went {
                     stop: Stop::Ends,
@@ -36,6 +39,10 @@ impl Router {
         }
         if let Some(rows) = self.admin.rules.take() {
             self.policy.board.rules = rows;
+        }
+        if self.admin.shuts {
+            self.admin.shuts = false;
+            self.policy.shuts_down(&self.marked.tables, client);
         }
         Ok(())
     }

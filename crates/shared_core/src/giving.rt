@@ -4,7 +4,9 @@ ghost use Rattle.core_laws.specs.clients.Going.{GivenUp};
 ghost use Rattle.router_laws.specs.links.Loses.{IsGivenUpWith};
 ghost use Rattle.router_laws.specs.reading.Givings.{MayBeGivenUp};
 ghost use Rattle.shared_core.specs.Follows.{HasAnswered, HasCalled, HasGiven, IsFor, Keeps, MayBeGiven, MayBeGivenWith, called_by, told_client, up_client};
+ghost use Rattle.shared_core.specs.Causes.{is_heard, is_late, is_lost, is_refused};
 ghost use Rattle.shared_core.specs.Stands.{tables};
+ghost use Rattle.shared_core.specs.Wakes.{IsWaiting};
 
 use crate::router::Router;
 use crate::rows::{is_aside, is_aside_with, is_lent_no_other};
@@ -20,10 +22,57 @@ fn is_last(ends: Option<ClientNo>, client: ClientNo) -> bool {
     }
 }
 
+// Whether a statement may be given up for it as bytes come on a link, which carries a session of its client, or doesn't.
+fn is_heard(carried: bool, why: Failure) -> bool
+    ensures { result ≡ is_heard carried why }
+{
+    match why {
+        Failure::StepRefused { .. } | Failure::Refused => true,
+        Failure::BadBytes { .. } => carried,
+        _ => false,
+    }
+}
+
+// And as the link is lost.
+fn is_lost(carried: bool, why: Failure) -> bool
+    ensures { result ≡ is_lost carried why }
+{
+    match why {
+        Failure::LinkLost => carried,
+        Failure::Refused => true,
+        _ => false,
+    }
+}
+
+// And at a wake, where an administrator came, or none did.
+fn is_late(wait_ms: u64, now_ms: u64, came: bool, why: Failure) -> bool
+    ensures { result ≡ is_late wait_ms now_ms came why }
+{
+    match why {
+        Failure::NoConnection {
+            since_ms,
+            now_ms: told_ms,
+        } => told_ms == now_ms && since_ms <= now_ms && wait_ms <= now_ms - since_ms,
+        Failure::BadBytes { place } => place == 0,
+        Failure::ShuttingDown => came,
+        _ => false,
+    }
+}
+
+// And where a link couldn't be opened.
+fn is_refused(why: Failure) -> bool
+    ensures { result ≡ is_refused why }
+{
+    match why {
+        Failure::Refused => true,
+        _ => false,
+    }
+}
+
 impl Router {
     /// A client's statement in work is given up: the router answers it itself.
     pub(crate) fn gives_up(&mut self, client: ClientNo, why: Failure) -> Result<(), OutOfMemory>
-        ensures answers { OnOk result (HasAnswered client (tables self.old) (tables self.new)) }
+        ensures answers { OnOk result (HasAnswered client why (tables self.old) (tables self.new)) }
         ensures keeps { OnOk result (Keeps self.old self.new) }
     {
         let payload = payload_of(self.alloc, why)?;
@@ -86,10 +135,13 @@ impl Router {
         name: Option<SessionName>,
         given: Option<GiveUp>,
     ) -> Option<GiveUp>
-        ensures { IfSome result (λ up. MayBeGiven link name up.client (tables self.now)) }
+        ensures { IfSome result (λ up. MayBeGiven link name up (tables self.now)) }
     {
         let up = given?;
         if !self.is_for(name, up.client) {
+            return None;
+        }
+        if !is_heard(name.is_some(), up.why) {
             return None;
         }
         if self.is_aside(link, up.client) {
@@ -106,10 +158,13 @@ impl Router {
         name: Option<SessionName>,
         given: Option<GiveUp>,
     ) -> Option<GiveUp>
-        ensures { IfSome result (λ up. MayBeGivenWith link name up.client (tables self.now)) }
+        ensures { IfSome result (λ up. MayBeGivenWith link name up (tables self.now)) }
     {
         let up = given?;
         if !self.is_for(name, up.client) {
+            return None;
+        }
+        if !is_lost(name.is_some(), up.why) {
             return None;
         }
         if self.is_aside_with(link, up.client) {
@@ -136,6 +191,22 @@ impl Router {
                 None => None,
             },
         }
+    }
+
+    /// What may be given up at a wake.
+    pub(crate) fn may_be_late(&self, wait_ms: u64, now_ms: u64, came: bool, up: GiveUp) -> bool
+        ensures late { result ≡ true → is_late wait_ms now_ms came up.why ≡ true }
+        ensures waits { result ≡ true → IsWaiting up.client (tables self.now) }
+    {
+        is_late(wait_ms, now_ms, came, up.why) && self.is_waiting(up.client)
+    }
+
+    /// And where a link couldn't be opened.
+    pub(crate) fn may_be_refused(&self, up: GiveUp) -> bool
+        ensures refused { result ≡ true → is_refused up.why ≡ true }
+        ensures waits { result ≡ true → IsWaiting up.client (tables self.now) }
+    {
+        is_refused(up.why) && self.is_waiting(up.client)
     }
 
     /// Whoever an entry of a link to a server calls goes on.

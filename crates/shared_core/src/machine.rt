@@ -4,7 +4,7 @@ ghost use Rattle.core_service.specs.declared.service.Service.{Service};
 ghost use Rattle.marked_tables.specs.Goes.{GoesOn, reads_on};
 ghost use Rattle.mx_wire.specs.declared.entry.Entry.TheVariants as entry;
 ghost use Rattle.mx_wire.specs.Log.{Log};
-ghost use Rattle.shared_core.specs.Machine.{IsRuledAnew, IsStanding, Tells, unloaded};
+ghost use Rattle.shared_core.specs.Machine.{IsRuledAnew, IsStanding, Tells, is_stopped, unloaded};
 ghost use Rattle.shared_core.specs.Says.{IsAskedFor, address_of, awaits, changed, most_of, reads, sends, unnamed};
 ghost use Rattle.shared_core.specs.Stands.{ActsSo, Carries, IsClosed, Moves, shown};
 
@@ -118,7 +118,7 @@ impl Machine for Core {
 
     ghost awaits = { awaits };
 
-    ghost is_stopped = { λ core. false };
+    ghost is_stopped = { is_stopped };
 
     ghost changed = { changed };
 
@@ -168,7 +168,7 @@ impl Machine for Core {
     }
 
     fn stopped(&self) -> bool {
-        false
+        self.router.stopped && self.router.came.administrator
     }
 
     fn address(&self, port: Port) -> Address {

@@ -1,15 +1,22 @@
 // Texts that were prepared, and who needs them.
-ghost use Rattle.std.specs.Prelude.{◌≡◌, IfOk, IsTrue, OnOk, Some, true};
+ghost use Rattle.std.specs.Prelude.{◌≡◌, ◌||◌, ℕ, IfOk, IsTrue, OnOk, Some, nat_eq, true};
+ghost use Rattle.std.specs.HashSet.{contains};
 ghost use Rattle.std.specs.Option.{option_and_then, option_copied};
+ghost use Rattle.mx_base.specs.declared.names.ClientNo.{ClientNo};
 ghost use Rattle.session_vars.specs.Settings.{AreSettings, is_text, value_at};
 ghost use Rattle.client_desk.specs.declared.work.Work.{Work};
 ghost use Rattle.core_tables.specs.Tables.{tables_of};
+ghost use Rattle.core_tables.specs.declared.client.Client.{Client};
 ghost use Rattle.core_tables.specs.declared.server.Server.{Server};
 ghost use Rattle.core_texts.specs.Texts.{AreLess, key_at};
+ghost use Rattle.router_laws.specs.decisions.Held.{KeepsTexts};
+ghost use Rattle.shared_core.specs.Needed.{have_prepared, needs, works_on};
 ghost use Rattle.shared_core.specs.Rows.{IsToldPlace, work_at};
+ghost use Rattle.shared_core.specs.Stands.{tables};
 
 use crate::router::Router;
 use crate::rows::{row_of, server_of, work_of};
+use client_desk::Work;
 use core_tables::{Client, Server, Tables};
 use core_texts::{Kept, Texts};
 use link_state::Wish;
@@ -18,6 +25,7 @@ use session_state::{Place, SessionName};
 use session_vars::{Settings, Slot};
 use std::alloc::Global;
 use std::collections::HashSet;
+use stmt_map::ClientStatements;
 
 /// What is kept of the text of a client's execute in work.
 pub(crate) fn text_of_work<'a>(
@@ -94,18 +102,39 @@ pub(crate) fn wants_prepared(
     }
 }
 
-// The texts that a client needs: of what it has prepared, and of its statement in work.
-fn add_needed(row: &Client, needed: &mut HashSet<u64>) -> Result<(), OutOfMemory> {
-    if let Some(work) = &row.desk.work {
+fn add_work(work: &Option<Work>, needed: &mut HashSet<u64>) -> Result<(), OutOfMemory>
+    ensures { OnOk result ((number : ℕ) → contains nat_eq needed.new number ≡ (contains nat_eq needed.old number || works_on work.now number)) }
+{
+    if let Some(work) = work {
         needed.insert(work.key)?;
     }
-    for statement in row.desk.seat.statements.statements.values() {
+    Ok(())
+}
+
+fn add_statements(
+    statements: &ClientStatements,
+    needed: &mut HashSet<u64>,
+) -> Result<(), OutOfMemory>
+    ensures { OnOk result ((number : ℕ) → contains nat_eq needed.new number ≡ (contains nat_eq needed.old number || have_prepared statements.now number)) }
+{
+    for statement in statements.statements.values() {
         needed.insert(statement.prepared.key)?;
     }
     Ok(())
 }
 
-fn add_clients(tables: &Tables, needed: &mut HashSet<u64>) -> Result<(), OutOfMemory> {
+// The texts that a client needs: of its statement in work, and of what it has prepared.
+fn add_needed(row: &Client, needed: &mut HashSet<u64>) -> Result<(), OutOfMemory>
+    ensures { OnOk result ((number : ℕ) → contains nat_eq needed.new number ≡ (contains nat_eq needed.old number || needs row.now number)) }
+{
+    add_work(&row.desk.work, needed)?;
+    add_statements(&row.desk.seat.statements, needed)
+}
+
+fn add_clients(tables: &Tables, needed: &mut HashSet<u64>) -> Result<(), OutOfMemory>
+    ensures { OnOk result ((client : ClientNo) (row : Client) (number : ℕ) → (tables_of tables.now).clients client ≡ Some row → needs row number ≡ true
+        → contains nat_eq needed.new number ≡ true) }
+{
     for row in tables.clients.values() {
         add_needed(row, needed)?;
     }
@@ -113,7 +142,9 @@ fn add_clients(tables: &Tables, needed: &mut HashSet<u64>) -> Result<(), OutOfMe
 }
 
 // Those that are prepared on links.
-fn add_links(tables: &Tables, needed: &mut HashSet<u64>) -> Result<(), OutOfMemory> {
+fn add_links(tables: &Tables, needed: &mut HashSet<u64>) -> Result<(), OutOfMemory>
+    ensures { OnOk result ((number : ℕ) → contains nat_eq needed.old number ≡ true → contains nat_eq needed.new number ≡ true) }
+{
     for server in tables.links.values() {
         server.row.link.state.live.add_keys(needed)?;
     }
@@ -121,9 +152,11 @@ fn add_links(tables: &Tables, needed: &mut HashSet<u64>) -> Result<(), OutOfMemo
 }
 
 impl Router {
-    /// Texts that nobody needs are forgotten, once there are many.
+    /// Texts that nobody needs are forgotten, once there are many: none of a client's statement in work, or of what it prepared.
+    #[tactic(auto, using(crate::proofs::Needed::keeps_itself))]
     pub(crate) fn forgets_texts(&mut self) -> Result<(), OutOfMemory>
         ensures less { OnOk result (AreLess self.old.texts self.new.texts) }
+        ensures kept { OnOk result (KeepsTexts self.old.texts self.new.texts (tables self.old)) }
         ensures same { OnOk result (self.new ≡ record self.old { texts = self.new.texts }) }
     {
         if !self.texts.is_crowded() {

@@ -83,7 +83,7 @@ impl Router {
         ensures fails { OnOk result (HasFailed service.now self.new.texts (tables self.old) (tables self.new)) }
         ensures keeps { OnOk result (Keeps self.old self.new) }
     {
-        if self.is_waiting(up.client) {
+        if self.may_be_refused(up) {
             self.gives_up(up.client, up.why)?;
             let nobody = BTreeSet::new(self.alloc);
             self.follow_all(service, &[up.client], &nobody)?;

@@ -1,5 +1,5 @@
 // The router.
-ghost use Rattle.std.specs.Prelude.{◌≡◌, [], IfOk, None};
+ghost use Rattle.std.specs.Prelude.{◌≡◌, [], IfOk, None, false};
 ghost use Rattle.core_service.specs.declared.service.Service.{Service};
 ghost use Rattle.marked_tables.specs.Goes.{AreKnown};
 ghost use Rattle.mx_config.specs.Lawful.{IsLawful};
@@ -24,7 +24,7 @@ const MOST_LINKS: u32 = 14_018;
 /// What changes of the core: clients and links, with marks of the links that the loop has to look at; the texts that clients prepared; what is chosen by; what administrators
 /// staged; how many clients came;
 /// who has room again; the open that was asked for last; the client, or the link to a server, whose close was; whether there may be something
-/// to ask for; the moment at which there is something to do, and that of the last wake, in milliseconds.
+/// to ask for; the moment at which there is something to do, and that of the last wake, in milliseconds; and whether it has shut down.
 #[derive(Drop)]
 pub struct Router {
     pub alloc: Global,
@@ -40,6 +40,7 @@ pub struct Router {
     pub acting: bool,
     pub until: u64,
     pub clock: u64,
+    pub stopped: bool,
 }
 
 impl Router {
@@ -50,6 +51,7 @@ impl Router {
         ensures closed { IfOk result (λ router. IsClosed (shown router)) }
         ensures unasked { IfOk result (λ router. router.asked ≡ None) }
         ensures known { IfOk result (λ router. AreKnown router.marked) }
+        ensures going { IfOk result (λ router. router.stopped ≡ false) }
     {
         router_laws::decisions::first_router();
         Ok(Router {
@@ -69,6 +71,7 @@ impl Router {
             acting: true,
             until: 0,
             clock: 0,
+            stopped: false,
         })
     }
 
@@ -79,7 +82,7 @@ impl Router {
         self.acting = true;
     }
 
-    /// The moment is known at which it wants to be woken. Takes no memory.
+    /// The moment is known at which it wants to be woken, and whether it has shut down. Takes no memory.
     pub(crate) fn times(&mut self, service: &Service)
         ensures chooses { Chooses self.old self.new }
         ensures acting { self.new.acting ≡ self.old.acting }
@@ -89,6 +92,7 @@ impl Router {
         } else {
             self.clock
         };
+        self.stopped = self.policy.is_over(&self.marked.tables);
     }
 
     /// The policy is told that something changed of a client. Takes no memory.

@@ -40,44 +40,60 @@ impl Router {
         let late = self.policy.woke(&self.marked.tables, service, now_ms)?;
         let ending = self.policy.ending(now_ms)?;
         let roomy = std::mem::replace(&mut self.roomy, Roomy::new(self.alloc));
-        self.wakes(service, late.as_slice(), &ending, roomy)
+        self.wakes(service, now_ms, late.as_slice(), &ending, roomy)
     }
 
     // Those have room again; who is called beside them goes on too.
     fn wakes(
         &mut self,
         service: &Service,
+        now_ms: u64,
         late: &[GiveUp],
         ending: &BTreeSet<u64>,
         roomy: Roomy,
     ) -> Result<(), OutOfMemory>
-        ensures wakes { OnOk result (HasWoken service.now self.new.texts roomy (tables self.old) (tables self.new)) }
+        ensures wakes { OnOk result (HasWoken service.now self.new.texts now_ms self.old.came.administrator roomy (tables self.old) (tables self.new)) }
         ensures keeps { OnOk result (Keeps self.old self.new) }
     {
         let mut called = roomy;
         call_all(ending, &mut called);
-        self.gives_late(late, &mut called)?;
+        let came = self.came.administrator;
+        self.gives_late(service.wait_ms, now_ms, came, late, &mut called)?;
         let clients = self.called_of(&called)?;
         self.follow_all(service, clients.as_slice(), ending)?;
         Ok(())
     }
 
-    // Those of these statements are given up that weren't sent, and their clients are called.
-    fn gives_late(&mut self, late: &[GiveUp], called: &mut Roomy) -> Result<(), OutOfMemory>
-        ensures gives { OnOk result (HaveGivenUp called.old called.new (tables self.old) (tables self.new)) }
+    // Those of these statements are given up that weren't sent and waited long enough, and their clients are called.
+    fn gives_late(
+        &mut self,
+        wait_ms: u64,
+        now_ms: u64,
+        came: bool,
+        late: &[GiveUp],
+        called: &mut Roomy,
+    ) -> Result<(), OutOfMemory>
+        ensures gives { OnOk result (HaveGivenUp wait_ms now_ms came called.old called.new (tables self.old) (tables self.new)) }
         ensures keeps { OnOk result (Keeps self.old self.new) }
     {
         for up in late {
-            self.gives_one(*up, called)?;
+            self.gives_one(wait_ms, now_ms, came, *up, called)?;
         }
         Ok(())
     }
 
-    fn gives_one(&mut self, up: GiveUp, called: &mut Roomy) -> Result<(), OutOfMemory>
-        ensures gives { OnOk result (HaveGivenUp called.old called.new (tables self.old) (tables self.new)) }
+    fn gives_one(
+        &mut self,
+        wait_ms: u64,
+        now_ms: u64,
+        came: bool,
+        up: GiveUp,
+        called: &mut Roomy,
+    ) -> Result<(), OutOfMemory>
+        ensures gives { OnOk result (HaveGivenUp wait_ms now_ms came called.old called.new (tables self.old) (tables self.new)) }
         ensures keeps { OnOk result (Keeps self.old self.new) }
     {
-        if self.is_waiting(up.client) {
+        if self.may_be_late(wait_ms, now_ms, came, up) {
             self.gives_up(up.client, up.why)?;
             called.add(up.client);
             Ok(())

@@ -1,8 +1,8 @@
 // The core.
-ghost use Rattle.std.specs.Prelude.{[], IfOk};
+ghost use Rattle.std.specs.Prelude.{◌≡◌, [], IfOk, false};
 ghost use Rattle.core_service.specs.Serves.{ServesBy};
 ghost use Rattle.mx_config.specs.Lawful.{IsLawful};
-ghost use Rattle.shared_core.specs.Machine.{IsStanding, unloaded};
+ghost use Rattle.shared_core.specs.Machine.{IsStanding, is_stopped, unloaded};
 
 use crate::router::Router;
 use core_service::Service;
@@ -23,6 +23,7 @@ impl Core {
         requires { IsLawful config.now }
         ensures stands { IfOk result (λ core. IsStanding core []) }
         ensures serves { IfOk result (λ core. ServesBy config.now (unloaded core)) }
+        ensures going { IfOk result (λ core. is_stopped core ≡ false) }
     {
         Ok(Core {
             service: Service::new(alloc, config)?,

@@ -107,6 +107,7 @@ module _ (in_work : InWork) (g : Ground) (t now : Tabled) (read : AreRead t now)
 
 pub record IsTold (g : Ground) (by : Aside) (t now : Tabled) (f : tales.Client → tales.Client) : Type 0 where
   pub clients : by.clients ≡ map f g.tale.clients
+  pub moment : by.moment ≡ g.tale.moment
   pub number : (x : tales.Client) → (f x).number ≡ x.number
   pub link : (x : tales.Client) → (f x).link ≡ x.link
   pub taken : (x : tales.Client) → (f x).taken ≡ x.taken
@@ -183,7 +184,7 @@ stands-told g by t f told service was each = record {
   servers = λ l. servers-so by g t (go-on g by t t f told) told.ends l (t.links l) (was.servers l);
   homes = record { carried = was.homes.carried; home = was.homes.home };
   lawful = was.lawful;
-  prepared = told_prepared g (regrounded by g).tale by.over by.fresh t t f told.clients told.number told.taken told.more was.clients was.prepared
+  prepared = told_prepared g (regrounded by g).tale by.over by.fresh t t f told.clients told.number told.taken told.more told.moment was.clients was.prepared
       (rows_same t t (λ c. refl));
   duly = was.duly;
 }
@@ -195,6 +196,7 @@ reseat seat row = record row { desk = record row.desk { seat = seat } }
 
 pub record IsChange (g : Ground) (by : Aside) (t now : Tabled) (c : ClientNo) (f : tales.Client → tales.Client) (row : Client) (seat : Seat) : Type 0 where
   pub clients : by.clients ≡ map f g.tale.clients
+  pub moment : by.moment ≡ g.tale.moment
   pub number : (x : tales.Client) → (f x).number ≡ x.number
   pub link : (x : tales.Client) → (f x).link ≡ x.link
   pub taken : (x : tales.Client) → (f x).taken ≡ x.taken
@@ -225,6 +227,7 @@ module _ (g : Ground) (by : Aside) (t now : Tabled) (c : ClientNo) (f : tales.Cl
   told-so : IsTold g by t now f
   told-so = record {
     clients = change.clients;
+    moment = change.moment;
     number = change.number;
     link = change.link;
     taken = change.taken;
@@ -304,7 +307,7 @@ module _ (g : Ground) (by : Aside) (t now : Tabled) (c : ClientNo) (f : tales.Cl
         (servers-read in_work g t now (λ n. read-by same n (is_client c n) refl) stay l (t.links l) (was.servers l)));
     homes = are-homes was.homes;
     lawful = was.lawful;
-    prepared = told_prepared g after.tale by.over by.fresh t now f change.clients change.number change.taken change.more was.clients was.prepared
+    prepared = told_prepared g after.tale by.over by.fresh t now f change.clients change.number change.taken change.more change.moment was.clients was.prepared
         (λ n r there going. row-before keeps n r there going (is_client c n) refl);
     duly = was.duly;
   }

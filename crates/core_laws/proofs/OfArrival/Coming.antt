@@ -1,5 +1,5 @@
 -- A client comes.
-use Rattle.std.specs.Prelude.{◌≡◌, ◌⊎◌, ◌<◌, ◌+◌, ℕ, suc, Bool, true, false, All, cond, is_some, length, map, slice_index_or, if◌then◌else◌, List, [], ◌∷◌, ◌++◌, Option, Some, None, filter}
+use Rattle.std.specs.Prelude.{◌≡◌, ◌⊎◌, ◌<◌, ◌≤◌, ◌+◌, ℕ, suc, Bool, true, false, All, cond, is_some, length, map, slice_index_or, if◌then◌else◌, List, [], ◌∷◌, ◌++◌, Option, Some, None, filter}
 use Rattle.std.specs.Option.{option_map}
 use Rattle.std.proofs.Common.{◌∙◌, refl, sym, ap, subst, arith, inl, inr, length-append, append-nil}
 use Rattle.std.proofs.Math.Seq.{get_or-append_seam}
@@ -42,7 +42,7 @@ use Rattle.core_laws.proofs.OfArrival.Grounding.{Aside, GoOn, regrounded, server
 use Rattle.core_laws.proofs.OfArrival.Liking.{IsAsBefore, client-before}
 use Rattle.client_seat.specs.Numbers.{number_in}
 use Rattle.client_seat.specs.Seats.{is_ended}
-use Rattle.core_laws.proofs.OfPrepared.Rows.{prepared_by_row, row_itself}
+use Rattle.core_laws.proofs.OfPrepared.Rows.{OwnsStay, prepared_by_row, row_itself}
 
 -- Numbers go up to how many there are.
 
@@ -245,6 +245,7 @@ module _ (counts : CountsOn) (seats : AreSeated) (in_work : InWork) (stay : Rows
     kept = λ answered number greater. refl;
     known = knows_none (view_on after) after.plan new row.desk.seat.statements;
     stands = λ answered. knows_none (view_on after) after.plan new row.desk.seat.statements;
+    unserved = λ k some below own. let none : k ≤ 0 = below in absurd (omega (arith, some, none));
   }
 
   sat-before : (x : tales.Client) → is_client c x.number ≡ false → IsSeated after.tale x → IsSeated g.tale x
@@ -253,11 +254,20 @@ module _ (counts : CountsOn) (seats : AreSeated) (in_work : InWork) (stay : Rows
       ∙ (λ i. filter (λ (y : tales.Client). is_client y.number x.number) g.tale.clients ++ cond (sym apart i) (new ∷ []) [])
       ∙ sym (filter-append (λ (y : tales.Client). is_client y.number x.number) g.tale.clients (new ∷ [])) ∙ seated
 
+  -- nor is anything else answered
+
+  owns-so : OwnsStay g after.tale
+  owns-so = record {
+    each = λ client seated k below own.
+        let still = of-known (λ (x : tales.Client). IsCounted g None x) g client.number client (record { seated = seated; number = refl }) comes.still in
+        inl (ap is_some (sym (still.own k below refl)) ∙ own);
+  }
+
   prepared-so : (is_ended seat.phase ≡ false → (number : ℕ) → number_in seat.statements number ≡ None) → ArePrepared after now
   prepared-so none x seated r there going = by (is_client c x.number) refl where
     by : (b : Bool) → is_client c x.number ≡ b → IsPrepared after x r
     by false apart =
-        prepared_by_row g after.tale over g.fresh t now was.clients (λ m. refl) was.prepared x (sat-before x apart seated) r
+        prepared_by_row g after.tale over g.fresh t now was.clients (λ m. refl) owns-so was.prepared x (sat-before x apart seated) r
         (row_itself t x.number r (sym (row-stays x.number apart) ∙ there) going)
     by true it =
         let both : new ∷ [] ≡ x ∷ [] =

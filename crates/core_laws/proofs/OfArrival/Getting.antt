@@ -159,6 +159,7 @@ module _ (in_work : InWork) (stay : RowsStay) (service : Service) (g : Ground) (
       → IsChange g gets_by t now c f row (wrote (length bytes) row.desk.seat)
   change c row there same = record {
     clients = refl;
+    moment = refl;
     number = gets-number link (length bytes);
     link = gets-link link (length bytes);
     taken = gets-taken link (length bytes);

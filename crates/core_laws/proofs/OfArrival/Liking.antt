@@ -129,6 +129,8 @@ module _ (g : Ground) (by : Aside) (x y : tales.Client) (like : IsLike g by x y)
     only = λ some. is.only (subst (λ (n : ℕ). 0 < n) (ap (number_of g.plan) (λ i. record { client = like.number i; ordinal = work.ordinal })) some);
     prepares = λ prepares message at.
         is.prepares prepares message (said refl message (ap (λ (n : ℕ). slice_get (messages g.plan y) (n - 1)) (sym like.taken) ∙ at));
+    keyed = λ prepares route routed.
+        is.keyed prepares route (sym (ap g.plan.routes (λ i. record { client = like.number i; ordinal = like.taken i })) ∙ routed);
     first = λ message at. (kept refl).0 ∙ is.first message (said refl message (ap (λ (n : ℕ). slice_get (messages g.plan y) (n - 1)) (sym like.taken) ∙ at));
     unsent = λ unsent. same ∙ is.unsent unsent;
     there = λ sent. is.there sent ∙ ap (view_on g).carriers (λ i. record { client = sym like.number i; ordinal = work.ordinal });

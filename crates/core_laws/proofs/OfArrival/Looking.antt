@@ -74,6 +74,7 @@ module _ (in_work : InWork) (stay : RowsStay) (goes : Goes) (waits : Waits_so) (
   change : (new : Seat) → now.clients c ≡ Some (reseat new row) → IsChange g by t now c (λ (x : tales.Client). x) row new
   change new there = record {
     clients = sym (map-itself g.tale.clients);
+    moment = refl;
     number = λ x. refl;
     link = λ x. refl;
     taken = λ x. refl;

@@ -199,6 +199,7 @@ module _ (in_work : InWork) (stay : RowsStay) (hears : Hears) (service : Service
       → IsChange g (spoken_by c) t now c f row (keeping bytes row.desk.seat)
   change c row there unended same = record {
     clients = refl;
+    moment = refl;
     number = hears-number link bytes;
     link = hears-link link bytes;
     taken = hears-taken link bytes;
@@ -274,7 +275,7 @@ module _ (service : Service) (g : Ground) (t : Tabled) (link : LinkId) (f : tale
 
   pub lost-so : Stands service g t → t.numbers link ≡ None → Stands service (regrounded lost_by g) t
   lost-so was none =
-      stands-told g lost_by t f (record { clients = refl; number = number; link = linked; taken = took; more = further; ends = λ n is. is; kept = λ n. refl; numbers = λ l. refl }) service was
+      stands-told g lost_by t f (record { clients = refl; moment = refl; number = number; link = linked; taken = took; more = further; ends = λ n is. is; kept = λ n. refl; numbers = λ l. refl }) service was
       (λ k d below. let x = slice_index_or g.tale.clients k d in lost-by x none (was.clients.each k d below) (is_link_id x.link link) refl)
 
 pub unheard-so : (service : Service) (g : Ground) (t : Tabled) (link : LinkId) (bytes : List ℕ) → Stands service g t → is_to_server g.tale link ≡ false

@@ -142,6 +142,7 @@ module _ (service : Service) (g : Ground) (t : Tabled) (c : ClientNo) (was : Sta
       stands-told g by t (λ (x : tales.Client). x)
       (record {
         clients = sym (map-itself g.tale.clients);
+        moment = refl;
         number = λ x. refl;
         link = λ x. refl;
         taken = λ x. refl;

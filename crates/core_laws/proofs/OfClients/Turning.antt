@@ -304,6 +304,7 @@ module _ (laws : Laws) (service : Service) (default : List ℕ) (first client : 
       prepared = has_prepared.each;
       unused = has_prepared.kept answered_now;
       known = has_known;
+      unserved = has_prepared.unserved;
     }
 
     looking : IsTaking service first from seen between client

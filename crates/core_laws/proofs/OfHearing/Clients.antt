@@ -70,6 +70,7 @@ working_on g tale client row desk (Some work) coming first statements homes carr
       (next.0 ∙ ap (λ (n : ℕ). n + 1) (sym last), subst (λ (n : ℕ). n < 4294967295) (sym last) next.1);
   only = is.only;
   prepares = is.prepares;
+  keyed = is.keyed;
   first = λ message there. first ∙ is.first message there;
   unsent = λ unsent. coming ∙ is.unsent unsent;
   there = λ sent. homes work.hostgroup ∙ is.there sent ∙ sym (carriers (name_of client work.ordinal));
@@ -156,6 +157,7 @@ module _ (g : Ground) (client : tales.Client) (row : Client) (is : IsClient g cl
         number = is.number;
         only = is.only;
         prepares = is.prepares;
+        keyed = is.keyed;
         first = is.first;
         unsent = λ unsent. absurd (true≢false (sym is_sent ∙ unsent));
         there = is.there;

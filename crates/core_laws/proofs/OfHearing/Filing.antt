@@ -108,6 +108,7 @@ module _ (in_work : InWork) (stay : RowsStay) (g : Ground) (t : Tabled) (but : S
   change : IsChange g here t now c (λ (x : tales.Client). x) row (with_statements s row.desk.seat)
   change = record {
     clients = sym (map-itself g.tale.clients);
+    moment = refl;
     number = λ x. refl;
     link = λ x. refl;
     taken = λ x. refl;

@@ -45,7 +45,7 @@ use Rattle.core_laws.proofs.OfHearing.Elsewhere.{CarriedLaw, HomedLaw}
 use Rattle.core_laws.proofs.OfHearing.Filing.{filed_stands}
 use Rattle.core_laws.proofs.OfHearing.Laws.{DeskLaws, OthersStay}
 use Rattle.core_laws.proofs.OfHearing.Making.{IsLast, IsPrepareOf, IsStating, last_so, made_prepared, prepare_of, stating, unmade_prepared, unreplied_prepared}
-use Rattle.core_laws.proofs.OfHearing.Preparing.{HeardOf, heard_told, says_clients, says_duly}
+use Rattle.core_laws.proofs.OfHearing.Preparing.{HeardOf, heard_told, says_clients, says_duly, says_moment}
 use Rattle.core_laws.proofs.OfHearing.Spelled.{NumbersAreRead}
 use Rattle.core_laws.proofs.OfHearing.Standing.{StandsBut}
 use Rattle.core_laws.proofs.OfHearing.Whole.{is_stated}
@@ -136,6 +136,9 @@ module _ (laws : DeskLaws) (stay : OthersStay) (carried_law : CarriedLaw) (homed
   abbrev after : Tale
   after = server_says g.setup g.plan l bytes g.tale
 
+  moment_same : after.moment ≡ g.tale.moment
+  moment_same = says_moment g l bytes
+
   abbrev base : Tabled
   base = heard_on l reading t
 
@@ -181,14 +184,14 @@ module _ (laws : DeskLaws) (stay : OthersStay) (carried_law : CarriedLaw) (homed
       quiet_so says keeps =
           unkept (λ client seated_now row has going.
           (let is = heard_row client seated_now row has going in
-          unreplied_prepared laws stay carried_law homed_law service g t stands l server there to_server kept fine after reading.news says client is.sits row
+          unreplied_prepared laws stay carried_law homed_law service g t stands l server there to_server kept fine after moment_same reading.news says client is.sits row
           is.of is.on_then is.was is.goes))
           (subst (λ (made : Option Made). IsKeptSo made mid new) (none_made reading.news (length bytes) reading.row says.says) keeps)
 
       -- a reply was read
       module _ (is : IsReplied g l server.row.link.state.stage server.row.left after reading.row reading.news) where
         abbrev stated : IsStating g.codes is.asking.purpose is.n is.due
-        stated = stating laws stay carried_law homed_law service g t stands l server there to_server kept fine after reading.row reading.news is
+        stated = stating laws stay carried_law homed_law service g t stands l server there to_server kept fine after moment_same reading.row reading.news is
 
         abbrev made : Made
         made = made_in stated.name stated.key reading.row.multiplex (end_of is.reply)
@@ -206,15 +209,15 @@ module _ (laws : DeskLaws) (stay : OthersStay) (carried_law : CarriedLaw) (homed
         kind_is = prepared_kind is.reply (is_prepare is.due.command) is.prepares
 
         last_of : (client : tales.Client) (row : Client) (heard_as : IsHeardRow client row) (k : ℕ) → name_of client k ≡ message_of is.n is.due
-            → IsLast laws stay carried_law homed_law service g t stands l server there to_server kept fine after reading.row reading.news is client heard_as.of.old k
+            → IsLast laws stay carried_law homed_law service g t stands l server there to_server kept fine after moment_same reading.row reading.news is client heard_as.of.old k
         last_of client row heard_as k at =
-            last_so laws stay carried_law homed_law service g t stands l server there to_server kept fine after reading.row reading.news is client heard_as.of.old
+            last_so laws stay carried_law homed_law service g t stands l server there to_server kept fine after moment_same reading.row reading.news is client heard_as.of.old
             heard_as.of.there heard_as.goes k at
 
         unmade_so : (client : tales.Client) (row : Client) → IsHeardRow client row → (name_of client client.taken ≡ message_of is.n is.due → HasMade ≡ false)
             → IsPrepared (on g after) client row
         unmade_so client row heard_as none =
-            unmade_prepared laws stay carried_law homed_law service g t stands l server there to_server kept fine after reading.row reading.news is client
+            unmade_prepared laws stay carried_law homed_law service g t stands l server there to_server kept fine after moment_same reading.row reading.news is client
             heard_as.sits row heard_as.of heard_as.on_then heard_as.was heard_as.goes none
 
         -- of a session that its client left nothing is kept: that client ended
@@ -292,7 +295,7 @@ module _ (laws : DeskLaws) (stay : OthersStay) (carried_law : CarriedLaw) (homed
                 let last = last_of client row_c heard_as is.due.ordinal at in
                 let parts = both (is_prepare is.due.command) (is_made is.reply) has_made in
                 let prepares : IsPrepareOf is.due.command = prepare_of is.due.command parts.0 in
-                made_prepared laws stay carried_law homed_law service g t stands l server there to_server kept fine after reading.row reading.news is client
+                made_prepared laws stay carried_law homed_law service g t stands l server there to_server kept fine after moment_same reading.row reading.news is client
                 heard_as.sits row_c heard_as.of heard_as.on_then heard_as.was heard_as.goes last.named prepares.text prepares.is parts.1 made.1
                 (key_is prepares.text prepares.is) refl (ap (λ (n : SessionName). n.hostgroup) (sym stated.names)) (sym is.multiplex) s
                 (subst (λ (old : ClientStatements). IsKeptIn made.1 old s) heard_as.of.statements keeps) row_now refl

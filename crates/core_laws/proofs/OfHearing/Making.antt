@@ -16,7 +16,7 @@ use Rattle.private_model.specs.View as view
 use Rattle.log_story.specs.Clients.{is_answered}
 use Rattle.log_story.specs.Executes.{prepared_by, prepared_in}
 use Rattle.log_story.specs.Owed.{messages, name_of, number_of}
-use Rattle.log_story.specs.Plan.{Route, com_prepare}
+use Rattle.log_story.specs.Plan.{Route, com_prepare, own_at}
 use Rattle.log_story.specs.Servers.{with_run}
 use Rattle.log_story.specs.Tale as tales
 use Rattle.log_story.specs.Tale.{Tale, is_to_server, link_in, view_of}
@@ -55,7 +55,7 @@ use Rattle.core_laws.proofs.OfHearing.Preparing.{HeardOf, run_duly, run_lawful}
 use Rattle.core_laws.proofs.OfHearing.Standing.{replying_so, server_is}
 use Rattle.core_laws.proofs.OfPrepared.Keeping.{MakesNone, going_within, prepared_as}
 use Rattle.core_laws.proofs.OfPrepared.Knowing.{none_behind, none_more, none_replied, size_of}
-use Rattle.core_laws.proofs.OfPrepared.Rows.{unanswered_row, unreplied}
+use Rattle.core_laws.proofs.OfPrepared.Rows.{unanswered_row, unowned, unreplied}
 use Rattle.core_laws.proofs.OfWriting.Numbering.{number_routed}
 
 -- Commands that prepare.
@@ -159,9 +159,12 @@ stating_of codes (purposes.Capture name) n due is = absurd is
 module _ (laws : DeskLaws) (stay : OthersStay) (carried_law : CarriedLaw) (homed_law : HomedLaw)
     (service : Service) (g : Ground) (t : Tabled) (stands : Stands service g t) (l : LinkId) (server : Server) (there : t.links l ≡ Some server)
     (to_server : is_to_server g.tale l ≡ true) (kept : server.row.lost ≡ false) (fine : server.row.link.spoilt ≡ false)
-    (T : Tale) where
+    (T : Tale) (moment : T.moment ≡ g.tale.moment) where
   abbrev after : Ground
   after = on g T
+
+  own_then : (m : MessageName) → is_some (own_at g.plan T.moment m) ≡ true → is_some (own_at g.plan g.tale.moment m) ≡ true
+  own_then m own = ap (λ (n : ℕ). is_some (own_at g.plan n m)) (sym moment) ∙ own
 
   abbrev its_server : IsServer g t l server.row
   its_server = server_is laws stay carried_law homed_law service g t stands l server there to_server kept fine
@@ -180,6 +183,9 @@ module _ (laws : DeskLaws) (stay : OthersStay) (carried_law : CarriedLaw) (homed
         stays = λ k reply within replied. says.replies (name_of client k) ∙ replied;
         statements = of.statements;
         answered = λ answers. by of.old.desk.seat.answered refl;
+        unserved = λ k some below own.
+            says.replies (name_of client k)
+            ∙ (stands.prepared client sits of.old of.there on).unserved k some below (own_then (name_of client k) own);
       }) (going_within g client of.old was on) (stands.prepared client sits of.old of.there on) where
         by : (answered : Bool) → of.old.desk.seat.answered ≡ answered
             → ((of.old.desk.seat.answered ≡ true) × ((view_of g.setup T).replies (name_of client client.taken) ≡ (view_on g).replies (name_of client client.taken)))
@@ -283,6 +289,15 @@ module _ (laws : DeskLaws) (stay : OthersStay) (carried_law : CarriedLaw) (homed
             absurd (none-some reply (sym last.unreplied ∙ ap (λ (i : ℕ). (view_on g).replies (name_of client i)) (sym last.last) ∙ replied)))
       ]
 
+      unserved : (k : ℕ) → 0 < k → k ≤ client.taken → is_some (own_at g.plan T.moment (name_of client k)) ≡ true
+          → seen_now.replies (name_of client k) ≡ None
+      unserved k some below own = elim (same_or (name_of client k)) [
+        | inl same ↦ same ∙ (stands.prepared client sits of.old of.there on).unserved k some below (own_then (name_of client k) own)
+        | inr named ↦ absurd (let last = last_at k named in
+            true≢false (sym (own_then (name_of client k) own) ∙ ap (λ (i : ℕ). is_some (own_at g.plan g.tale.moment (name_of client i))) last.last
+            ∙ unowned g client of.old goes (ap is_some last.in_work)))
+      ]
+
       -- It prepared nothing, or it isn't this client's.
 
       abbrev Answers : Type 0
@@ -327,6 +342,7 @@ module _ (laws : DeskLaws) (stay : OthersStay) (carried_law : CarriedLaw) (homed
               | inl same ↦ by_old same of.old.desk.seat.answered refl
               | inr named ↦ inr (none_made named (none named))
             ];
+            unserved = unserved;
           }) (going_within g client of.old was on) (stands.prepared client sits of.old of.there on)
 
       -- It prepared its text, which is kept under the next number.
@@ -387,6 +403,7 @@ module _ (laws : DeskLaws) (stay : OthersStay) (carried_law : CarriedLaw) (homed
               stays = stays;
               statements = refl;
               answered = λ answers. absurd (false≢true answers);
+              unserved = unserved;
             }) within (stands.prepared client sits of.old of.there on)
 
         unused : (number : ℕ) → old.last < number → prepared_by seen_now g.plan client number 1 (take (client.taken - 1) (messages g.plan client)) ≡ None
@@ -523,6 +540,7 @@ module _ (laws : DeskLaws) (stay : OthersStay) (carried_law : CarriedLaw) (homed
           kept = λ answered number greater. kept_none number (over number greater);
           known = subst (λ (x : ClientStatements). KnowsFirst seen_now g.plan client x (client.taken - 1)) (sym same) known_now;
           stands = λ answered. subst (λ (x : ClientStatements). KnowsFirst seen_now g.plan client x client.taken) (sym same) stands_now;
+          unserved = unserved;
         } where
           over : (number : ℕ) → now.desk.seat.statements.last < number → old.last + 1 < number
           over number greater = (let count = ap (λ (x : ClientStatements). x.last) same ∙ kept_so.0 in omega (arith, count, greater))

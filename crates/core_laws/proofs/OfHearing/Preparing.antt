@@ -84,6 +84,11 @@ run_clients view.Quiet l tale = refl
 run_clients (view.Asked question) l tale = refl
 run_clients (view.Answered question) l tale = refl
 
+run_moment : (stage : view.Stage) (l : LinkId) (tale : Tale) → (runs_first stage l tale).moment ≡ tale.moment
+run_moment view.Quiet l tale = refl
+run_moment (view.Asked question) l tale = refl
+run_moment (view.Answered question) l tale = refl
+
 module _ (g : Ground) (l : LinkId) where
   pub run_duly : (stage : view.Stage) → AreDuly g.setup g.plan g.tale.story → AreDuly g.setup g.plan (runs_first stage l g.tale).story
   run_duly view.Quiet are = are
@@ -104,6 +109,11 @@ module _ (g : Ground) (l : LinkId) where
   says_clients bytes =
       says_by g l bytes (λ (T : Tale). T.clients ≡ g.tale.clients) (λ w. refl) (λ s a w. refl) (λ w. run_clients (link_in g.setup g.tale l).stage l g.tale)
       (λ entered reply w. run_clients (link_in g.setup g.tale l).stage l g.tale)
+
+  pub says_moment : (bytes : List ℕ) → (server_says g.setup g.plan l bytes g.tale).moment ≡ g.tale.moment
+  says_moment bytes =
+      says_by g l bytes (λ (T : Tale). T.moment ≡ g.tale.moment) (λ w. refl) (λ s a w. refl) (λ w. run_moment (link_in g.setup g.tale l).stage l g.tale)
+      (λ entered reply w. run_moment (link_in g.setup g.tale l).stage l g.tale)
 
   pub says_duly : (bytes : List ℕ) → AreDuly g.setup g.plan g.tale.story → AreDuly g.setup g.plan (server_says g.setup g.plan l bytes g.tale).story
   says_duly bytes are =

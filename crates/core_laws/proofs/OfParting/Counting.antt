@@ -40,6 +40,7 @@ use Rattle.core_laws.specs.parting.Frames.{IsGlanced, IsNotInWork, Keeps, KeepsN
 use Rattle.core_laws.specs.parting.Partings.{AreCounted, AreGivenUp, IsCounted, is_sound}
 use Rattle.core_laws.proofs.OfParting.Giving.{answers_so, apart_below, none_answered, taken_so, written_more}
 use Rattle.core_laws.proofs.OfPrepared.Rows.{RowOf, are_prepared, row_gives_up, row_seated, seat_mapped}
+use Rattle.core_laws.proofs.OfParting.Owning.{owns_given}
 use Rattle.core_laws.proofs.OfParting.Moving.{SameSessions, any_then, homes_kept, mapped, stands_moved}
 use Rattle.core_laws.proofs.OfParting.Owing.{Alike, answered_alike, bytes_alike, owing_alike, so_far_alike}
 use Rattle.core_laws.proofs.OfParting.Reading.{any_kept}
@@ -305,7 +306,7 @@ module _ (desks : DesksGiveUp) (owes : AnswersOwed) (service : Service) (g : Gro
         (any_kept g t (given_up_in given t) l (t.links l) (is.servers l) (server_kept l (t.links l) refl));
     homes = homes_kept g (on g (counted g.tale)) t (given_up_in given t) (same_sessions given t) is.homes;
     lawful = is.lawful;
-    prepared = are_prepared g (counted g.tale) g.over g.fresh t (given_up_in given t) is.clients (λ m. refl) is.prepared (λ client seated. seated)
+    prepared = are_prepared g (counted g.tale) g.over g.fresh t (given_up_in given t) is.clients (λ m. refl) (owns_given g t (counted g.tale) given (λ l. false) refl is.clients gives are) is.prepared (λ client seated. seated)
         (λ c row there going. given_row_of c row (given c) refl there going);
     duly = is.duly;
   })

@@ -58,7 +58,7 @@ use Rattle.core_laws.proofs.OfParting.Forgetting.{carrier_serves, server_there}
 use Rattle.core_laws.proofs.OfParting.Freeing.{ComingStays, OthersStay}
 use Rattle.core_laws.proofs.OfParting.Grounds.{taken_after}
 use Rattle.core_laws.proofs.OfParting.Moving.{any_then, stands_moved}
-use Rattle.core_laws.proofs.OfPrepared.Rows.{KeepsPrepared, RowOf, are_prepared, row_itself, row_kept}
+use Rattle.core_laws.proofs.OfPrepared.Rows.{KeepsPrepared, RowOf, are_prepared, owns_stay, row_itself, row_kept}
 use Rattle.core_laws.proofs.OfParting.Owing.{owing_alike}
 use Rattle.core_laws.proofs.OfParting.Parting.{kept_so, none_kept_at}
 use Rattle.core_laws.proofs.OfParting.Reading.{LinksStay, SessionsStay, any_kept, any_stays, next_kept, some_is}
@@ -506,7 +506,7 @@ module _ (links_stay : LinksStay) (untouched : SessionsStay) (others_stay : Othe
       servers = servers_then;
       homes = homes_then;
       lawful = lawful;
-      prepared = are_prepared g later.tale over g.fresh t other is.clients (λ m. refl) is.prepared (λ one is_seated. is_seated)
+      prepared = are_prepared g later.tale over g.fresh t other is.clients (λ m. refl) (owns_stay {g = g} {tale = later.tale} refl) is.prepared (λ one is_seated. is_seated)
           (λ d r here going. row_before d r here going (nat_eq c.0 d.0) refl);
       duly = is.duly;
     })

@@ -53,7 +53,7 @@ use Rattle.core_laws.proofs.OfParting.Named.{row_carries}
 use Rattle.core_laws.proofs.OfParting.Forgetting.{carrier_serves, server_there}
 use Rattle.core_laws.proofs.OfParting.Grounds.{taken_after}
 use Rattle.core_laws.proofs.OfParting.Homes.{homes_so}
-use Rattle.core_laws.proofs.OfPrepared.Rows.{are_prepared, row_seated, seat_changed}
+use Rattle.core_laws.proofs.OfPrepared.Rows.{are_prepared, owns_stay, row_seated, seat_changed}
 use Rattle.core_laws.proofs.OfParting.Moving.{HomesBut, homes_but, known_after, mapped, some_of, stands_moved}
 use Rattle.core_laws.proofs.OfParting.Reading.{LinksStay, SessionsStay, any_kept, any_stays, server_kept, some_is}
 use Rattle.core_laws.proofs.OfParting.Redesking.{flip_eq, home_of, life_of, name_path, past_so, present_so, row_redesked}
@@ -514,7 +514,7 @@ module _ (links_stay : LinksStay) (untouched : SessionsStay) (others_stay : Othe
     servers = λ at. servers_by at (nat_eq l.0 at.0) refl;
     homes = homes_but g later t other l homes_but_so is.homes;
     lawful = lawful;
-    prepared = are_prepared g later.tale g.over g.fresh t other is.clients (λ m. refl) is.prepared (λ client seated. seated)
+    prepared = are_prepared g later.tale g.over g.fresh t other is.clients (λ m. refl) (owns_stay {g = g} {tale = later.tale} refl) is.prepared (λ client seated. seated)
         (λ c row there going.
         let of = seat_changed freed_row (λ h r. refl) (present_in l t) c (t.clients c) row there in
         row_seated t c of.old row of.there of.seat going);

@@ -54,6 +54,7 @@ use Rattle.core_laws.proofs.OfParting.Freeing.{ComingStays, OthersStay, PartedSt
 use Rattle.core_laws.proofs.OfParting.Grounds.{taken_after}
 use Rattle.core_laws.proofs.OfParting.Homes.{homes_so}
 use Rattle.core_laws.proofs.OfPrepared.Rows.{RowOf, are_prepared, row_gives_up, row_seated, seat_changed, seat_mapped}
+use Rattle.core_laws.proofs.OfParting.Owning.{owns_given}
 use Rattle.core_laws.proofs.OfParting.Moving.{HomesBut, any_then, homes_but, known_after, mapped, some_of, stands_moved}
 use Rattle.core_laws.proofs.OfParting.Reading.{LinksStay, SessionsStay, any_kept, any_stays, next_kept, some_is}
 use Rattle.core_laws.proofs.OfParting.Redesking.{flip_eq, home_of, life_of, name_path, past_so, present_so, row_redesked}
@@ -547,7 +548,7 @@ module _ (links_stay : LinksStay) (untouched : SessionsStay) (others_stay : Othe
     servers = λ at. servers_by at (nat_eq l.0 at.0) refl;
     homes = homes_but g later t other l homes_but_so is.homes;
     lawful = lawful;
-    prepared = are_prepared g later.tale g.over g.fresh t other is.clients (λ m. refl) is.prepared (λ client seated. seated)
+    prepared = are_prepared g later.tale g.over g.fresh t other is.clients (λ m. refl) (owns_given g t later.tale given (λ other. is_link_id other l) refl is.clients gives are) is.prepared (λ client seated. seated)
         (λ c row there going. row_before c row (given c) refl there going);
     duly = is.duly;
   })

@@ -79,6 +79,7 @@ module _ (g : Ground) (client : tales.Client) (e : Happening)
       number = is.number;
       only = is.only;
       prepares = is.prepares;
+      keyed = is.keyed;
       first = is.first;
       unsent = is.unsent;
       there = λ sent. homes work refl sent ∙ is.there sent ∙ sym (carriers work.ordinal);

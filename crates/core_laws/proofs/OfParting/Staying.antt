@@ -77,6 +77,7 @@ working_so g after client row (Some work) plan carriers is = record {
   only = λ some. is.only (subst (λ (p : Plan). 0 < number_of p (name_of client work.ordinal)) plan some);
   prepares = λ prepares message found.
       is.prepares prepares message (ap (λ (p : Plan). slice_get (messages p client) (client.taken - 1)) (sym plan) ∙ found);
+  keyed = λ prepares route routed. is.keyed prepares route (ap (λ (p : Plan). p.routes (name_of client client.taken)) (sym plan) ∙ routed);
   unsent = is.unsent;
   there = λ sent. is.there sent
       ∙ ap (λ (ordinal : ℕ). (view_on g).carriers (name_of client ordinal)) is.last ∙ sym carriers

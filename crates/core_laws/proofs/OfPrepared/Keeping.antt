@@ -1,5 +1,5 @@
 -- What a client has prepared stands so as more is read of it, as others are answered, and as its last message is answered that prepares nothing more.
-use Rattle.std.specs.Prelude.{◌≡◌, ◌⊎◌, ◌<◌, ◌≤◌, ◌-◌, ◌+◌, ℕ, zero, suc, Bool, true, false, nat_lt, length, take, List, [], ◌++◌, Some, None}
+use Rattle.std.specs.Prelude.{◌≡◌, ◌⊎◌, ◌<◌, ◌≤◌, ◌-◌, ◌+◌, ℕ, zero, suc, Bool, true, false, is_some, nat_lt, length, take, List, [], ◌++◌, Some, None}
 use Rattle.std.proofs.Common.{refl, sym, ap, ◌∙◌, subst, arith, inl, inr, length-append}
 use Rattle.std.proofs.lemmas.Bool.{ltb-false, ltb-true, true≢false}
 use Rattle.std.proofs.lemmas.List.{take-append-le}
@@ -9,7 +9,7 @@ use Rattle.private_model.specs.Names.{ClientNo, MessageName}
 use Rattle.private_model.specs.View.{View}
 use Rattle.log_story.specs.Executes.{prepared_by, prepared_in}
 use Rattle.log_story.specs.Owed.{messages, name_of}
-use Rattle.log_story.specs.Plan.{Plan}
+use Rattle.log_story.specs.Plan.{Plan, own_at}
 use Rattle.log_story.specs.Tale as tales
 use Rattle.log_story.specs.Tale.{Tale, view_of}
 use Rattle.client_seat.proofs.Numbering.{goes_on}
@@ -62,6 +62,8 @@ pub record IsAs (g : Ground) (tale : Tale) (was client : tales.Client) (old row 
   pub answered : row.desk.seat.answered ≡ true → ((old.desk.seat.answered ≡ true)
       × ((view_of g.setup tale).replies (name_of was was.taken) ≡ (view_on g).replies (name_of was was.taken)))
       ⊎ MakesNone (view_of g.setup tale) g.plan was
+  pub unserved : (k : ℕ) → 0 < k → k ≤ was.taken → is_some (own_at g.plan tale.moment (name_of was k)) ≡ true
+      → (view_of g.setup tale).replies (name_of was k) ≡ None
 
 module _ (g : Ground) (tale : Tale) (over fresh : ClientNo → Bool) (was client : tales.Client) (old row : Client) (is : IsAs g tale was client old row)
     (within : was.taken ≤ length (messages g.plan was)) (prepared : IsPrepared g was old) where
@@ -187,6 +189,12 @@ module _ (g : Ground) (tale : Tale) (over fresh : ClientNo → Bool) (was client
         subst (λ (n : ℕ). KnowsFirst (view_on after) g.plan client row.desk.seat.statements n) (sym is.taken)
         (subst (λ (s : ClientStatements). KnowsFirst (view_on after) g.plan client s was.taken) (sym is.statements)
         (elim (is.answered answered) [ inl both ↦ stands_as both.0 both.1 | inr none ↦ stands_behind was.taken refl none ]));
+    unserved = λ k some below own.
+        let same : name_of was k ≡ name_of client k = ap (λ (c : ClientNo). record { client = c; ordinal = k }) (sym is.number) in
+        let taken : client.taken ≡ was.taken = is.taken in
+        subst (λ (m : MessageName). (view_on after).replies m ≡ None) same
+        (is.unserved k some (omega (arith, taken, below))
+        (subst (λ (m : MessageName). is_some (own_at g.plan tale.moment m) ≡ true) (sym same) own));
   } where
     last_then : (number : ℕ) → row.desk.seat.statements.last < number → old.desk.seat.statements.last < number
     last_then number greater = subst (λ (s : ClientStatements). s.last < number) is.statements greater

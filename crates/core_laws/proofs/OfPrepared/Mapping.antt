@@ -1,11 +1,11 @@
 -- What clients have prepared stands so where more is read of them, or written to them.
-use Rattle.std.specs.Prelude.{◌≡◌, ◌+◌, ℕ, Bool, true, false, filter, if◌then◌else◌, map, List, [], ◌∷◌, ◌++◌, Some}
+use Rattle.std.specs.Prelude.{◌≡◌, ◌+◌, ℕ, Bool, true, false, filter, is_some, if◌then◌else◌, map, List, [], ◌∷◌, ◌++◌, Some}
 use Rattle.std.proofs.Common.{refl, sym, ap, ◌∙◌, subst, append-nil, inl, inr}
 use Rattle.packet_frame.specs.Packets.{Framed}
 use Rattle.private_model.specs.Names.{ClientNo, LinkId}
 use Rattle.private_model.specs.Story.{is_client, is_link_id}
 use Rattle.log_story.specs.Owed.{messages, name_of, talk_of}
-use Rattle.log_story.specs.Plan.{Plan}
+use Rattle.log_story.specs.Plan.{Plan, own_at}
 use Rattle.log_story.specs.Tale as tales
 use Rattle.log_story.specs.Tale.{Tale, client_gets, client_hears}
 use Rattle.step_laws.specs.Seats.{IsSeated}
@@ -67,7 +67,7 @@ one_mapped by (x ∷ z ∷ xs) y is = absurd (let no = is in cc)
 
 module _ (g : Ground) (tale : Tale) (over fresh : ClientNo → Bool) (t now : Tabled) (f : tales.Client → tales.Client)
     (clients : tale.clients ≡ map f g.tale.clients) (number : (x : tales.Client) → (f x).number ≡ x.number)
-    (taken : (x : tales.Client) → (f x).taken ≡ x.taken) (more : (x : tales.Client) → HasMore g.plan x (f x))
+    (taken : (x : tales.Client) → (f x).taken ≡ x.taken) (more : (x : tales.Client) → HasMore g.plan x (f x)) (moment : tale.moment ≡ g.tale.moment)
     (are : AreClients g t) (prepared : ArePrepared g t) (rows : AreRows t now) where
   abbrev after : Ground
   after = record g { tale = record tale { story = g.tale.story }; over = over; fresh = fresh }
@@ -90,6 +90,9 @@ module _ (g : Ground) (tale : Tale) (over fresh : ClientNo → Bool) (t now : Ta
           | inr busy ↦ inr (λ n payload greater.
               none_replied n x.taken payload (g.plan.routes (name_of x x.taken)) ((view_on g).replies (name_of x x.taken)) (unreplied g x of.old (going_row g x of.old was of.going) busy))
         ];
+        unserved = λ k some below own.
+            (prepared x seated of.old of.there of.going).unserved k some below
+            (ap (λ (n : ℕ). is_some (own_at g.plan n (name_of x k))) (sym moment) ∙ own);
       }) (going_within g x of.old was of.going) (prepared x seated of.old of.there of.going)
 
   pub told_prepared : ArePrepared after now

@@ -1,5 +1,5 @@
 -- What clients have prepared stands so where their rows keep it.
-use Rattle.std.specs.Prelude.{◌≡◌, ◌⊎◌, ℕ, zero, suc, Bool, true, false, not, is_some, nat_eq, if◌then◌else◌, List, [], Option, Some, None}
+use Rattle.std.specs.Prelude.{◌≡◌, ◌⊎◌, ◌≤◌, ℕ, zero, suc, Bool, true, false, not, is_some, nat_eq, if◌then◌else◌, List, [], Option, Some, None}
 use Rattle.std.specs.Option.{option_map}
 use Rattle.std.proofs.Common.{refl, sym, ap, ◌∙◌, subst, append-nil, inl, inr}
 use Rattle.std.proofs.lemmas.Bool.{or_parts, true≢false}
@@ -136,6 +136,12 @@ unanswered_by plan tale view client (suc n) is =
     none_of (view.replies (name_of client (suc n)))
     (or_parts (is_some (own_at plan tale.moment (name_of client (suc n)))) (is_some (view.replies (name_of client (suc n)))) is).1
 
+unowned_by : (plan : Plan) (tale : Tale) (view : View) (client : tales.Client) (n : ℕ) → is_answered plan tale view client n ≡ false
+    → is_some (own_at plan tale.moment (name_of client n)) ≡ false
+unowned_by plan tale view client zero is = absurd (true≢false is)
+unowned_by plan tale view client (suc n) is =
+    (or_parts (is_some (own_at plan tale.moment (name_of client (suc n)))) (is_some (view.replies (name_of client (suc n)))) is).0
+
 not_back : (b : Bool) → true ≡ not b → b ≡ false
 not_back false is = refl
 not_back true is = absurd (true≢false is)
@@ -150,8 +156,24 @@ pub unreplied : (g : Ground) (client : tales.Client) (row : Client) → IsGoing 
     → (view_on g).replies (name_of client client.taken) ≡ None
 unreplied g client row is busy = unanswered_row g client row is (not_back row.desk.seat.answered (sym busy ∙ is.busy))
 
+-- nor did the router answer what is in work
+pub unowned : (g : Ground) (client : tales.Client) (row : Client) → IsGoing g client row → is_some row.desk.work ≡ true
+    → is_some (own_at g.plan g.tale.moment (name_of client client.taken)) ≡ false
+unowned g client row is busy =
+    unowned_by g.plan g.tale (view_on g) client client.taken (sym is.answered ∙ not_back row.desk.seat.answered (sym busy ∙ is.busy))
+
+-- What the router answers itself by another moment it answered already, or no reply to it was read.
+pub record OwnsStay (g : Ground) (tale : Tale) : Type 0 where
+  pub each : (client : tales.Client) → IsSeated g.tale client → (k : ℕ) → k ≤ client.taken → is_some (own_at g.plan tale.moment (name_of client k)) ≡ true
+      → (is_some (own_at g.plan g.tale.moment (name_of client k)) ≡ true) ⊎ ((view_on g).replies (name_of client k) ≡ None)
+
+pub owns_stay : {g : Ground} {tale : Tale} → tale.moment ≡ g.tale.moment → OwnsStay g tale
+owns_stay {g} {tale} moment = record {
+  each = λ client seated k below own. inl (ap (λ (n : ℕ). is_some (own_at g.plan n (name_of client k))) (sym moment) ∙ own);
+}
+
 module _ (g : Ground) (tale : Tale) (over fresh : ClientNo → Bool) (t now : Tabled) (are : AreClients g t)
-    (replies : (m : MessageName) → (view_of g.setup tale).replies m ≡ (view_on g).replies m) (prepared : ArePrepared g t) where
+    (replies : (m : MessageName) → (view_of g.setup tale).replies m ≡ (view_on g).replies m) (owns : OwnsStay g tale) (prepared : ArePrepared g t) where
   abbrev after : Ground
   after = record g { tale = tale; over = over; fresh = fresh }
 
@@ -173,6 +195,10 @@ module _ (g : Ground) (tale : Tale) (over fresh : ClientNo → Bool) (t now : Ta
           | inr busy ↦ inr (λ number payload greater.
               none_replied number client.taken payload (g.plan.routes here) ((view_of g.setup tale).replies here)
               (replies here ∙ unreplied g client of.old (going_row g client of.old was of.going) busy))
+        ];
+        unserved = λ k some below own. elim (owns.each client seated k below own) [
+          | inl mine ↦ replies (name_of client k) ∙ (prepared client seated of.old of.there of.going).unserved k some below mine
+          | inr none ↦ replies (name_of client k) ∙ none
         ];
       }) (going_within g client of.old was of.going) (prepared client seated of.old of.there of.going)
 

@@ -1,15 +1,16 @@
 -- What a client has prepared stands so as its next message is taken up.
-use Rattle.std.specs.Prelude.{◌≡◌, ◌≤◌, ◌<◌, ◌+◌, ◌-◌, ℕ, suc, Bool, true, false, not, drop, if◌then◌else◌, is_some, length, take, List, [], ◌∷◌, ◌++◌, Option, Some, None}
+use Rattle.std.specs.Prelude.{◌≡◌, ◌≤◌, ◌<◌, ◌+◌, ◌-◌, ℕ, suc, Bool, true, false, not, drop, if◌then◌else◌, is_some, length, nat_lt, take, List, [], ◌∷◌, ◌++◌, Option, Some, None}
 use Rattle.std.specs.List.{list_any}
 use Rattle.std.specs.Option.{option_and_then}
 use Rattle.std.proofs.Common.{refl, sym, ap, ◌∙◌, subst, arith}
+use Rattle.std.proofs.lemmas.Bool.{ltb-false, ltb-true}
 use Rattle.std.proofs.lemmas.Option.{none-some, slice_get_within}
 use Rattle.packet_frame.specs.Packets.{Framed}
 use Rattle.private_model.specs.Names.{MessageName}
 use Rattle.private_model.specs.Story.{Story}
 use Rattle.log_story.specs.Executes.{bound_after, prepared_by, prepared_in}
 use Rattle.log_story.specs.Owed.{messages, name_of}
-use Rattle.log_story.specs.Plan.{Route}
+use Rattle.log_story.specs.Plan.{Route, own_at}
 use Rattle.log_story.specs.Tale as tales
 use Rattle.log_story.specs.Tale.{view_of, with_client}
 use Rattle.step_laws.specs.Taken.{next_of}
@@ -27,7 +28,8 @@ module _ (g : Ground) (past : Story) (client : tales.Client) (row new : Client) 
     (prepared : IsPrepared g client row) (answered : row.desk.seat.answered ≡ true) (next : IsNext g.plan client message)
     (refuses : is_refused (known_on g) client (suc client.taken) ≡ refused)
     (are : AreNoted refused message.payload row.desk.seat.statements new.desk.seat.statements)
-    (replies : (m : MessageName) → (view_of g.setup (record g.tale { story = past })).replies m ≡ (view_on g).replies m) where
+    (replies : (m : MessageName) → (view_of g.setup (record g.tale { story = past })).replies m ≡ (view_on g).replies m)
+    (to_come : (view_on g).replies (name_of client (suc client.taken)) ≡ None) where
   abbrev after : Ground
   after = on g (with_client (next_of client) (record g.tale { story = past }))
 
@@ -97,6 +99,16 @@ module _ (g : Ground) (past : Story) (client : tales.Client) (row new : Client) 
       (ap (λ (ms : List Framed). list_any (λ (sent : Framed). drops number sent.payload) (drop made.ordinal ms)) (sym next.before) ∙ kept) in
       stays_noted number since.1 (prepared.stands answered number made some was since.0)
 
+  unserved_then : (k : ℕ) → 0 < k → k ≤ suc client.taken → is_some (own_at g.plan g.tale.moment (name_of client k)) ≡ true
+      → (view_on after).replies (name_of client k) ≡ None
+  unserved_then k some below own = replies (name_of client k) ∙ by (nat_lt client.taken k) refl where
+    by : (b : Bool) → nat_lt client.taken k ≡ b → (view_on g).replies (name_of client k) ≡ None
+    by true past =
+        let more = ltb-true client.taken k past in
+        let last : suc client.taken ≡ k = omega (arith, more, below) in
+        subst (λ (n : ℕ). (view_on g).replies (name_of client n) ≡ None) last to_come
+    by false within_it = prepared.unserved k some (ltb-false client.taken k within_it) own
+
   -- where it makes nothing under another number, if it is answered
   pub prepared_then : (new.desk.seat.answered ≡ true → MakesNone (view_on after) g.plan (next_of client))
       → IsPrepared after (next_of client) new
@@ -120,6 +132,7 @@ module _ (g : Ground) (past : Story) (client : tales.Client) (row new : Client) 
     stands = λ back.
         knows_behind (view_on after) g.plan (next_of client) new.desk.seat.statements client.taken within_then
         (λ number payload some. makes back number payload some) known_then;
+    unserved = unserved_then;
   }
 
   -- one that goes to no server makes nothing

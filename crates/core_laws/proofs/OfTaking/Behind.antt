@@ -42,7 +42,7 @@ use Rattle.core_stands.specs.Clients.{IsNumberedNext, IsClient, IsGoing, IsOwing
 use Rattle.core_stands.specs.Grounds.{Ground, known_on, on, view_on}
 use Rattle.core_laws.specs.arrival.Ups.{IsUpNext}
 use Rattle.core_laws.proofs.OfTaking.Standing.{prepare_byte}
-use Rattle.core_laws.proofs.OfWriting.Numbering.{number_routed, unnumbered}
+use Rattle.core_laws.proofs.OfWriting.Numbering.{number_routed, prepare_key, unnumbered}
 use Rattle.core_laws.specs.taking.Takes.{IsNumberedAs, IsSent, is_reset, own_of, route_of}
 use Rattle.core_laws.proofs.OfTaking.Owing.{all_answered, are_answered, due_size, due_with, due_without}
 
@@ -315,6 +315,10 @@ module _ (g : Ground) (client : tales.Client) (row : Client) (is : IsClient g cl
             number = numbered_next numbered last;
             only = λ numbered_so. sym sends.request.kind ∙ prepares_only numbered_so;
             prepares = λ prepares. prepares_of (sends.request.kind ∙ prepares);
+            keyed = λ prepares other routed.
+                ap (λ (r : Route). r.key) (sym (some_is route other (sym sends.routed ∙ routed)))
+                ∙ prepare_key g.setup route (due_of (view_on g) due_name (suc client.taken) work.key command route.multiplex) command
+                (sends.request.kind ∙ prepares) sends.keyed;
             first = first_of;
             unsent = λ is_unsent. nothing_coming;
             there = λ is_sent. absurd (cc);

@@ -39,7 +39,7 @@ use Rattle.core_stands.specs.Clients.{IsClient, IsClientOr, IsOwing, IsPhase, Is
 use Rattle.core_stands.specs.Grounds.{Ground, on, view_on}
 use Rattle.core_stands.specs.Servers.{IsFirst, IsNextFor, IsNextOf, IsPartedAt, IsPartedFor, IsReplying, IsReplyingAt, IsReplyingFor, IsServer, IsServerBy, IsServerOr, IsStanding, IsStandingAt, IsTakenUp}
 use Rattle.core_stands.specs.Stands.{AreClients, AreDuly, AreHomes, ArePrepared, IsAt, IsHome, IsKnown, IsPrepared, Stands}
-use Rattle.core_laws.proofs.OfPrepared.Rows.{prepared_by_row, row_itself}
+use Rattle.core_laws.proofs.OfPrepared.Rows.{owns_stay, prepared_by_row, row_itself}
 use Rattle.core_laws.proofs.OfTaking.Seated.{each_after, flipped, is_alone, of_seated, others_seated, others_seats, seated_after}
 
 some_is : {A : Type 0} (a b : A) → Some a ≡ Some b → a ≡ b
@@ -60,7 +60,7 @@ module _ (g : Ground) (cs : List tales.Client) where
     working_so : (work : Option Work) → IsWorkingOr g x row work → IsWorkingOr with_clients x row work
     working_so None is = is
     working_so (Some work) is =
-        record { last = is.last; went = is.went; number = is.number; only = is.only; prepares = is.prepares; first = is.first; unsent = is.unsent; there = is.there }
+        record { last = is.last; went = is.went; number = is.number; only = is.only; prepares = is.prepares; keyed = is.keyed; first = is.first; unsent = is.unsent; there = is.there }
 
     phase_so : (ended : Bool) → IsPhase ended g x row → IsPhase ended with_clients x row
     phase_so true is = record {
@@ -399,7 +399,7 @@ module _ (g : Ground) (past : Story) (t : Tabled) (client : tales.Client) (row n
     by : (b : Bool) → is_client x.number client.number ≡ b → IsPrepared after x found
     by false apart =
         let was : IsSeated g.tale x = sym (others_seats client g.tale seated g.setup x.number apart) ∙ now in
-        prepared_by_row g after.tale g.over g.fresh t other are replies prepared x was found
+        prepared_by_row g after.tale g.over g.fresh t other are replies (owns_stay {g = g} {tale = after.tale} refl) prepared x was found
         (row_itself t x.number found (sym (elsewhere x.number apart) ∙ at) going)
     by true e =
         let one : x ≡ next_of client =

@@ -1,6 +1,6 @@
 -- The laws, by those of desks, and of clients that part.
-use Rattle.std.specs.Prelude.{◌≡◌, ℕ, true, false, not, is_some, List, ◌∷◌, Option, Some, None}
-use Rattle.std.proofs.Common.{refl, sym, ap, ◌∙◌, subst}
+use Rattle.std.specs.Prelude.{◌≡◌, ℕ, suc, true, false, not, is_some, List, ◌∷◌, Option, Some, None}
+use Rattle.std.proofs.Common.{refl, sym, ap, ◌∙◌, subst, arith}
 use Rattle.std.proofs.lemmas.Bool.{true≢false}
 use Rattle.std.proofs.lemmas.Option.{none-some}
 use Rattle.packet_frame.specs.Packets.{spellings}
@@ -85,7 +85,7 @@ module _ (same_law : SameStands) (seats : Seats) (service : Service) (g : Ground
       (answered_stands g client row at up is.few flag statements seats payloads packets unrouted own says) (λ m. refl) stands.duly
       (λ going. prepared_unrouted g g.tale.story client row new is.up.message true
       (stands.prepared client is.seated row is.there (serving row.desk.seat up.account up.serves)) up.answered up.next
-      (refuses_unrouted (route_of g client) unrouted) noted (λ m. refl) unrouted) in
+      (refuses_unrouted (route_of g client) unrouted) noted (λ m. refl) (at.coming.unanswered (suc client.taken) (omega arith)) unrouted) in
       subst (λ (tale : Tale). Stands service (on g tale) other) (sym (took_answered g client is.up.message unrouted plain))
       (same_law service after (client_put client.number (Some new) t) other stood
       (subst (λ (x : Tabled). IsSame other x)
@@ -119,7 +119,7 @@ module _ (same_law : SameStands) (seats : Seats) (service : Service) (g : Ground
       (record { route = route; routed = sends.routed; hostgroup = sym sends.hostgroup; multiplex = refl; keyed = sends.keyed; whole = sends.whole }, stands.duly)
       (λ going. prepared_then g (e ∷ g.tale.story) client row new is.up.message false
       (stands.prepared client is.seated row is.there (serving row.desk.seat up.account up.serves)) up.answered up.next
-      (ap (λ (r : Option Route). not (is_some r)) sends.routed) noted (λ m. refl) (λ back. absurd (true≢false (sym back)))) in
+      (ap (λ (r : Option Route). not (is_some r)) sends.routed) noted (λ m. refl) (at.coming.unanswered (suc client.taken) (omega arith)) (λ back. absurd (true≢false (sym back)))) in
       subst (λ (tale : Tale). Stands service (on g tale) other) (sym (took_sent g client is.up.message route command work sends))
       (same_law service after (client_put client.number (Some new) t) other stood
       (subst (λ (x : Tabled). IsSame other x)
@@ -157,7 +157,7 @@ module _ (same_law : SameStands) (seats : Seats) (service : Service) (g : Ground
       (answered_stands gone client anew now found is.few flag statements seats payloads packets unrouted own says) (λ m. refl) left.duly
       (λ going. prepared_unrouted gone gone.tale.story client anew new is.up.message true
       (left.prepared client is.seated anew there (serving anew.desk.seat found.account found.serves)) found.answered found.next
-      (refuses_unrouted (route_of g client) unrouted) noted (λ m. refl) unrouted) in
+      (refuses_unrouted (route_of g client) unrouted) noted (λ m. refl) (now.coming.unanswered (suc client.taken) (omega arith)) unrouted) in
       let id : Seat → Seat = λ (seat : Seat). seat in
       let as_put : IsSame other (client_put client.number (Some new) (left_in client.number id t)) =
       subst (λ (x : Tabled). IsSame other x)

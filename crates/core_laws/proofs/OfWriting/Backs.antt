@@ -266,11 +266,11 @@ module _ (takes : TakesBack) (back : ComesBack) (alike : SameStands) (service : 
       goes_back : Stands service g (made base)
       goes_back =
           stands_handed service g t (made base) l server (with_row taken_back server) name.client client work other stands there at in_work
-          (record { ordinal = refl; hostgroup = refl; sent = refl; command = refl }) here (λ k e. client_apart name.client k gives t e) (λ k. refl)
+          (record { ordinal = refl; key = refl; hostgroup = refl; sent = refl; command = refl }) here (λ k e. client_apart name.client k gives t e) (λ k. refl)
           (link_there base refl) (λ k e. links_apart base (λ j. refl) k e) carries_same refl refl desk_back
           (row_by (made base)
           (reads service g t (made base) l server (with_row taken_back server) name.client client work other stands there at in_work
-          (record { ordinal = refl; hostgroup = refl; sent = refl; command = refl }) here (λ k e. client_apart name.client k gives t e) (λ k. refl)
+          (record { ordinal = refl; key = refl; hostgroup = refl; sent = refl; command = refl }) here (λ k e. client_apart name.client k gives t e) (λ k. refl)
           (link_there base refl) (λ k e. links_apart base (λ j. refl) k e) carries_same refl refl desk_back) row.link.next refl)
 
     kept_by : (client : Client) → t.clients name.client ≡ Some client → (work : Work) → client.desk.work ≡ Some work → (goes : Bool)

@@ -32,11 +32,12 @@ use Rattle.core_laws.proofs.OfWriting.Moving.{clients_made}
 use Rattle.core_laws.proofs.OfWriting.Nexts.{onward_none}
 use Rattle.core_laws.proofs.OfWriting.Sending.{by_to_server, servers_made}
 use Rattle.core_laws.proofs.OfWriting.Stated.{not_ended}
-use Rattle.core_laws.proofs.OfPrepared.Rows.{RowOf, are_prepared, row_itself, row_seated}
+use Rattle.core_laws.proofs.OfPrepared.Rows.{RowOf, are_prepared, owns_stay, row_itself, row_seated}
 
 -- of a work nothing else changes than its form and its body
 pub record SameWork (work other : Work) : Type 0 where
   pub ordinal : other.ordinal ≡ work.ordinal
+  pub key : other.key ≡ work.key
   pub hostgroup : other.hostgroup ≡ work.hostgroup
   pub sent : other.sent ≡ work.sent
   pub command : other.command ≡ work.command
@@ -123,6 +124,7 @@ module _ (service : Service) (g : Ground) (t now : Tabled) (l : LinkId) (server 
                 same.command
                 ∙ works.only (subst (λ (k : ℕ). 0 < number_of g.plan (message_named client k)) same.ordinal some);
             prepares = λ prepares. works.prepares (sym same.command ∙ prepares);
+            keyed = λ prepares route routed. works.keyed (sym same.command ∙ prepares) route routed ∙ sym same.key;
             first = works.first;
             unsent = λ waits. works.unsent (sym same.sent ∙ waits);
             there = λ out.
@@ -227,7 +229,7 @@ module _ (service : Service) (g : Ground) (t now : Tabled) (l : LinkId) (server 
       link_is = λ k s at. link_is k s at (is_link_id k l) refl;
     }) stands.homes;
     lawful = stands.lawful;
-    prepared = are_prepared g g.tale g.over g.fresh t now stands.clients (λ m. refl) stands.prepared (λ client seated. seated)
+    prepared = are_prepared g g.tale g.over g.fresh t now stands.clients (λ m. refl) (owns_stay {g = g} {tale = g.tale} refl) stands.prepared (λ client seated. seated)
         (λ k r at going. row_before k r at going (nat_eq c.0 k.0) refl);
     duly = stands.duly;
   }

@@ -167,6 +167,7 @@ module _ (g : Ground) (t now : Tabled) (l : LinkId) (n : SessionName) (key : ℕ
                 number = works.number;
                 only = works.only;
                 prepares = works.prepares;
+                keyed = works.keyed;
                 first = works.first;
                 unsent = works.unsent;
                 there = λ out. absurd (false≢true (sym unsent ∙ out));

@@ -42,7 +42,7 @@ use Rattle.core_stands.specs.Stands.{AreClients, AreHomes, IsAt, Stands}
 use Rattle.core_laws.proofs.OfWriting.Framing.{Onward, SameHomes, homes_on, parted_on, same_reads, server_on, standing_on}
 use Rattle.core_laws.proofs.OfWriting.Moving.{ClientsAtStay, clients_made}
 use Rattle.core_laws.proofs.OfWriting.Asked.{beside, is_beside}
-use Rattle.core_laws.proofs.OfPrepared.Rows.{are_prepared, rows_same}
+use Rattle.core_laws.proofs.OfPrepared.Rows.{are_prepared, owns_stay, rows_same}
 
 put_there : {A : Type 0} (f : LinkId → A) (l : LinkId) (x : A) → put is_link_id f l x l ≡ x
 put_there f l x = ap (λ (same : Bool). if same then x else f l) (same_link l)
@@ -95,7 +95,7 @@ module _ (at_stay : ClientsAtStay) (runs : RunsUnseen) (service : Service) (g : 
     servers = λ k. server_on g t t (beside k) dropped (onward_dropped (beside k)) (same_reads t t (λ c. refl)) k (is_beside k) (t.links k) (stands.servers k);
     homes = homes_on g (on g dropped) t t (same_homes t) stands.homes;
     lawful = (stands.lawful, tt);
-    prepared = are_prepared g dropped g.over g.fresh t t stands.clients (λ m. refl) stands.prepared (λ client seated. seated) (rows_same t t (λ c. refl));
+    prepared = are_prepared g dropped g.over g.fresh t t stands.clients (λ m. refl) (owns_stay {g = g} {tale = dropped} refl) stands.prepared (λ client seated. seated) (rows_same t t (λ c. refl));
     duly = stands.duly;
   }
 
@@ -243,7 +243,7 @@ module _ (at_stay : ClientsAtStay) (runs : RunsUnseen) (service : Service) (g : 
     servers = λ k. servers_ran k (is_link_id k l) refl;
     homes = homes_on g (on g ran) t t (same_homes t) stands.homes;
     lawful = (stands.lawful, tt);
-    prepared = are_prepared g ran g.over g.fresh t t stands.clients (λ m. refl) stands.prepared (λ client seated. seated) (rows_same t t (λ c. refl));
+    prepared = are_prepared g ran g.over g.fresh t t stands.clients (λ m. refl) (owns_stay {g = g} {tale = ran} refl) stands.prepared (λ client seated. seated) (rows_same t t (λ c. refl));
     duly = stands.duly;
   }
 

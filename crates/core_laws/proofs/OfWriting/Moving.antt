@@ -172,7 +172,7 @@ module _ (g : Ground) (l : LinkId) (wire : Wire) where
   working_still : (client : tales.Client) (row : Client) (work : Option Work) → IsWorkingOr g client row work → IsWorkingOr (on g still) client row work
   working_still client row None is = is
   working_still client row (Some work) is =
-      record { last = is.last; went = is.went; number = is.number; only = is.only; prepares = is.prepares; first = is.first; unsent = is.unsent; there = is.there }
+      record { last = is.last; went = is.went; number = is.number; only = is.only; prepares = is.prepares; keyed = is.keyed; first = is.first; unsent = is.unsent; there = is.there }
 
   owing_still : (client : tales.Client) (seat : Seat) (at : Phase) (fresh : Bool) → IsOwing at fresh g client seat → IsOwing at fresh (on g still) client seat
   owing_still client seat phase.LoggingIn true is = tt
@@ -242,6 +242,7 @@ module _ (g : Ground) (l : LinkId) (wire : Wire) where
         number = is.number;
         only = is.only;
         prepares = is.prepares;
+        keyed = is.keyed;
         first = is.first;
         unsent = is.unsent;
         there = λ out. is.there out ∙ sym (carriers work.ordinal);
@@ -347,6 +348,7 @@ module _ (g : Ground) (l : LinkId) (wire : Wire) where
               number = works.number;
               only = works.only;
               prepares = works.prepares;
+              keyed = works.keyed;
               first = works.first;
               unsent = λ waits. absurd (true≢false waits);
               there = λ out. home;

@@ -49,6 +49,19 @@ unnumbered setup route due commands.ReadId keyed other = keyed
 unnumbered setup route due commands.Reset keyed other = keyed
 unnumbered setup route due commands.Quit keyed other = keyed
 
+-- the key of what is prepared is that of its route
+pub prepare_key : (setup : Setup) (route : Route) (due : Due) (command : Command) → kind_of command ≡ kinds.Prepare → IsKeyedFor setup route due command
+    → route.key ≡ due.key
+prepare_key setup route due (commands.Prepare text) kind keyed = keyed.0
+prepare_key setup route due (commands.Run text schema settings args) kind keyed = absurd (let no : kinds.Execute ≡ kinds.Prepare = kind in cc)
+prepare_key setup route due (commands.Query text) kind keyed = absurd (let no : kinds.Plain ≡ kinds.Prepare = kind in cc)
+prepare_key setup route due (commands.InitDb schema) kind keyed = absurd (let no : kinds.Plain ≡ kinds.Prepare = kind in cc)
+prepare_key setup route due (commands.FieldList rest) kind keyed = absurd (let no : kinds.Plain ≡ kinds.Prepare = kind in cc)
+prepare_key setup route due (commands.SetId n) kind keyed = absurd (let no : kinds.Plain ≡ kinds.Prepare = kind in cc)
+prepare_key setup route due commands.ReadId kind keyed = absurd (let no : kinds.Plain ≡ kinds.Prepare = kind in cc)
+prepare_key setup route due commands.Reset kind keyed = absurd (let no : kinds.Plain ≡ kinds.Prepare = kind in cc)
+prepare_key setup route due commands.Quit kind keyed = absurd (let no : kinds.Plain ≡ kinds.Prepare = kind in cc)
+
 pub own_unnumbered : (g : Ground) (n : SessionName) (due : Due) → IsDuly g.setup g.plan n due → (kind_of due.command ≡ kinds.Prepare → ⊥)
     → own_number g n due.ordinal ≡ 0
 own_unnumbered g n due duly other =

@@ -42,7 +42,7 @@ use Rattle.core_stands.specs.Stands.{AreClients, AreHomes, IsAt, IsHome, Stands}
 use Rattle.core_laws.proofs.OfWriting.Framing.{Onward, flipped, same_reads, server_on}
 use Rattle.core_laws.proofs.OfWriting.Moving.{clients_made}
 use Rattle.core_laws.proofs.OfWriting.Sending.{servers_made}
-use Rattle.core_laws.proofs.OfPrepared.Rows.{are_prepared, rows_same}
+use Rattle.core_laws.proofs.OfPrepared.Rows.{are_prepared, owns_stay, rows_same}
 
 -- row_laws' rows_open
 abbrev pub RowsOpen : Type 0
@@ -114,7 +114,7 @@ module _ (rows : RowsOpen) (service : Service) (g : Ground) (t : Tabled) (server
   working_on : (client : tales.Client) (r : Client) (work : Option Work) → IsWorkingOr g client r work → IsWorkingOr after client r work
   working_on client r None is = is
   working_on client r (Some work) is =
-      record { last = is.last; went = is.went; number = is.number; only = is.only; prepares = is.prepares; first = is.first; unsent = is.unsent; there = is.there }
+      record { last = is.last; went = is.went; number = is.number; only = is.only; prepares = is.prepares; keyed = is.keyed; first = is.first; unsent = is.unsent; there = is.there }
 
   owing_on : (client : tales.Client) (seat : Seat) (at : Phase) (fresh : Bool) → IsOwing at fresh g client seat → IsOwing at fresh after client seat
   owing_on client seat phase.LoggingIn true is = tt
@@ -221,6 +221,6 @@ module _ (rows : RowsOpen) (service : Service) (g : Ground) (t : Tabled) (server
         (server_on g t now l tale onward (same_reads t now (λ c. refl)) other other_apart (t.links other) (stands.servers other)));
     homes = homes_on;
     lawful = stands.lawful;
-    prepared = are_prepared g tale g.over g.fresh t now stands.clients (λ m. refl) stands.prepared (λ client seated. seated) (rows_same t now (λ c. refl));
+    prepared = are_prepared g tale g.over g.fresh t now stands.clients (λ m. refl) (owns_stay {g = g} {tale = tale} refl) stands.prepared (λ client seated. seated) (rows_same t now (λ c. refl));
     duly = stands.duly;
   }

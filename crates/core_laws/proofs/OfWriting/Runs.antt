@@ -60,7 +60,7 @@ module _ (takes : TakesNext) (readied : StatesReadied) (form_away : TakenAway fo
   link = link_in g.setup g.tale l
 
   same : SameWork work (formless work)
-  same = record { ordinal = refl; hostgroup = refl; sent = refl; command = refl }
+  same = record { ordinal = refl; key = refl; hostgroup = refl; sent = refl; command = refl }
 
   desk_handed : (c : tales.Client) → IsDesk g.setup.reads (view_on g) c.number client.desk
       → IsDesk g.setup.reads (view_on g) c.number (record client.desk { work = Some (formless work) })

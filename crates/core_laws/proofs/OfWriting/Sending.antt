@@ -95,7 +95,7 @@ use Rattle.core_laws.proofs.OfWriting.Lent.{now_there as lent_there}
 use Rattle.core_laws.proofs.OfWriting.Stated.{SentStands, clients_sent, now_apart, now_there}
 use Rattle.core_laws.proofs.OfWriting.Stating.{due_is, life_is, unanswered_there, unsent_there}
 use Rattle.core_laws.proofs.OfWriting.Rows.{Wrote, kind_next, kind_none, row_spoilt, wrote_next, wrote_outside, wrote_so}
-use Rattle.core_laws.proofs.OfPrepared.Rows.{are_prepared, rows_changed, rows_same}
+use Rattle.core_laws.proofs.OfPrepared.Rows.{are_prepared, owns_stay, rows_changed, rows_same}
 
 put_there : {A : Type 0} (f : LinkId → A) (l : LinkId) (x : A) → put is_link_id f l x l ≡ x
 put_there f l x = ap (λ (same : Bool). if same then x else f l) (same_link l)
@@ -366,7 +366,7 @@ module _ (may : MayBegin) (says : Says) (writes_on : WritesOn) (begins_there : B
           (same_but t written l server server_now (λ c. refl) there there_now others_now (ap (λ (s : LinkState). name_in s.carries) going.state)
           wrote_row.left wrote_row.lost) stands.homes;
       lawful = stands.lawful;
-      prepared = are_prepared g still_now g.over g.fresh t written stands.clients (λ m. refl) stands.prepared (λ client seated. seated)
+      prepared = are_prepared g still_now g.over g.fresh t written stands.clients (λ m. refl) (owns_stay {g = g} {tale = still_now} refl) stands.prepared (λ client seated. seated)
           (rows_same t written (λ c. refl));
       duly = stands.duly;
     }
@@ -495,7 +495,7 @@ module _ (may : MayBegin) (says : Says) (writes_on : WritesOn) (begins_there : B
         own_stands next same_next unasked [] none beginning (onward_still g l wire_now) (λ n. refl)
         (standing_on g (on g (still g l wire_now)) l (λ m at. at) refl (link_in g.setup g.tale l).stage is.standing)
         (clients_still g l wire_now t written (λ c. refl) (λ k. refl) stands.clients) stands.lawful
-        (are_prepared g (still g l wire_now) g.over g.fresh t written stands.clients (λ m. refl) stands.prepared (λ client seated. seated)
+        (are_prepared g (still g l wire_now) g.over g.fresh t written stands.clients (λ m. refl) (owns_stay {g = g} {tale = still g l wire_now} refl) stands.prepared (λ client seated. seated)
         (rows_same t written (λ c. refl))) stands.duly
 
   next_as : (next : Begins) → row.link.next ≡ Some next → IsNextOf (Some next) g t row (link_in g.setup g.tale l)
@@ -593,7 +593,7 @@ module _ (may : MayBegin) (says : Says) (writes_on : WritesOn) (begins_there : B
             fine,
           ) onward_closed (λ n. refl) (subst (λ (stage : view.Stage). IsStandingAt stage (on g closed) l) (sym quiet_closed) tt) clients_closed
           (stands.lawful, quiet_was)
-          (are_prepared g closed g.over g.fresh t written stands.clients (λ m. refl) stands.prepared (λ client seated. seated)
+          (are_prepared g closed g.over g.fresh t written stands.clients (λ m. refl) (owns_stay {g = g} {tale = closed} refl) stands.prepared (λ client seated. seated)
           (rows_same t written (λ c. refl))) stands.duly
 
   -- A question begins.
@@ -689,7 +689,7 @@ module _ (may : MayBegin) (says : Says) (writes_on : WritesOn) (begins_there : B
               (same_but t written l server server_now (λ c. refl) there there_now others_now (ap (λ (k : LentLink). name_in k.state.carries) link_asked ∙ ap name_in same_carries)
               wrote_row.left wrote_row.lost) stands.homes;
           lawful = lawful_asked;
-          prepared = are_prepared g tale g.over g.fresh t written stands.clients (λ m. refl) stands.prepared (λ client seated. seated)
+          prepared = are_prepared g tale g.over g.fresh t written stands.clients (λ m. refl) (owns_stay {g = g} {tale = tale} refl) stands.prepared (λ client seated. seated)
               (rows_same t written (λ c. refl));
           duly = stands.duly;
         })
@@ -848,7 +848,7 @@ module _ (may : MayBegin) (says : Says) (writes_on : WritesOn) (begins_there : B
                 (server_on g t tables l tale_sent (onward_statement g l wire_asked name due life not_sent apart_sent) reads_on other apart (t.links other) (stands.servers other)));
             homes = homes_now;
             lawful = lawful_as statement so.is;
-            prepared = are_prepared g tale_sent g.over g.fresh t tables stands.clients (λ m. refl) stands.prepared (λ client seated. seated)
+            prepared = are_prepared g tale_sent g.over g.fresh t tables stands.clients (λ m. refl) (owns_stay {g = g} {tale = tale_sent} refl) stands.prepared (λ client seated. seated)
                 (rows_changed t tables name.client goes_out (λ r. refl) made);
             duly = stands.duly;
           })
@@ -954,7 +954,7 @@ module _ (may : MayBegin) (says : Says) (writes_on : WritesOn) (begins_there : B
                 }) other apart (t.links other) (stands.servers other)));
             homes = lent_homes;
             lawful = lawful_as prep so.is;
-            prepared = are_prepared g tale_lent g.over g.fresh t lent_tables stands.clients (λ m. refl) stands.prepared (λ client seated. seated)
+            prepared = are_prepared g tale_lent g.over g.fresh t lent_tables stands.clients (λ m. refl) (owns_stay {g = g} {tale = tale_lent} refl) stands.prepared (λ client seated. seated)
                 (rows_changed t lent_tables name.client lends (λ r. refl) (λ c. refl));
             duly = stands.duly;
           })

@@ -79,7 +79,7 @@ module _ (takes : TakesNext) (readied : StatesReadied) (form_away : TakenAway fo
   other = without_packets (formless work)
 
   same : SameWork work other
-  same = record { ordinal = refl; hostgroup = refl; sent = refl; command = refl }
+  same = record { ordinal = refl; key = refl; hostgroup = refl; sent = refl; command = refl }
 
   desk_handed : (c : tales.Client) → IsDesk g.setup.reads (view_on g) c.number client.desk → IsDesk g.setup.reads (view_on g) c.number (record client.desk { work = Some other })
   desk_handed c is =

@@ -1,14 +1,14 @@
 -- Which messages a client's turns took up, who it was, and how it stood.
 use Rattle.std.specs.Option.{option_map_or}
-use Rattle.std.specs.Prelude.{◌≡◌, ◌<◌, ℕ, suc, true, is_some, slice_get, take, List, [], ◌∷◌, Option, Some, None}
+use Rattle.std.specs.Prelude.{◌≡◌, ◌<◌, ◌≤◌, ℕ, suc, true, is_some, slice_get, take, List, [], ◌∷◌, Option, Some, None}
 use Rattle.mx_base.specs.declared.names.ClientNo.{ClientNo}
 use Rattle.packet_frame.specs.Packets.{Framed}
 use Rattle.server_side.specs.Account.{Account}
 use Rattle.private_model.specs.Names.{Hostgroup, MessageName}
 use Rattle.private_model.specs.View.{Setup, present}
 use Rattle.log_story.specs.Executes.{Prepared, prepared_by}
-use Rattle.log_story.specs.Owed.{messages}
-use Rattle.log_story.specs.Plan.{Plan}
+use Rattle.log_story.specs.Owed.{messages, name_of}
+use Rattle.log_story.specs.Plan.{Plan, own_at}
 use Rattle.log_story.specs.Tale.{Tale, view_of}
 use Rattle.client_session.specs.Setups.{Setup as Service}
 use Rattle.client_seat.specs.Numbers.{Numbered, number_in}
@@ -44,7 +44,8 @@ abbrev pub known_at : Setup → Plan → Tale → Known
 known_at setup plan tale = record { plan = plan; view = view_of setup tale; moment = tale.moment }
 
 -- The message is that which came up at the turn, and its client is served as this user. By what is known just before it is taken up the client
--- stands there, these are its sessions, and it has prepared what stands under its numbers, which is all that it knows, and nothing under a greater one.
+-- stands there, these are its sessions, and it has prepared what stands under its numbers, which is all that it knows, and nothing under a greater one;
+-- and what the router answered itself no server answered.
 pub record IsFoundIn (c : ClientNo) (desk : Desk) (up : Framed) (setup : Setup) (plan : Plan) (taking : Taking) (message : Option Framed) : Type 0 where
   pub message_is : message ≡ Some up
   pub port : taking.client.port ≡ desk.seat.port
@@ -59,6 +60,9 @@ pub record IsFoundIn (c : ClientNo) (desk : Desk) (up : Framed) (setup : Setup) 
   pub known : (number : ℕ) (made : Prepared) → 0 < number
       → known_statement (view_of setup taking.tale) plan taking.client number (suc taking.client.taken) ≡ Some made
       → is_some (number_in desk.seat.statements number) ≡ true
+  pub unserved : (ordinal : ℕ) → 0 < ordinal → ordinal ≤ taking.client.taken
+      → is_some (own_at plan taking.tale.moment (name_of taking.client ordinal)) ≡ true
+      → (view_of setup taking.tale).replies (name_of taking.client ordinal) ≡ None
 
 abbrev pub IsFoundAt : (choice : Choice) → (service : Service) → (default : List ℕ) → (c : ClientNo) → (old new : Tabled)
     → IsTurn choice service default c old new → Setup → Plan → Taking → Option Framed → Type 0

@@ -58,7 +58,7 @@ use Rattle.router_laws.specs.clients.Behind.{IsDueBehind, IsEntered}
 use Rattle.router_laws.specs.clients.Parts.{PartsSo}
 use Rattle.router_laws.specs.clients.Plans.{IsDecided, nobody}
 use Rattle.router_laws.specs.clients.Speaks.{IsLinkOf}
-use Rattle.core_laws.proofs.OfPrepared.Rows.{are_prepared, rows_same}
+use Rattle.core_laws.proofs.OfPrepared.Rows.{are_prepared, owns_stay, rows_same}
 
 abbrev pub Homing : Type 0
 Homing = (g : Ground) (t : Tabled) (service : Service) → Stands service g t → AreHomed (view_on g).links (view_on g).held
@@ -214,7 +214,7 @@ module _ (service : Service) (g : Ground) (t now : Tabled) (link : LinkId) (c : 
     servers = λ l. servers l (now.links l) (gone.servers l) (λ other named. absurd (none-some other named)) (spares_row l (now.links l) refl);
     homes = record { carried = gone.homes.carried; home = gone.homes.home };
     lawful = (gone.lawful, tt);
-    prepared = are_prepared g left g.over g.fresh now now gone.clients (λ m. refl) gone.prepared (λ client seated. seated) (rows_same now now (λ n. refl));
+    prepared = are_prepared g left g.over g.fresh now now gone.clients (λ m. refl) (owns_stay {g = g} {tale = left} refl) gone.prepared (λ client seated. seated) (rows_same now now (λ n. refl));
     duly = gone.duly;
   })
 

@@ -1,5 +1,5 @@
 -- What was found of a client's messages among some takings is so among others that cover these.
-use Rattle.std.specs.Prelude.{◌≡◌, ◌<◌, ℕ, suc, Bool, true, is_some, length, slice_get, take, List, [], ◌∷◌, Option, Some, None}
+use Rattle.std.specs.Prelude.{◌≡◌, ◌<◌, ◌≤◌, ℕ, suc, Bool, true, is_some, length, slice_get, take, List, [], ◌∷◌, Option, Some, None}
 use Rattle.std.proofs.Common.{refl, sym, ap, ◌∙◌, subst}
 use Rattle.mx_wire.specs.declared.entry.Entry.{Entry}
 use Rattle.packet_frame.specs.Packets.{Framed}
@@ -9,7 +9,7 @@ use Rattle.private_model.specs.Names.{ClientNo, MessageName}
 use Rattle.private_model.specs.View.{Setup}
 use Rattle.log_story.specs.Executes.{Prepared, prepared_by}
 use Rattle.log_story.specs.Owed.{messages, name_of}
-use Rattle.log_story.specs.Plan.{Plan, Route}
+use Rattle.log_story.specs.Plan.{Plan, Route, own_at}
 use Rattle.client_seat.specs.Numbers.{Numbered, number_in}
 use Rattle.client_seat.specs.Stands.{IsNumbered, Known}
 use Rattle.core_laws.proofs.OfPrepared.Knowing.{same_prepared, statement_same}
@@ -70,6 +70,12 @@ module _ (setup : Setup) (plan : Plan) (c : ClientNo) where
         → known_statement (view_of setup new.tale) plan x number (suc x.taken) ≡ Some made → is_some (number_in desk.seat.statements number) ≡ true) (sym client)
         (λ number made some is.
         found.known number made some (sym (statement_same (view_of setup old.tale) (view_of setup new.tale) plan old.client number seen.replies) ∙ is));
+    unserved =
+        subst (λ (x : tales.Client). (ordinal : ℕ) → 0 < ordinal → ordinal ≤ x.taken
+        → is_some (own_at plan new.tale.moment (name_of x ordinal)) ≡ true → (view_of setup new.tale).replies (name_of x ordinal) ≡ None) (sym client)
+        (λ k some below own.
+        ap (λ (r : MessageName → Option Reply). r (name_of old.client k)) seen.replies
+        ∙ found.unserved k some below (ap (λ (n : ℕ). is_some (own_at plan n (name_of old.client k))) (sym seen.moment) ∙ own));
   }
 
   seen_at : (choice : Choice) (service : Service) (default : List ℕ) (before after : Tabled) (turn : IsTurn choice service default c before after)

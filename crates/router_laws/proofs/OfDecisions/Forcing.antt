@@ -66,4 +66,6 @@ loads service texts log t roomy loaded router came new = record {
   spoken = router.spoken;
   waited = router.waited;
   judged = router.judged;
+  held = router.held;
+  caused = router.caused;
 }

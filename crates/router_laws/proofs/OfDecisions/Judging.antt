@@ -209,6 +209,7 @@ judges_none service log e d n deeds none ungiven setup codes plan of fits = reco
       judged_none (book_of service) setup plan client (takings_at setup plan (tale_of setup plan log) e) (n.taken client.number) (deeds.calls client.number)
       (deeds.halts client.number) (none client.number);
   gives = none_sent plan (tale_of setup plan log) deeds.given ungiven;
+  why = λ c payload is. none_some (deeds.given c) payload (ungiven c) is;
 }
 
 none_either : (b : Bool) → taken_by (if b then [] else []) (if b then Rests else Rests) ≡ 0
@@ -231,6 +232,7 @@ pub judges_taking : (service : Service) (log : Log) (e : Entry) (d : Decided) (n
 judges_taking service log e d n c choices halt last judged setup codes plan of fits = record {
   takes = λ client seated. by client seated (nat_eq c.0 client.number.0) refl;
   gives = none_sent plan (tale_of setup plan log) (λ x. None) (λ x. refl);
+  why = λ x payload is. none_some None payload refl is;
 } where
   by : (client : Client) → IsSeated (tale_of setup plan (with_entry log e)) client → (b : Bool) → nat_eq c.0 client.number.0 ≡ b
       → JudgedFrom (book_of service) setup plan client (takings_at setup plan (tale_of setup plan log) e) (n.taken client.number) (if b then choices else [])

@@ -1,5 +1,5 @@
 -- The core goes on with an entry by its deeds.
-use Rattle.std.specs.Prelude.{true, false, ◌≡◌, ◌<◌, ℕ, zero, suc, Bool, All, length, take, List, [], Option, Some, None}
+use Rattle.std.specs.Prelude.{true, false, ◌≡◌, ◌<◌, ℕ, zero, suc, Bool, All, is_some, length, take, List, [], Option, Some, None}
 use Rattle.std.proofs.Common.{inl, refl, sym, ◌∙◌, subst, arith}
 use Rattle.std.proofs.lemmas.List.Elements.{All-nil, All-weaker}
 use Rattle.mx_wire.specs.Log.{Log}
@@ -28,6 +28,8 @@ use Rattle.core_laws.specs.entry.Dues.{AreWrittenTo, IsWrittenTo}
 use Rattle.core_laws.specs.entry.Grows.{IsHeardMore, IsMoreBy}
 use Rattle.core_laws.specs.entry.Safe.{IsSafe}
 use Rattle.core_laws.specs.entry.Tells.{Fits, IsOf, ground}
+use Rattle.router_laws.proofs.OfDecisions.Causing.{caused_then}
+use Rattle.router_laws.proofs.OfDecisions.Held.{held_then}
 use Rattle.router_laws.proofs.OfDecisions.Judging.{judged_then}
 use Rattle.router_laws.proofs.OfDecisions.Fates.{false_true, none_some}
 use Rattle.router_laws.proofs.OfDecisions.Gathering.{plans_so}
@@ -37,7 +39,9 @@ use Rattle.core_promises.specs.Ruled.{book_of}
 use Rattle.router_promises.specs.Terms.{plan_in, setup_in}
 use Rattle.core_promises.specs.Waits.{AreDoneBy, WaitsSo}
 use Rattle.router_laws.proofs.OfDecisions.Speaking.{first_spoken, ours_alone, spoken_then}
+use Rattle.core_promises.specs.Causes.{AreCaused, CausedBy}
 use Rattle.core_promises.specs.Judges.{AreJudged, JudgesBy}
+use Rattle.router_laws.specs.decisions.Held.{AreHeldBy, IsHeld}
 use Rattle.router_laws.specs.decisions.Judges.{JudgesThen}
 use Rattle.router_laws.proofs.OfDecisions.Forcing.{forced_then, unloaded_rules}
 use Rattle.router_laws.specs.decisions.Force.{rules_then}
@@ -120,6 +124,21 @@ module _ {texts : Texts} (service : Service) (log : Log) (e : Entry) (deeds : De
       judged_then service log e router.core.decided router.counts deeds router.recorded router.rules setup plan of (router.counted setup codes plan then fitted)
       (counts_now setup codes plan of fits) (router.judged setup codes plan then fitted) (judges setup codes plan of fits)
 
+  held_now : AreHeldBy texts service.default_schema new (with_entry log e)
+  held_now setup codes plan of fits =
+      let then : IsOf router.core.decided (length log) plan = of_then setup codes plan of fits in
+      let fitted : Fits router.core.decided.keys setup codes plan service.default_schema (tale_of setup plan log) = fits_then setup codes plan of fits in
+      held_then (rules_in service) texts service.setup log e router.core.decided router.counts deeds t now roomy room router.recorded ours setup codes
+      plan of (router.counted setup codes plan then fitted) (counts_now setup codes plan of fits) (rests_then setup codes plan of fits)
+      (rests_now setup codes plan of fits) (router.held setup codes plan then fitted)
+
+  caused_now : CausedBy service.wait_ms service.default_schema new (with_entry log e)
+  caused_now setup codes plan of fits =
+      let then : IsOf router.core.decided (length log) plan = of_then setup codes plan of fits in
+      let fitted : Fits router.core.decided.keys setup codes plan service.default_schema (tale_of setup plan log) = fits_then setup codes plan of fits in
+      caused_then service.wait_ms log e router.core.decided router.counts deeds router.recorded setup plan of (router.counted setup codes plan then fitted)
+      (counts_now setup codes plan of fits) (router.caused setup codes plan then fitted) (judges setup codes plan of fits).why
+
   pub router_goes_on : AreOpenJust (with_entry log e) now → IsRouter service texts (with_entry log e) now room
   router_goes_on open_just = record {
     core = record { decided = new; rests = rests_now; safe = safe_now; written = written_now; opened = λ l there. sym (open_just l) ∙ there };
@@ -134,6 +153,8 @@ module _ {texts : Texts} (service : Service) (log : Log) (e : Entry) (deeds : De
     spoken = spoken_then (rules_in service) texts router.core.decided router.counts log e deeds router.recorded router.rules router.spoken ours;
     waited = waited_now;
     judged = judged_now;
+    held = held_now;
+    caused = caused_now;
   }
 
 module _ {texts : Texts} (service : Service) (log : Log) (e : Entry) (t : Tabled) (roomy : ClientNo → Bool) (deeds : Deeds) (setup : Setup)
@@ -182,6 +203,8 @@ changed service log t now roomy room router rests open_just = record {
   spoken = router.spoken;
   waited = router.waited;
   judged = router.judged;
+  held = router.held;
+  caused = router.caused;
 }
 
 roomier : (service : Serving) (g : Ground) (t : Tabled) (roomy room : ClientNo → Bool) → ((c : ClientNo) → roomy c ≡ true → room c ≡ true)
@@ -250,4 +273,7 @@ router_of_none service texts roomy unloaded none stands = record {
   spoken = first_spoken (λ name. rules_in service) service.setup;
   waited = λ terms codes of fits. tt;
   judged = λ setup codes plan of fits. All-nil (AreJudged (book_of service) (λ name. rules_in service) setup plan []);
+  held = λ setup codes plan of fits.
+      All-nil (λ (client : Client). is_some ((first_deciding service.setup).ends client.number) ≡ false → IsHeld (key_at texts) setup plan (tale_of setup plan []) client);
+  caused = λ setup codes plan of fits. All-nil (AreCaused service.wait_ms setup plan []);
 }

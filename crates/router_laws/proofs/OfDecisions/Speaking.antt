@@ -178,7 +178,7 @@ module _ (rules : List Rule) (texts : Texts) (d : Decided) (n : Counts) (log : L
 
 -- of those that came
 
-among_ours : (rules : List Rule) (texts : Texts) (known : ℕ) (deeds : Deeds) → AreOurs rules texts deeds → AreOurs rules texts (among known deeds)
+pub among_ours : (rules : List Rule) (texts : Texts) (known : ℕ) (deeds : Deeds) → AreOurs rules texts deeds → AreOurs rules texts (among known deeds)
 among_ours rules texts known deeds ours = record {
   calls = λ c. calls_by c (nat_le c.0 known);
   given = λ c payload is. given_by c payload (nat_le c.0 known) is;

@@ -54,7 +54,7 @@ use Rattle.router_laws.proofs.OfLinks.Closings.{gone_tale}
 use Rattle.router_laws.proofs.OfLinks.Giving.{given_aside, given_up_with}
 use Rattle.router_laws.proofs.OfLinks.Leaving.{losing_so, present_row}
 use Rattle.router_laws.proofs.OfLinks.Rowing.{gone_undone}
-use Rattle.router_laws.proofs.OfLinks.Supposing.{row_alike, stands_alike}
+use Rattle.router_laws.proofs.OfLinks.Supposing.{OwnsAlike, row_alike, stands_alike}
 use Rattle.router_laws.specs.clients.Speaks.{IsLinkOf}
 use Rattle.router_laws.proofs.OfReading.Unsound.{lent_there}
 use Rattle.router_laws.specs.links.Loses.{GoesWithIt, IsGivenUpWith, LosesEnded}
@@ -160,7 +160,7 @@ module _ (laws : Laws) (service : Service) (g : Ground) (t now : Tabled) (roomy 
 
   stands_h : Stands service h t
   stands_h =
-      stands_alike g (own g m) service t rests.stands
+      stands_alike g (own g m) service t rests.stands (λ x at row there going ordinal below. now_same (name_of x ordinal))
       (λ x at was. row_alike g (own g m) x (λ ordinal below. now_same (name_of x ordinal)) (t.clients x.number) was)
 
   abbrev up : GivenUp
@@ -408,7 +408,16 @@ module _ (laws : Laws) (service : Service) (g : Ground) (t now : Tabled) (roomy 
         (so.parted.clients x.number) was
 
   pub parted_stands : Stands service (ending c (on g left)) so.parted
-  parted_stands = stands_alike (ending c (on h left)) g.plan.own service so.parted parted_h rows_last
+  parted_stands = stands_alike (ending c (on h left)) g.plan.own service so.parted parted_h owns_last rows_last where
+    -- its own row ended
+    owns_last : (x : tales.Client) → IsSeated g.tale x → (row : Client) → so.parted.clients x.number ≡ Some row → is_ended row.desk.seat.phase ≡ false
+        → OwnsAlike (ending c (on h left)) g.plan.own x
+    owns_last x at row there going = by (is_client c x.number) refl where
+      by : (b : Bool) → is_client c x.number ≡ b → OwnsAlike (ending c (on h left)) g.plan.own x
+      by true same =
+          let one : row_last ≡ row = same_Some row_last row (sym there_last ∙ ap so.parted.clients (client_of c x.number same) ∙ there) in
+          absurd (true≢false (ap (λ (r : Client). is_ended r.desk.seat.phase) one ∙ going))
+      by false apart = λ ordinal below. sym (then_alike g m (name_of x ordinal) (other_message x ordinal apart))
 
   -- Links that carried its other sessions are all that may be given back then.
 

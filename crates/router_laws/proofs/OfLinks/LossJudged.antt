@@ -22,6 +22,7 @@ use Rattle.core_tables.specs.Tables.{Tabled}
 use Rattle.core_stands.specs.Grounds.{Ground}
 use Rattle.core_laws.proofs.OfEntry.Going.{tale_more}
 use Rattle.core_laws.proofs.OfEntry.Lists.{seated_of}
+use Rattle.core_laws.proofs.OfHearing.Elsewhere.{CarriedLaw}
 use Rattle.core_laws.specs.entry.Cores.{with_entry}
 use Rattle.core_laws.specs.entry.Tells.{Fits, IsOf, ground}
 use Rattle.core_laws.specs.clients.Going.{GivenUp, Going}
@@ -32,7 +33,9 @@ use Rattle.router_laws.specs.decisions.Deeds.{decided_with}
 use Rattle.router_laws.specs.decisions.Goings.{deeds_of}
 use Rattle.router_laws.specs.decisions.Routers.{IsBefore, IsRouter}
 use Rattle.router_laws.specs.decisions.Rulings.{IsRuledOn}
+use Rattle.router_laws.proofs.OfDecisions.Causing.{loss_why}
 use Rattle.router_laws.proofs.OfDecisions.JudgedOn.{FollowsJudge}
+use Rattle.router_laws.specs.decisions.Causes.{IsLostFor}
 use Rattle.router_laws.proofs.OfReading.Judged.{one_judged}
 use Rattle.router_laws.specs.reading.Hearing.{TellsSo}
 use Rattle.router_laws.proofs.OfLinks.Breaking.{lost_plain}
@@ -47,7 +50,7 @@ use Rattle.router_laws.specs.decisions.Speaks.{AreGoingOurs}
 use Rattle.core_texts.specs.Texts.{key_at}
 use Rattle.router_laws.proofs.OfDecisions.Speaking.{known_keys}
 
-module _ {texts : Texts} (laws : Laws) (judges : FollowsJudge) (service : Service) (log : Log) (t now : Tabled) (roomy : ClientNo → Bool) (l : LinkId) (how : Break)
+module _ {texts : Texts} (laws : Laws) (judges : FollowsJudge) (carried : CarriedLaw) (service : Service) (log : Log) (t now : Tabled) (roomy : ClientNo → Bool) (l : LinkId) (how : Break)
     (given : Option GivenUp) (router : IsRouter service texts log t roomy) (follow : MayFollow log (entry_by how l)) where
   abbrev e : Entry
   e = entry_by how l
@@ -116,13 +119,17 @@ module _ {texts : Texts} (laws : Laws) (judges : FollowsJudge) (service : Servic
 
   pub loses_judge : (going : Option Going) (so : LosesSo service.setup service.default_schema l given going t now)
       → AreGoingOurs (rules_in service) texts going → TellsSo going service.setup
-      → IsRuledOn ruling going service.setup service.default_schema so.lost now so.goes
+      → IsRuledOn ruling going service.setup service.default_schema so.lost now so.goes → IsLostFor l t given
       → JudgesThen service log e router.core.decided router.counts (deeds_of given going)
-  loses_judge None so ours tells ruled = λ setup codes plan of fits. record {
+  loses_judge None so ours tells ruled why = λ setup codes plan of fits. record {
     takes = λ y seated. tt;
     gives = onward.sent laws service log t now roomy l how given None router follow so ours tells setup codes plan of fits;
+    why = loss_why carried service.wait_ms setup codes plan router.core.decided log t l so.server so.there
+        ((onward.before laws service log t now roomy l how given None router follow so ours tells setup codes plan of fits).rests.stands.servers l) how given why;
   }
-  loses_judge (Some it) so ours tells ruled = λ setup codes plan of fits. record {
+  loses_judge (Some it) so ours tells ruled why = λ setup codes plan of fits. record {
     takes = λ y seated. one_judges it so ours tells ruled setup codes plan of fits y seated;
     gives = onward.sent laws service log t now roomy l how given (Some it) router follow so ours tells setup codes plan of fits;
+    why = loss_why carried service.wait_ms setup codes plan router.core.decided log t l so.server so.there
+        ((onward.before laws service log t now roomy l how given (Some it) router follow so ours tells setup codes plan of fits).rests.stands.servers l) how given why;
   }

@@ -89,6 +89,7 @@ module _ (g : Ground) (own : MessageName → Option OwnAnswer) where
       number = is.number;
       only = is.only;
       prepares = is.prepares;
+      keyed = is.keyed;
       first = is.first;
       unsent = is.unsent;
       there = is.there;
@@ -241,8 +242,8 @@ module _ (g : Ground) (own : MessageName → Option OwnAnswer) where
       ap (option_or (prepared_in number i message.payload (g.plan.routes (name_of client i)) (view.replies (name_of client i))))
       (made_alike view client number (suc i) others)
 
-  prepared_alike : (client : tales.Client) (row : Client) → IsPrepared g client row → IsPrepared supposed client row
-  prepared_alike client row is = record {
+  prepared_alike : (client : tales.Client) (row : Client) → OwnsAlike client → IsPrepared g client row → IsPrepared supposed client row
+  prepared_alike client row alike is = record {
     each = λ number one at.
         let was = is.each number one at in
         record {
@@ -263,6 +264,7 @@ module _ (g : Ground) (own : MessageName → Option OwnAnswer) where
         is.known number made some (sym (made_alike (view_on g) client number 1 (take (client.taken - 1) (messages g.plan client))) ∙ has) kept;
     stands = λ answered number made some has kept.
         is.stands answered number made some (sym (made_alike (view_on g) client number 1 (take client.taken (messages g.plan client))) ∙ has) kept;
+    unserved = λ ordinal some below mine. is.unserved ordinal some below (ap is_some (sym (alike ordinal below)) ∙ mine);
   }
 
   duly_alike : AreDuly g.setup g.plan g.tale.story → AreDuly g.setup supposed.plan g.tale.story
@@ -270,8 +272,9 @@ module _ (g : Ground) (own : MessageName → Option OwnAnswer) where
       became_so g.setup (IsDuly g.setup g.plan) (IsDuly g.setup supposed.plan)
       (λ n due is. record { route = is.route; routed = is.routed; hostgroup = is.hostgroup; multiplex = is.multiplex; keyed = is.keyed; whole = is.whole }) g.tale.story
 
-  -- All of it, where each client stands alike.
+  -- All of it, where each client stands alike, and of those who go on the same is answered.
   module _ (service : Service) (t : Tabled) (stands : Stands service g t)
+      (owns : (x : tales.Client) → IsSeated g.tale x → (row : Client) → t.clients x.number ≡ Some row → is_ended row.desk.seat.phase ≡ false → OwnsAlike x)
       (rows : (x : tales.Client) → IsSeated g.tale x → IsClientOr g x (t.clients x.number) → IsClientOr supposed x (t.clients x.number)) where
     at_alike : (x : tales.Client) → IsSeated g.tale x → IsAt g t x → IsAt supposed t x
     at_alike x seated is = record { row = rows x seated is.row; found = is.found; aside = is.aside; alone = is.alone }
@@ -295,6 +298,7 @@ module _ (g : Ground) (own : MessageName → Option OwnAnswer) where
       servers = λ l. server_alike t l service stands;
       homes = record { carried = stands.homes.carried; home = stands.homes.home };
       lawful = stands.lawful;
-      prepared = λ client seated row there going. prepared_alike client row (stands.prepared client seated row there going);
+      prepared = λ client seated row there going.
+          prepared_alike client row (owns client seated row there going) (stands.prepared client seated row there going);
       duly = duly_alike stands.duly;
     }

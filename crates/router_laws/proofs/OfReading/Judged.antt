@@ -26,6 +26,7 @@ use Rattle.core_tables.specs.Tables.{Tabled}
 use Rattle.core_stands.specs.Grounds.{Ground}
 use Rattle.core_laws.proofs.OfEntry.Going.{tale_more}
 use Rattle.core_laws.proofs.OfEntry.Lists.{seated_of}
+use Rattle.core_laws.proofs.OfHearing.Elsewhere.{CarriedLaw}
 use Rattle.core_laws.specs.entry.Cores.{with_entry}
 use Rattle.core_laws.specs.entry.Tells.{Fits, IsOf, ground}
 use Rattle.core_laws.specs.clients.Going.{GivenUp, Going}
@@ -37,7 +38,9 @@ use Rattle.router_laws.specs.decisions.Deeds.{decided_with}
 use Rattle.router_laws.specs.decisions.Goings.{deeds_of}
 use Rattle.router_laws.specs.decisions.Routers.{IsBefore, IsRouter}
 use Rattle.router_laws.specs.decisions.Rulings.{IsRuledOn}
+use Rattle.router_laws.proofs.OfDecisions.Causing.{heard_why}
 use Rattle.router_laws.proofs.OfDecisions.JudgedOn.{FollowsJudge, judged_on}
+use Rattle.router_laws.specs.decisions.Causes.{IsHeardFor}
 use Rattle.router_laws.proofs.OfReading.Hearing as hearing
 use Rattle.router_laws.proofs.OfReading.Onward as onward
 use Rattle.router_laws.proofs.OfReading.Onward.{Laws}
@@ -79,7 +82,7 @@ module _ (book : Rulebook) (setup : Setup) (plan : Plan) (tale : Tale) (e : Entr
       → Judged y ((deeds_of given (Some it)).calls y.number) ((deeds_of given (Some it)).halts y.number)
   one_judged y was seated_was on unread = one_by y was seated_was on unread (is_client it.client y.number) refl
 
-module _ {texts : Texts} (laws : Laws) (judges : FollowsJudge) (service : Service) (log : Log) (t now : Tabled) (roomy : ClientNo → Bool) (l : LinkId) (bytes : List ℕ)
+module _ {texts : Texts} (laws : Laws) (judges : FollowsJudge) (carried : CarriedLaw) (service : Service) (log : Log) (t now : Tabled) (roomy : ClientNo → Bool) (l : LinkId) (bytes : List ℕ)
     (clock : ℕ) (given : Option GivenUp) (router : IsRouter service texts log t roomy) (follow : MayFollow log (entry.Got l bytes))
     (bytes_are : AreBytes bytes) where
   abbrev e : Entry
@@ -148,12 +151,18 @@ module _ {texts : Texts} (laws : Laws) (judges : FollowsJudge) (service : Servic
 
   pub hears_judge : (going : Option Going) (so : HearsSo service.setup service.default_schema l bytes clock given going t now)
       → AreGoingOurs (rules_in service) texts going → IsRuledOn ruling going service.setup service.default_schema so.freed now so.goes
-      → JudgesThen service log e router.core.decided router.counts (deeds_of given going)
-  hears_judge None so ours ruled = λ setup codes plan of fits. record {
+      → IsHeardFor l t given → JudgesThen service log e router.core.decided router.counts (deeds_of given going)
+  hears_judge None so ours ruled why = λ setup codes plan of fits. record {
     takes = λ y seated. tt;
     gives = onward.sent laws service log t now roomy l bytes clock given None router follow bytes_are so ours setup codes plan of fits;
+    why = heard_why carried service.wait_ms setup codes plan router.core.decided log t l so.server so.there
+        ((onward.before laws service log t now roomy l bytes clock given None router follow bytes_are so ours setup codes plan of fits).rests.stands.servers l)
+        bytes given why;
   }
-  hears_judge (Some it) so ours ruled = λ setup codes plan of fits. record {
+  hears_judge (Some it) so ours ruled why = λ setup codes plan of fits. record {
     takes = λ y seated. one_judges it so ours ruled setup codes plan of fits y seated;
     gives = onward.sent laws service log t now roomy l bytes clock given (Some it) router follow bytes_are so ours setup codes plan of fits;
+    why = heard_why carried service.wait_ms setup codes plan router.core.decided log t l so.server so.there
+        ((onward.before laws service log t now roomy l bytes clock given (Some it) router follow bytes_are so ours setup codes plan of fits).rests.stands.servers l)
+        bytes given why;
   }

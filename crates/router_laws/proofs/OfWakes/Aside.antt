@@ -36,7 +36,7 @@ use Rattle.core_stands.specs.Servers.{IsNextFor, IsNextOf, IsNextStatement, IsRe
 use Rattle.core_stands.specs.Stands.{AreHomes, IsAt, Stands}
 use Rattle.core_laws.proofs.OfParting.Freeing.{glanced_or}
 use Rattle.core_laws.specs.parting.Frames.{KeepsOr, glance}
-use Rattle.core_laws.proofs.OfPrepared.Rows.{are_prepared, row_seated}
+use Rattle.core_laws.proofs.OfPrepared.Rows.{are_prepared, owns_stay, row_seated}
 
 -- A client's row with another note.
 
@@ -52,6 +52,7 @@ module _ (g : Ground) (client : tales.Client) (row : Client) (note : ClientNote)
     number = is.number;
     only = is.only;
     prepares = is.prepares;
+    keyed = is.keyed;
     first = is.first;
     unsent = is.unsent;
     there = is.there;
@@ -302,7 +303,7 @@ module _ (g : Ground) (t now : Tabled) (aside : IsAside t now) where
     servers = λ l. servers_aside stay l (is.servers l);
     homes = homes_aside is.homes;
     lawful = is.lawful;
-    prepared = are_prepared g g.tale g.over g.fresh t now is.clients (λ m. refl) is.prepared (λ client seated. seated)
+    prepared = are_prepared g g.tale g.over g.fresh t now is.clients (λ m. refl) (owns_stay {g = g} {tale = g.tale} refl) is.prepared (λ client seated. seated)
         (λ c row there going.
         let old = before_client (t.clients c) (now.clients c) (aside.clients c) row there in
         row_seated t c old.row row old.there (ap (λ (desk : Desk). desk.seat) (sym old.same)) going);

@@ -45,6 +45,7 @@ use Rattle.core_laws.proofs.OfClients.Keeping.{keeps_all_freed, keeps_along, kee
 use Rattle.core_laws.specs.clients.Chosen.{PlanHas}
 use Rattle.core_laws.specs.clients.Keeps.{KeepsRows}
 use Rattle.core_laws.specs.clients.Turns.{Rests as Resting, count_by}
+use Rattle.core_promises.specs.Causes.{IsCause}
 use Rattle.router_laws.proofs.OfClients.Continuing.{all_were}
 use Rattle.router_laws.proofs.OfClients.Duing.{moment_more, written_with}
 use Rattle.router_laws.proofs.OfClients.Entering.{heard_always, off_gets, off_spoken}
@@ -164,6 +165,7 @@ module _ {texts : Texts} (service : Service) (knows : Knows service.setup) (log 
     (may : MayFollow log e) (gives : GivesUpAll given t mid) (theirs : (c : ClientNo) → is_given given c ≡ true → is_called callers c ≡ true)
     (so_calls : CallsSo service.setup service.default_schema callers links mid now) (given_ours : All IsGivenOurs given)
     (ours : All (IsCallerOurs (rules_in service) texts) callers) (waits : WaitsThen service log e router.core.decided) (judges : TurnsJudge)
+    (caused : (setup : Setup) (plan : Plan) (c : ClientNo) (payload : List ℕ) → payload_in given c ≡ Some payload → IsCause service.wait_ms setup plan log e c payload)
     (ruled : AreRuledAll (ruling_of service (key_at texts)) callers service.setup service.default_schema mid so_calls.turned so_calls.going)
     (tells : All (λ (k : Caller). TellsFor k.parting service.setup k.client) callers)
     (called_so : (g : Ground) → Rests service.setup g t roomy → PlansSo g log e (calls_deeds given callers) → AreCalled g e (is_called callers) roomy room) where
@@ -473,6 +475,7 @@ module _ {texts : Texts} (service : Service) (knows : Knows service.setup) (log 
     judged_so = record {
       takes = judges_of;
       gives = all_sent service.setup g t given_of (λ (l : LinkId). false) stood.rests.stands given_up;
+      why = caused setup plan;
     }
 
   judges_then : JudgesThen service log e d router.counts made

@@ -39,7 +39,7 @@ use Rattle.core_laws.proofs.OfParting.Grounds.{parted_after, taken_after}
 use Rattle.core_laws.proofs.OfParting.Moving.{stands_moved}
 use Rattle.core_laws.proofs.OfParting.Owing.{owing_alike}
 use Rattle.core_laws.proofs.OfParting.Standing.{stand_so, standing_at}
-use Rattle.core_laws.proofs.OfPrepared.Rows.{are_prepared, rows_same}
+use Rattle.core_laws.proofs.OfPrepared.Rows.{are_prepared, owns_stay, rows_same}
 
 -- By another story, of which the same is known.
 
@@ -64,6 +64,7 @@ module _ (g : Ground) (told : story.Story) (same : view_on g ≡ view_on (on g (
       number = is.number;
       only = is.only;
       prepares = is.prepares;
+      keyed = is.keyed;
       first = is.first;
       unsent = is.unsent;
       there = λ sent. is.there sent ∙ ap (λ (v : View). v.carriers (name_of client work.ordinal)) same;
@@ -194,7 +195,7 @@ module _ (g : Ground) (told : story.Story) (same : view_on g ≡ view_on (on g (
     servers = λ l. server_by t l lawful (is_to_server g.tale l) (t.links l) (is.servers l);
     homes = record { carried = is.homes.carried; home = is.homes.home };
     lawful = lawful;
-    prepared = are_prepared g after.tale g.over g.fresh t t is.clients (λ m. sym (ap (λ (v : View). v.replies m) same)) is.prepared (λ client seated. seated)
+    prepared = are_prepared g after.tale g.over g.fresh t t is.clients (λ m. sym (ap (λ (v : View). v.replies m) same)) (owns_stay {g = g} {tale = after.tale} refl) is.prepared (λ client seated. seated)
         (rows_same t t (λ c. refl));
     duly = duly;
   })

@@ -296,4 +296,6 @@ router_settled laws service texts log t now roomy router by = record {
   spoken = router.spoken;
   waited = router.waited;
   judged = router.judged;
+  held = router.held;
+  caused = router.caused;
 }

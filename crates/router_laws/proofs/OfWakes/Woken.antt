@@ -31,6 +31,11 @@ use Rattle.core_stands.specs.Stands.{IsAt, IsCalm, Rests}
 use Rattle.core_laws.specs.entry.Cores.{with_entry}
 use Rattle.core_laws.specs.clients.Going.{GivenUp}
 use Rattle.core_promises.specs.Ruled.{ruling_of}
+use Rattle.client_session.specs.Errors.{connection_refused}
+use Rattle.core_promises.specs.Causes.{IsLateCause}
+use Rattle.core_promises.specs.InForce.{has_administrator}
+use Rattle.router_laws.proofs.OfDecisions.Causing.{all_why}
+use Rattle.router_laws.specs.decisions.Causes.{AreLate, AreRefused}
 use Rattle.router_laws.specs.decisions.Plans.{HasDeeds, PlansSo}
 use Rattle.router_laws.specs.decisions.Routers.{IsRouter, WaitsThen}
 use Rattle.router_laws.specs.decisions.Rulings.{AreRuledAll}
@@ -157,12 +162,14 @@ module _ (service : Service) (given : List GivenUp) (callers : List Caller) (lin
     }
 
   pub woke_router : {texts : Texts} → Knows service.setup → (router : IsRouter service texts log t roomy) → MayFollow log e → All IsGivenOurs given
+      → AreLate service.wait_ms now_ms (has_administrator log) given
       → All (IsCallerOurs (rules_in service) texts) callers → WaitsThen service log e router.core.decided → TurnsJudge
       → AreRuledAll (ruling_of service (key_at texts)) callers service.setup service.default_schema wakes.late wakes.calls.turned wakes.calls.going
       → All (λ (k : Caller). TellsFor k.parting service.setup k.client) callers → IsRouter service texts (with_entry log e) now room
-  woke_router knows router may given_ours ours waits judges ruled tells =
+  woke_router knows router may given_ours late ours waits judges ruled tells =
       calls_router service knows log e (woke_tells until_ms now_ms) t wakes.late now roomy room given callers links router may wakes.gives wakes.all_given
-      wakes.calls given_ours ours waits judges ruled tells woke_called
+      wakes.calls given_ours ours waits judges
+      (λ setup plan c payload is. all_why (IsLateCause service.wait_ms now_ms (has_administrator log)) given late c payload is) ruled tells woke_called
 
 -- An open that failed.
 
@@ -204,10 +211,11 @@ module _ (service : Service) (given : List GivenUp) (callers : List Caller) (lin
       rooms = λ i x within. λ other going none. none;
     }
 
-  pub fails_router : {texts : Texts} → Knows service.setup → IsRouter service texts log t roomy → MayFollow log failed → All IsGivenOurs given
+  pub fails_router : {texts : Texts} → Knows service.setup → IsRouter service texts log t roomy → MayFollow log failed → All IsGivenOurs given → AreRefused given
       → All (IsCallerOurs (rules_in service) texts) callers → TurnsJudge
       → AreRuledAll (ruling_of service (key_at texts)) callers service.setup service.default_schema fails.late fails.calls.turned fails.calls.going
       → All (λ (k : Caller). TellsFor k.parting service.setup k.client) callers → IsRouter service texts (with_entry log failed) now roomy
-  fails_router knows router may given_ours ours judges ruled tells =
+  fails_router knows router may given_ours refused ours judges ruled tells =
       calls_router service knows log failed (fails_tells server address) t fails.late now roomy roomy given callers links router may fails.gives
-      fails.all_given fails.calls given_ours ours (λ terms codes of fits. tt) judges ruled tells fails_called
+      fails.all_given fails.calls given_ours ours (λ terms codes of fits. tt) judges
+      (λ setup plan c payload is. all_why (λ (p : List ℕ). p ≡ connection_refused) given refused c payload is) ruled tells fails_called

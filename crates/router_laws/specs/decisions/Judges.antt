@@ -19,6 +19,7 @@ use Rattle.core_laws.specs.clients.Found.{IsAmong, IsLastAmong}
 use Rattle.core_laws.specs.clients.Turns.{Choice, Halt}
 use Rattle.core_laws.specs.entry.Cores.{with_entry}
 use Rattle.core_laws.specs.entry.Tells.{Fits, IsOf}
+use Rattle.core_promises.specs.Causes.{IsCause}
 use Rattle.core_promises.specs.Judges.{Rulebook, situation_of}
 use Rattle.core_promises.specs.Ruled.{IsChoiceFor, book_of}
 use Rattle.router_laws.specs.decisions.Deeds.{Counts, Deeds, decided_with}
@@ -48,12 +49,13 @@ abbrev pub AreSent : Plan → Tale → (ClientNo → Bool) → Type 0
 AreSent plan tale given =
     All (λ (client : Client). given client.number ≡ true → is_some (plan.routes (name_of client client.taken)) ≡ true) tale.clients
 
--- Behind an entry with these deeds: what each client took up at it is judged, and what is given up went to a server.
+-- Behind an entry with these deeds: what each client took up at it is judged, and what is given up went to a server, and has its cause.
 pub record IsJudgedThen (service : Service) (log : Log) (e : Entry) (n : Counts) (deeds : Deeds) (setup : Setup) (plan : Plan) : Type 0 where
   pub takes : (client : Client) → IsSeated (tale_of setup plan (with_entry log e)) client
       → JudgedFrom (book_of service) setup plan client (takings_at setup plan (tale_of setup plan log) e) (n.taken client.number)
       (deeds.calls client.number) (deeds.halts client.number)
   pub gives : AreSent plan (tale_of setup plan log) (λ c. is_some (deeds.given c))
+  pub why : (c : ClientNo) (payload : List ℕ) → deeds.given c ≡ Some payload → IsCause service.wait_ms setup plan log e c payload
 
 -- by each plan that has what is decided then, and fits
 abbrev pub JudgesThen : Service → Log → Entry → Decided → Counts → Deeds → Type 0

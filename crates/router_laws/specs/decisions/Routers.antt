@@ -25,9 +25,11 @@ use Rattle.core_laws.specs.entry.Tells.{Fits, IsCore, IsOf, ground}
 use Rattle.router_laws.specs.decisions.Deeds.{AreToldBy, Counts, Deeds, counts_with, decided_with}
 use Rattle.router_promises.specs.Terms.{Terms, plan_in, setup_in}
 use Rattle.core_promises.specs.Waits.{AreDoneBy, WaitsSo}
+use Rattle.core_promises.specs.Causes.{CausedBy}
 use Rattle.core_promises.specs.Judges.{JudgesBy}
 use Rattle.core_promises.specs.Ruled.{book_of}
 use Rattle.router_laws.specs.decisions.Force.{AreInForce}
+use Rattle.router_laws.specs.decisions.Held.{AreHeldBy}
 use Rattle.router_laws.specs.decisions.Speaks.{DecidesOwn}
 use Rattle.router_laws.specs.decisions.Plans.{AreUngiven, PlansSo}
 use Rattle.router_laws.specs.decisions.Records.{AreCountsBy, AreCountsOf, IsRecorded}
@@ -54,6 +56,8 @@ pub record IsRouter (service : Service) (texts : Texts) (log : Log) (t : Tabled)
   pub spoken : DecidesOwn rules core.decided
   pub waited : AreDoneBy service.default_schema core.decided log
   pub judged : JudgesBy (book_of service) rules service.default_schema core.decided log
+  pub held : AreHeldBy texts service.default_schema core.decided log
+  pub caused : CausedBy service.wait_ms service.default_schema core.decided log
 
 -- where the entry is a wait, all is done
 abbrev pub WaitsThen : Service → Log → Entry → Decided → Type 0

@@ -1,5 +1,5 @@
 -- That all which was decided to be said is the router's own.
-use Rattle.std.specs.Prelude.{◌≡◌, ℕ, All, List, Option, None, Some}
+use Rattle.std.specs.Prelude.{◌≡◌, ◌<◌, ℕ, true, All, is_some, List, Option, None, Some}
 use Rattle.query_rules.specs.declared.rule.Rule.{Rule}
 use Rattle.core_texts.specs.Texts.{key_at}
 use Rattle.core_texts.specs.declared.texts.Texts.{Texts}
@@ -16,9 +16,11 @@ pub record DecidesOwn (rules : MessageName → List Rule) (d : Decided) : Type 0
   pub own : (m : MessageName) (answer : OwnAnswer) → d.own m ≡ Some (Some answer) → IsOwn (rules m) m.client answer.payloads
   pub words : (c : ClientNo) (word : LastWord) → d.words c ≡ Some word → IsLastWord word.payloads
 
--- Of a client: no copies are made of its messages, the texts by which they go are among those that are kept, and what the router answers is its own.
+-- Of a client: no copies are made of its messages, the texts by which they go are among those that are kept, also of what is to be
+-- prepared, and what the router answers is its own.
 abbrev pub IsOurs : List Rule → Texts → ClientNo → Choice → Type 0
-IsOurs rules texts c (Goes route keyed) = (route.mirror ≡ None) × All (λ (one : Keyed). key_at texts one.number ≡ Some one.key) keyed
+IsOurs rules texts c (Goes route keyed) =
+    (route.mirror ≡ None) × All (λ (one : Keyed). key_at texts one.number ≡ Some one.key) keyed × (0 < route.number → is_some (key_at texts route.key) ≡ true)
 IsOurs rules texts c (Answers payloads) = IsOwnAnswer rules c payloads
 
 -- its end, and how it is ended behind its turns

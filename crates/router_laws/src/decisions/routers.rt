@@ -24,6 +24,7 @@ ghost use Rattle.core_laws.specs.entry.Cores.{with_entry};
 ghost use Rattle.core_laws.specs.entry.Grows.{IsHeardMore};
 ghost use Rattle.core_laws.specs.entry.Tells.{Fits, IsOf};
 ghost use Rattle.router_laws.specs.decisions.Deeds.{Counts, Deeds, decided_with};
+ghost use Rattle.router_laws.specs.decisions.Held.{KeepsTexts};
 ghost use Rattle.router_laws.specs.decisions.Judges.{JudgesThen};
 ghost use Rattle.router_laws.specs.decisions.Speaks.{AreOurs};
 ghost use Rattle.router_laws.specs.decisions.Records.{IsRecorded};
@@ -93,5 +94,5 @@ pub fn routers_learn()
     ensures more { (service : Service) (old new : Texts) (log : Log) (t : Tabled) (roomy : ClientNo → Bool)
         → IsRouter service old log t roomy → AreMore old new → IsRouter service new log t roomy }
     ensures less { (service : Service) (old new : Texts) (log : Log) (t : Tabled) (roomy : ClientNo → Bool)
-        → IsRouter service old log t roomy → AreLess old new → IsRouter service new log t roomy }
+        → IsRouter service old log t roomy → AreLess old new → KeepsTexts old new t → IsRouter service new log t roomy }
 {}

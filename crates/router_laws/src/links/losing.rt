@@ -21,6 +21,7 @@ ghost use Rattle.core_laws.specs.entry.Cores.{with_entry};
 ghost use Rattle.core_laws.specs.clients.Going.{Going};
 ghost use Rattle.core_promises.specs.Ruled.{ruling_of};
 ghost use Rattle.router_laws.specs.decisions.Speaks.{AreGivenOurs, AreGoingOurs};
+ghost use Rattle.router_laws.specs.decisions.Causes.{IsLostFor};
 ghost use Rattle.router_laws.specs.decisions.Judges.{JudgesThen};
 ghost use Rattle.router_laws.specs.decisions.Goings.{deeds_of};
 ghost use Rattle.router_laws.specs.decisions.Rulings.{IsRuledOn};
@@ -34,14 +35,15 @@ pub fn given_up_with_it()
 {}
 
 /// Where the turns of the client that goes on are ruled as a link is lost, so is what becomes of its messages; and what is given up went to a
-/// server.
+/// server, and has its cause.
 pub fn loses_judge()
     ensures { (service : Service) (texts : Texts) (log : Log) (t now : Tabled) (roomy : ClientNo → Bool) (l : LinkId) (how : Break)
         (given : Option GivenUp) (going : Option Going) → (router : IsRouter service texts log t roomy) → MayFollow log (entry_by how l)
         → (so : LosesSo service.setup service.default_schema l given going t now) → AreGoingOurs (rules_in service) texts going
-        → IsRuledOn (ruling_of service (key_at texts)) going service.setup service.default_schema so.lost now so.goes
+        → IsRuledOn (ruling_of service (key_at texts)) going service.setup service.default_schema so.lost now so.goes → IsLostFor l t given
         → JudgesThen service log (entry_by how l) router.core.decided router.counts (deeds_of given going) }
 {
+    core_laws::parting::carried_homes();
     core_laws::parting::lost_stands();
     core_laws::parting::freed_stands();
     core_laws::parting::same_stands();
@@ -61,7 +63,7 @@ pub fn loses_router()
     ensures { (service : Service) (texts : Texts) (log : Log) (t now : Tabled) (roomy : ClientNo → Bool) (l : LinkId) (how : Break)
         (given : Option GivenUp) (going : Option Going) → IsRouter service texts log t roomy → MayFollow log (entry_by how l)
         → AreGivenOurs given → AreGoingOurs (rules_in service) texts going → (so : LosesSo service.setup service.default_schema l given going t now)
-        → IsRuledOn (ruling_of service (key_at texts)) going service.setup service.default_schema so.lost now so.goes
+        → IsRuledOn (ruling_of service (key_at texts)) going service.setup service.default_schema so.lost now so.goes → IsLostFor l t given
         → IsRouter service texts (with_entry log (entry_by how l)) now roomy }
 {
     loses_judge();

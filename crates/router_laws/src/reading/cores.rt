@@ -20,6 +20,7 @@ ghost use Rattle.core_tables.specs.declared.server.Server.{Server};
 ghost use Rattle.core_laws.specs.entry.Cores.{with_entry};
 ghost use Rattle.core_laws.specs.clients.Going.{GivenUp, GoesSo, Going, IsCalled, is_going, told_to};
 ghost use Rattle.core_laws.specs.clients.Keeps.{KeepsRows};
+ghost use Rattle.router_laws.specs.decisions.Causes.{IsHeardFor};
 ghost use Rattle.router_laws.specs.decisions.Judges.{JudgesThen};
 ghost use Rattle.router_laws.specs.decisions.Goings.{deeds_of};
 ghost use Rattle.router_laws.specs.decisions.Rulings.{IsRuledOn};
@@ -58,16 +59,17 @@ pub fn hears_goes()
     crate::decisions::links_rise();
 }
 
-/// Where the turns of the client that goes on are ruled, so is what becomes of its messages; and what is given up went to a server.
+/// Where the turns of the client that goes on are ruled, so is what becomes of its messages; and what is given up went to a server, and has its cause.
 pub fn hears_judge()
     ensures { (service : Service) (texts : Texts) (log : Log) (t now : Tabled) (roomy : ClientNo → Bool) (l : LinkId) (bytes : List ℕ)
         (clock : ℕ) (given : Option GivenUp) (going : Option Going) → (router : IsRouter service texts log t roomy) → MayFollow log (Got l bytes)
         → AreBytes bytes → (so : HearsSo service.setup service.default_schema l bytes clock given going t now)
         → AreGoingOurs (rules_in service) texts going
-        → IsRuledOn (ruling_of service (key_at texts)) going service.setup service.default_schema so.freed now so.goes
+        → IsRuledOn (ruling_of service (key_at texts)) going service.setup service.default_schema so.freed now so.goes → IsHeardFor l t given
         → JudgesThen service log (Got l bytes) router.core.decided router.counts (deeds_of given going) }
 {
     core_laws::hearing::bytes_are_heard();
+    core_laws::parting::carried_homes();
     core_laws::parting::counted_stands();
     core_laws::parting::freed_stands();
     core_laws::parting::lawful_homes();
@@ -89,7 +91,7 @@ pub fn hears_router()
         (clock : ℕ) (given : Option GivenUp) (going : Option Going) → IsRouter service texts log t roomy → MayFollow log (Got l bytes)
         → AreBytes bytes → (so : HearsSo service.setup service.default_schema l bytes clock given going t now) → AreGivenOurs given
         → AreGoingOurs (rules_in service) texts going
-        → IsRuledOn (ruling_of service (key_at texts)) going service.setup service.default_schema so.freed now so.goes
+        → IsRuledOn (ruling_of service (key_at texts)) going service.setup service.default_schema so.freed now so.goes → IsHeardFor l t given
         → IsRouter service texts (with_entry log (Got l bytes)) now roomy }
 {
     hears_judge();

@@ -19,7 +19,9 @@ ghost use Rattle.router_laws.specs.wakes.Calling.{Caller};
 ghost use Rattle.router_laws.specs.wakes.Deciding.{IsCallerOurs};
 ghost use Rattle.router_laws.specs.decisions.Speaks.{IsGivenOurs};
 ghost use Rattle.router_laws.specs.waits.Drained.{IsDrainedFor};
+ghost use Rattle.core_promises.specs.InForce.{has_administrator};
 ghost use Rattle.core_promises.specs.Ruled.{ruling_of};
+ghost use Rattle.router_laws.specs.decisions.Causes.{AreLate, AreRefused};
 ghost use Rattle.router_laws.specs.wakes.Waking.{FailsSo, WakesSo};
 
 /// A router goes on with a wake that comes where nothing is left to read or to write; nobody has to have room behind it.
@@ -28,6 +30,7 @@ pub fn wakes_router()
         (callers : List Caller) (links : List LinkId) (until_ms now_ms : ℕ) → IsRouter service texts log t roomy
         → MayFollow log (Woke until_ms now_ms) → IsDrainedFor t log
         → (wakes : WakesSo service.setup service.default_schema given callers links roomy t now) → All IsGivenOurs given
+        → AreLate service.wait_ms now_ms (has_administrator log) given
         → All (IsCallerOurs (rules_in service) texts) callers
         → AreRuledAll (ruling_of service (key_at texts)) callers service.setup service.default_schema wakes.late wakes.calls.turned wakes.calls.going
         → IsRouter service texts (with_entry log (Woke until_ms now_ms)) now room }
@@ -50,7 +53,7 @@ pub fn fails_router()
     ensures { (service : Service) (texts : Texts) (log : Log) (t now : Tabled) (roomy : ClientNo → Bool) (given : List GivenUp)
         (callers : List Caller) (links : List LinkId) (server : ServerId) (address : Address) → IsRouter service texts log t roomy
         → MayFollow log (OpenFailed server address) → (fails : FailsSo service.setup service.default_schema given callers links t now)
-        → All IsGivenOurs given → All (IsCallerOurs (rules_in service) texts) callers
+        → All IsGivenOurs given → AreRefused given → All (IsCallerOurs (rules_in service) texts) callers
         → AreRuledAll (ruling_of service (key_at texts)) callers service.setup service.default_schema fails.late fails.calls.turned fails.calls.going
         → IsRouter service texts (with_entry log (OpenFailed server address)) now roomy }
 {

@@ -1,5 +1,5 @@
 use Rattle.std.proofs.Common.{arith}
-use Rattle.own_words.specs.Own.{BadBytes, BuffersFull, LinkLost, NoConnection, NoLink, StepRefused}
+use Rattle.own_words.specs.Own.{BadBytes, BuffersFull, LinkLost, NoConnection, NoLink, ShuttingDown, StepRefused}
 use Rattle.core_service.proofs.failure.payload_of.Goals as goal
 
 pub returns-in-LinkLost-clause-own : goal.returns-in-LinkLost-clause-own
@@ -19,3 +19,6 @@ returns-in-BadBytes-clause-own c = rw c.in-BadBytes.is (BadBytes c.in-BadBytes.p
 
 pub returns-in-BuffersFull-clause-own : goal.returns-in-BuffersFull-clause-own
 returns-in-BuffersFull-clause-own c = rw c.in-BuffersFull.is (BuffersFull c.in-BuffersFull.kept c.in-BuffersFull.announced (omega arith) (omega arith))
+
+pub returns-in-ShuttingDown-clause-own : goal.returns-in-ShuttingDown-clause-own
+returns-in-ShuttingDown-clause-own c = rw c.in-ShuttingDown.is ShuttingDown

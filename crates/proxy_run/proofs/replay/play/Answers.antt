@@ -8,7 +8,7 @@ use Rattle.ready_loop.specs.declared.ends.ServeEnd.TheVariants as ended
 use Rattle.mem_wire.specs.Play.{IsPlay}
 use Rattle.ready_loop.specs.Round.{calls_since_wake, wakes_of}
 use Rattle.ready_loop.specs.Serving.{IsOver, IsOut, IsBusy}
-use Rattle.proxy_run.proofs.Keeping.{listens-at, ran-of}
+use Rattle.proxy_run.proofs.Keeping.{listens-at, ran-of, shut-of}
 use Rattle.proxy_run.proofs.Turns.{spent-busy}
 use Rattle.proxy_run.proofs.replay.play.Goals as goal
 
@@ -27,12 +27,26 @@ returns-in-Over-clause-ok c = record {
       let stands = (c.serve-end.ensures.stands (λ ran_out. let h : ended.Over ≡ ended.OutOfMemory = sym c.in-Over.is ∙ ran_out in cc)).holds log is in
       let by : ServesBy c.args.config.now _ = subst (ServesBy c.args.config.now) (sym c.serve-end.ensures.serves_by) c.in_ok-core.ensures.serves in
       let ran = ran-of c.args.config.now _ log by stands in
-      record {
+      inl (record {
         run = record { fits = ran.fits; listens = (listens-at _ _ _ _ _ c.in_ok-core.ensures.serves.listen c.in_ok-core.ensures.serves.admin_listen c.serve-end.ensures.listens).holds log is };
         serves = ran.serves;
         before = (ends log ((c.serve-end.ensures.over c.in-Over.is).last log is)).0;
         over = (ends log ((c.serve-end.ensures.over c.in-Over.is).last log is)).1;
-      };
+      });
+}
+
+pub returns-in-Stopped-clause-ok : goal.returns-in-Stopped-clause-ok
+returns-in-Stopped-clause-ok c = record {
+  plays = λ log play. subst (λ lines. IsPlay lines log) (c.serve-end.ensures.ruled_by ∙ ap (λ tape. tape.recording) c.new-tape.ensures) play;
+  serves = λ log is.
+      let stands = (c.serve-end.ensures.stands (λ ran_out. let h : ended.Stopped ≡ ended.OutOfMemory = sym c.in-Stopped.is ∙ ran_out in cc)).holds log is in
+      let by : ServesBy c.args.config.now _ = subst (ServesBy c.args.config.now) (sym c.serve-end.ensures.serves_by) c.in_ok-core.ensures.serves in
+      let ran = ran-of c.args.config.now _ log by stands in
+      inr (record {
+        run = record { fits = ran.fits; listens = (listens-at _ _ _ _ _ c.in_ok-core.ensures.serves.listen c.in_ok-core.ensures.serves.admin_listen c.serve-end.ensures.listens).holds log is };
+        serves = ran.serves;
+        administrator = shut-of _ log stands (c.serve-end.ensures.stopped c.in-Stopped.is);
+      });
 }
 
 pub returns-in-Some-clause-err : goal.returns-in-Some-clause-err

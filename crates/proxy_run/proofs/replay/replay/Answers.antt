@@ -1,10 +1,11 @@
-use Rattle.std.specs.Prelude.{◌≡◌, ℕ, List, [], Option, Some, Result, Ok, Err, OnOk, IfErr}
-use Rattle.std.proofs.Common.{sym, refl, subst}
+use Rattle.std.specs.Prelude.{◌≡◌, ◌⊎◌, ℕ, List, [], Option, Some, Result, Ok, Err, OnOk, IfErr}
+use Rattle.std.proofs.Common.{inl, inr, sym, refl, subst}
 use Rattle.std.proofs.lemmas.Result.{err_from_is_err_and}
 use Rattle.mx_wire.specs.Log.{Log}
 use Rattle.mx_wire.specs.Moments.{AllLawful, lawful-last}
 use Rattle.mx_wire.specs.declared.entry.Entry.TheVariants.{Over}
 use Rattle.core_promises.specs.Waits.{IsDone, WaitsSo}
+use Rattle.mx_config.specs.declared.config.Config.{Config}
 use Rattle.router_promises.specs.Now.{now_at}
 use Rattle.router_promises.specs.Terms.{Terms}
 use Rattle.recording.specs.declared.entry.RecordEntry.{RecordEntry}
@@ -14,9 +15,29 @@ use Rattle.proxy_run.specs.declared.stop.Stop.{Stop}
 use Rattle.proxy_run.specs.declared.stop.Stop.TheVariants as stop
 use Rattle.recording.specs.Playable.{IsPlayable}
 use Rattle.proxy_run.specs.Words.{Named, replay_words}
-use Rattle.proxy_run.specs.Replay.{Held, IsConfigured, IsUnder, HasPlayed, IsReplay, PlayStops, PutStops, PutsNothing, ServesToEnd, Stops}
+use Rattle.proxy_run.specs.Replay.{Held, IsConfigured, IsUnder, HasPlayed, IsReplay, PlayStops, PlayedToEnd, PutStops, PutsNothing, ServesToEnd, ServesUntilShut, Stops}
 use Rattle.proxy_run.proofs.Ending.{played-out}
 use Rattle.proxy_run.proofs.replay.replay.Goals as goal
+
+-- a log that ends as the wire has nothing more has played all
+to-end : (config : Config) (entries : List RecordEntry) (log : Log) → IsPlayable entries → IsPlay entries log → ServesToEnd config log
+    → PlayedToEnd config entries log
+to-end config entries log playable play served = record {
+  serves = served;
+  played = played-out entries log served.before playable play done.accepted done.named served.over;
+} where
+  terms : Terms
+  terms = record { router = served.serves.router; decided = served.serves.separates.decided; stored = λ server. [] }
+
+  done : IsDone terms served.before (now_at terms served.before)
+  done =
+      (lawful-last (WaitsSo terms) served.before Over
+      (subst (AllLawful (WaitsSo terms)) served.over ((served.serves.separates.keeps (λ server. [])).waits))).1
+
+served_of : (log : Log) (entries : List RecordEntry) (config : Config) → IsPlayable entries → IsPlay entries log
+    → ServesToEnd config log ⊎ ServesUntilShut config log → PlayedToEnd config entries log ⊎ ServesUntilShut config log
+served_of log entries config playable play (inl served) = inl (to-end config entries log playable play served)
+served_of log entries config playable play (inr shut) = inr shut
 
 -- a tape that has played the recording under the name tells a replay
 replay-of : (words : List (List ℕ)) (held : Held) (names : Named) (entries : List RecordEntry) (tape : Played) (log : Log) → replay_words words ≡ Some names → (configured : IsConfigured names.config held) → IsUnder names.recording held entries → IsPlayable entries → HasPlayed configured.config entries tape → tape.told ≡ Some log → IsPlay tape.recording log → IsReplay words held log
@@ -27,19 +48,8 @@ replay-of words held names entries tape log named configured under playable play
   entries = entries;
   under = under;
   play = played.plays log play;
-  serves = served;
-  played = played-out entries log served.before playable (played.plays log play) done.accepted done.named served.over;
-} where
-  served : ServesToEnd configured.config log
-  served = played.serves log is
-
-  terms : Terms
-  terms = record { router = served.serves.router; decided = served.serves.separates.decided; stored = λ server. [] }
-
-  done : IsDone terms served.before (now_at terms served.before)
-  done =
-      (lawful-last (WaitsSo terms) served.before Over
-      (subst (AllLawful (WaitsSo terms)) served.over ((served.serves.separates.keeps (λ server. [])).waits))).1
+  served = served_of log entries configured.config playable (played.plays log play) (played.serves log is);
+}
 
 stopped : (given : Stop) (words : List (List ℕ)) (held : Held) (read_before read_now : ℕ) (names : Named) (entries : List RecordEntry) (tape : Played) (old : Option (List ℕ)) (before : ℕ) (new : Option (List ℕ)) (now : ℕ) → replay_words words ≡ Some names → (configured : IsConfigured names.config held) → IsUnder names.recording held entries → IsPlayable entries → HasPlayed configured.config entries tape → PutStops given tape old before new now → Stops given words held read_before read_now old before new now
 stopped stop.OutOfMemory words held read_before read_now names entries tape old before new now named configured under playable played stops = ((names, named), stops)

@@ -12,7 +12,7 @@ use Rattle.shared_core.specs.Machine.{IsStanding, unloaded}
 use Rattle.shared_core.specs.Says.{awaits, reads, sends}
 use Rattle.shared_core.specs.declared.whole.Core.{Core}
 use Rattle.proxy_run.specs.Serve.{RefusedAt, ServesAt}
-use Rattle.proxy_run.proofs.Keeping.{listens-at, ran-of, stood-ran}
+use Rattle.proxy_run.proofs.Keeping.{listens-at, ran-of, shut-of, stood-ran}
 use Rattle.proxy_run.proofs.serving.attend.Goals as goal
 
 -- what a core keeps that serves by the configuration
@@ -58,8 +58,17 @@ returns-in-Over-clause-ok g c = record {
   serves = serves _ _ _ (subst (ServesBy c.args.config.now) (sym c.serve-end.ensures.serves_by) c.in_ok-core.ensures.serves)
       (c.serve-end.ensures.stands (λ ran_out. let h : ended.Over ≡ ended.OutOfMemory = sym c.in-Over.is ∙ ran_out in cc))
       (listens-at _ _ _ _ _ c.in_ok-core.ensures.serves.listen c.in_ok-core.ensures.serves.admin_listen c.serve-end.ensures.listens);
-  ends = c.serve-end.ensures.over c.in-Over.is;
+  ends = inl (c.serve-end.ensures.over c.in-Over.is);
 }
+
+pub returns-in-Stopped-clause-ok : goal.returns-in-Stopped-clause-ok
+returns-in-Stopped-clause-ok g c =
+    let standing = c.serve-end.ensures.stands (λ ran_out. let h : ended.Stopped ≡ ended.OutOfMemory = sym c.in-Stopped.is ∙ ran_out in cc) in
+    record {
+      serves = serves _ _ _ (subst (ServesBy c.args.config.now) (sym c.serve-end.ensures.serves_by) c.in_ok-core.ensures.serves) standing
+          (listens-at _ _ _ _ _ c.in_ok-core.ensures.serves.listen c.in_ok-core.ensures.serves.admin_listen c.serve-end.ensures.listens);
+      ends = inr (record { administrator = λ log is. shut-of _ log (standing.holds log is) (c.serve-end.ensures.stopped c.in-Stopped.is) });
+    }
 
 pub returns-in-ListenFault-clause-err : goal.returns-in-ListenFault-clause-err
 returns-in-ListenFault-clause-err g c = (

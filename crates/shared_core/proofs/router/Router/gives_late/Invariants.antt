@@ -5,6 +5,6 @@ use Rattle.shared_core.proofs.router.Router.gives_late.Given as goal
 
 abbrev pub invariant-loop-up : goal.invariant-loop-up
 invariant-loop-up l = record {
-  gives : HaveGivenUp l.initial.called l.called (tables l.initial.self) (tables l.self);
+  gives : HaveGivenUp l.wait_ms l.now_ms l.came l.initial.called l.called (tables l.initial.self) (tables l.self);
   keeps : Keeps l.initial.self l.self;
 }

@@ -1,4 +1,4 @@
-use Rattle.std.specs.Prelude.{None, true}
+use Rattle.std.specs.Prelude.{None, false, true}
 use Rattle.std.proofs.Common.{refl}
 use Rattle.marked_tables.proofs.Going.{first_known}
 use Rattle.shared_core.proofs.Standing.{first_stands, nobody}
@@ -20,6 +20,7 @@ returns-clause-stands c = λ service unloaded.
       acting = true;
       until = 0;
       clock = 0;
+      stopped = false;
     }) c.in_ok-new.ensures.tables refl c.new-2.ensures.none unloaded
 
 pub returns-clause-known : goal.returns-clause-known

@@ -5,15 +5,16 @@ use Rattle.shared_core.proofs.router.Router.refuses.Goals as goal
 
 pub returns-in_ok-follow_all-clause-fails : goal.returns-in_ok-follow_all-clause-fails
 returns-in_ok-follow_all-clause-fails c =
-    one_fails c.args.service.now _ c.args.up.client _ _ _ (c.is_waiting.ensures c.if-is_waiting.true) c.in_ok-gives_up.ensures.answers
+    one_fails c.args.service.now _ c.args.up _ _ _ (c.may_be_refused.ensures.refused c.if-may_be_refused.true)
+    (c.may_be_refused.ensures.waits c.if-may_be_refused.true) c.in_ok-gives_up.ensures.answers
     (c.in_ok-follow_all.ensures.follow (rising_one c.args.up.client)
-    (there_one c.args.up.client _ _ (c.is_waiting.ensures c.if-is_waiting.true) c.in_ok-gives_up.ensures.answers))
+    (there_one c.args.up.client c.args.up.why _ _ (c.may_be_refused.ensures.waits c.if-may_be_refused.true) c.in_ok-gives_up.ensures.answers))
 
 pub returns-in_ok-follow_all-clause-keeps : goal.returns-in_ok-follow_all-clause-keeps
 returns-in_ok-follow_all-clause-keeps c = keeps_along _ _ _ c.in_ok-follow_all.ensures.keeps c.in_ok-gives_up.ensures.keeps
 
-pub returns-else-is_waiting-clause-fails : goal.returns-else-is_waiting-clause-fails
-returns-else-is_waiting-clause-fails c = none_fails c.args.service.now _ (tables c.args.self.now)
+pub returns-else-may_be_refused-clause-fails : goal.returns-else-may_be_refused-clause-fails
+returns-else-may_be_refused-clause-fails c = none_fails c.args.service.now _ (tables c.args.self.now)
 
-pub returns-else-is_waiting-clause-keeps : goal.returns-else-is_waiting-clause-keeps
-returns-else-is_waiting-clause-keeps c = keeps_still _
+pub returns-else-may_be_refused-clause-keeps : goal.returns-else-may_be_refused-clause-keeps
+returns-else-may_be_refused-clause-keeps c = keeps_still _

@@ -6,7 +6,7 @@ pub returns-clause-tells : goal.returns-clause-tells
 returns-clause-tells c =
     tells_along (settles_stands c.settling_stands.ensures.router) c.args.service.now c.args.event c.args.bytes.now c.args.self.now c.told.new.self
     c.settle.new.self c.forgets_texts.new.self c.turns.new.self c.in_ok-told.ensures.tells c.in_ok-settle.ensures.settles
-    c.in_ok-forgets_texts.ensures.less c.in_ok-forgets_texts.ensures.same c.turns.ensures
+    c.in_ok-forgets_texts.ensures.less c.in_ok-forgets_texts.ensures.kept c.in_ok-forgets_texts.ensures.same c.turns.ensures
 
 pub returns-clause-moves : goal.returns-clause-moves
 returns-clause-moves c =

@@ -4,7 +4,8 @@ use Rattle.shared_core.proofs.router.Router.wakes.Goals as goal
 
 pub returns-clause-wakes : goal.returns-clause-wakes
 returns-clause-wakes c =
-    have_woken c.args.service.now _ c.args.roomy _ c.in_ok-clients.clients.items _ _ _ (given_since _ _ _ _ _ c.call_all.ensures c.in_ok-gives_late.ensures.gives)
+    have_woken c.args.service.now _ c.args.now_ms c.args.self.now.came.administrator c.args.roomy _ c.in_ok-clients.clients.items _ _ _
+    (given_since c.args.service.now.wait_ms c.args.now_ms c.args.self.now.came.administrator _ _ _ _ _ c.call_all.ensures c.in_ok-gives_late.ensures.gives)
     c.in_ok-clients.ensures
     ((rw c.as_slice.ensures.value at c.in_ok-follow_all.ensures.follow) c.in_ok-clients.ensures.rising c.in_ok-clients.ensures.there)
 

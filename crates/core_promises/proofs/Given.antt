@@ -1,0 +1,124 @@
+-- What a router that keeps its clients apart gives up for.
+use Rattle.std.specs.Prelude.{◌≡◌, ◌<◌, ◌≤◌, ◌+◌, ◌++◌, ℕ, zero, suc, Bool, true, false, length, slice_index_or, List, [], ◌∷◌, Option, Some}
+use Rattle.std.proofs.Common.{refl, sym, ap, ◌∙◌, subst, arith, length-append}
+use Rattle.client_session.specs.Errors.{bad_server_bytes, connection_lost, connection_refused}
+use Rattle.mx_wire.specs.Log.{Log}
+use Rattle.mx_wire.specs.declared.entry.Entry.{Entry}
+use Rattle.mx_wire.specs.declared.entry.Entry.TheVariants as entry
+use Rattle.private_model.specs.Names.{ClientNo, LinkId}
+use Rattle.private_model.specs.View.{Setup}
+use Rattle.log_story.specs.Headline.{tale_of}
+use Rattle.log_story.specs.Plan.{OwnAnswer, Plan}
+use Rattle.log_story.specs.Tale.{Client}
+use Rattle.router_promises.proofs.Refusals.{at-index, never}
+use Rattle.router_promises.specs.Errors.{no_connection, replay_refused, server_shutdown}
+use Rattle.router_promises.specs.Now.{is_gone}
+use Rattle.router_promises.specs.Terms.{Terms, plan_in, setup_in, tale_at}
+use Rattle.core_promises.specs.Causes.{AreCaused, BadBytes, HasCause, HeldUp, IsCause, IsHeardCause, IsLateCause, IsLossCause, LinkLost, LoginBroken, LoginRefused, ShutDown, StepRefused, WaitedTooLong, is_carried, may_give_up}
+use Rattle.core_promises.specs.Wrong.{IsGivenUp}
+
+-- Two ways to cut a log at the same place are one.
+
+one-entry : (a b : Entry) (xs ys : Log) → ◌≡◌ {A = Log} (a ∷ xs) (b ∷ ys) → a ≡ b
+one-entry a b xs ys is = cc
+
+one-log : (a b : Entry) (xs ys : Log) → ◌≡◌ {A = Log} (a ∷ xs) (b ∷ ys) → xs ≡ ys
+one-log a b xs ys is = cc
+
+same-cut : (xs ys : Log) (a b : Entry) (later more : Log) → length xs ≡ length ys → xs ++ a ∷ later ≡ ys ++ b ∷ more → (xs ≡ ys) × (a ≡ b)
+same-cut [] [] a b later more long is = (refl, one-entry a b later more is)
+same-cut [] (y ∷ ys) a b later more long is = absurd (omega (arith, long))
+same-cut (x ∷ xs) [] a b later more long is = absurd (omega (arith, long))
+same-cut (x ∷ xs) (y ∷ ys) a b later more long is =
+    let rest = same-cut xs ys a b later more (omega (arith, long)) (one-log x y (xs ++ a ∷ later) (ys ++ b ∷ more) is) in
+    let first : x ≡ y = one-entry x y (xs ++ a ∷ later) (ys ++ b ∷ more) is in
+    ((λ i. first i ∷ rest.0 i), rest.1)
+
+one-payload : (a b : List ℕ) → ◌≡◌ {A = List (List ℕ)} (a ∷ []) (b ∷ []) → a ≡ b
+one-payload a b is = cc
+
+-- so it had its cause
+pub cause-of : (terms : Terms) (before : Log) (e : Entry) (client : Client) (payload : List ℕ) → IsGivenUp terms before e client payload
+    → IsCause terms.router.proxy.wait_ms (setup_in terms) (plan_in terms) before e client.number payload
+cause-of terms before e client payload given =
+    let log : Log = before ++ e ∷ given.more in
+    let here : suc (length before) ≤ length log = omega (arith, length-append before (e ∷ given.more)) in
+    let has : HasCause terms.router.proxy.wait_ms (setup_in terms) (plan_in terms) log client.number (record { from = suc (length before); payloads = payload ∷ [] }) =
+    at-index (AreCaused terms.router.proxy.wait_ms (setup_in terms) (plan_in terms) log) (tale_at terms log).clients given.place client given.keeps.gives
+    given.within given.is given.count (record { from = suc (length before); payloads = payload ∷ [] }) given.taken given.own (omega arith) here in
+    let from = has.from in
+    let cut = same-cut before has.before e has.entry given.more has.later (omega (arith, from)) has.there in
+    let Told : List ℕ → Type 0 = λ p. IsCause terms.router.proxy.wait_ms (setup_in terms) (plan_in terms) before e client.number p in
+    subst Told (one-payload has.payload payload (sym has.one))
+    (subst (λ (l : Log). IsCause terms.router.proxy.wait_ms (setup_in terms) (plan_in terms) l e client.number has.payload) (sym cut.0)
+    (subst (λ (x : Entry). IsCause terms.router.proxy.wait_ms (setup_in terms) (plan_in terms) has.before x client.number has.payload) (sym cut.1) has.why))
+
+pub at-no-other : (wait_ms : ℕ) (setup : Setup) (plan : Plan) (log : Log) (e : Entry) (c : ClientNo) (payload : List ℕ)
+    → IsCause wait_ms setup plan log e c payload → may_give_up e ≡ false → ⊥
+at-no-other wait_ms setup plan log (entry.Woke until_ms now_ms) c payload cause none = never none
+at-no-other wait_ms setup plan log (entry.Got link bytes) c payload cause none = never none
+at-no-other wait_ms setup plan log (entry.Ended link) c payload cause none = never none
+at-no-other wait_ms setup plan log (entry.ReadFailed link) c payload cause none = never none
+at-no-other wait_ms setup plan log (entry.WriteFailed link) c payload cause none = never none
+at-no-other wait_ms setup plan log (entry.OpenFailed server address) c payload cause none = never none
+at-no-other wait_ms setup plan log e c payload cause none = cause
+
+-- The code of an error tells its cause; its lower byte is enough.
+
+abbrev code : List ℕ → ℕ
+code payload = slice_index_or payload 1 0
+
+late-lost : (wait_ms now_ms : ℕ) (came : Bool) (payload : List ℕ) → IsLateCause wait_ms now_ms came payload → code payload ≡ 141 → ⊥
+unfolding bad_server_bytes no_connection server_shutdown
+late-lost wait_ms now_ms came _ (WaitedTooLong since late) at = omega (arith, at)
+late-lost wait_ms now_ms came _ (ShutDown shut) at = omega (arith, at)
+late-lost wait_ms now_ms came _ HeldUp at = omega (arith, at)
+
+heard-lost : (carried : Bool) (payload : List ℕ) → IsHeardCause carried payload → code payload ≡ 141 → ⊥
+unfolding bad_server_bytes connection_refused replay_refused
+heard-lost carried _ (StepRefused refused) at = omega (arith, at)
+heard-lost carried _ LoginRefused at = omega (arith, at)
+heard-lost carried _ (BadBytes place carries) at = omega (arith, at)
+
+refused-lost : (payload : List ℕ) → payload ≡ connection_refused → code payload ≡ 141 → ⊥
+unfolding connection_refused
+refused-lost payload is at = let same : code payload ≡ 143 = ap code is in omega (arith, at, same)
+
+is-lost : code connection_lost ≡ 141
+unfolding connection_lost
+is-lost = refl
+
+by-a-loss : (wait_ms : ℕ) (setup : Setup) (plan : Plan) (log : Log) (e : Entry) (c : ClientNo) (payload : List ℕ)
+    → IsCause wait_ms setup plan log e c payload → code payload ≡ 141 → is_gone e ≡ false → ⊥
+by-a-loss wait_ms setup plan log (entry.Woke until_ms now_ms) c payload cause at gone = late-lost wait_ms now_ms _ payload cause at
+by-a-loss wait_ms setup plan log (entry.Got link bytes) c payload cause at gone = heard-lost _ payload cause at
+by-a-loss wait_ms setup plan log (entry.Ended link) c payload cause at gone = never gone
+by-a-loss wait_ms setup plan log (entry.ReadFailed link) c payload cause at gone = never gone
+by-a-loss wait_ms setup plan log (entry.WriteFailed link) c payload cause at gone = never gone
+by-a-loss wait_ms setup plan log (entry.OpenFailed server address) c payload cause at gone = refused-lost payload cause at
+by-a-loss wait_ms setup plan log e c payload cause at gone = cause
+
+pub no-loss : (wait_ms : ℕ) (setup : Setup) (plan : Plan) (log : Log) (e : Entry) (c : ClientNo) → IsCause wait_ms setup plan log e c connection_lost
+    → is_gone e ≡ false → ⊥
+no-loss wait_ms setup plan log e c cause = by-a-loss wait_ms setup plan log e c connection_lost cause is-lost
+
+carries : (carried : Bool) (payload : List ℕ) → IsLossCause carried payload → code payload ≡ 141 → carried ≡ true
+unfolding connection_refused
+carries carried _ (LinkLost is) at = is
+carries carried _ LoginBroken at = absurd (omega (arith, at))
+
+pub its-link : (carried : Bool) → IsLossCause carried connection_lost → carried ≡ true
+its-link carried cause = carries carried connection_lost cause is-lost
+
+long-enough : (wait_ms now_ms : ℕ) (came : Bool) (payload : List ℕ) → IsLateCause wait_ms now_ms came payload → code payload ≡ 142 → wait_ms ≤ now_ms
+unfolding bad_server_bytes server_shutdown
+long-enough wait_ms now_ms came _ (WaitedTooLong since late) at = omega (arith, late)
+long-enough wait_ms now_ms came _ (ShutDown shut) at = absurd (omega (arith, at))
+long-enough wait_ms now_ms came _ HeldUp at = absurd (omega (arith, at))
+
+is-late : (since now_ms : ℕ) → code (no_connection since now_ms) ≡ 142
+unfolding no_connection
+is-late since now_ms = refl
+
+pub waited : (wait_ms now_ms since : ℕ) (came : Bool) → IsLateCause wait_ms now_ms came (no_connection since now_ms) → wait_ms ≤ now_ms
+waited wait_ms now_ms since came cause = long-enough wait_ms now_ms came (no_connection since now_ms) cause (is-late since now_ms)
