@@ -93,6 +93,7 @@ module _ (homes : (user : List ℕ) → Hostgroup) (hostgroups : List Hostgroup)
       there = λ h has. refl;
       flag = refl;
       prepared = λ one is. absurd (let none : None ≡ Some one = is in cc);
+      named = λ number one is. absurd (let none : None ≡ Some number = is in cc);
       number = λ n is. absurd (let none : None ≡ Some n = is in cc);
       is = asked (is_connection_id class.shape) plain free plain;
     }

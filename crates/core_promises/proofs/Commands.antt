@@ -1,5 +1,5 @@
 -- Commands for prepared statements, as they are read.
-use Rattle.std.specs.Prelude.{◌≡◌, ℕ, List, Option, Some, None, Result, Ok, Err}
+use Rattle.std.specs.Prelude.{◌≡◌, ℕ, false, List, Option, Some, None, Result, Ok, Err}
 use Rattle.std.proofs.Common.{refl, sym, subst}
 use Rattle.mx_base.specs.Fields.{number_at}
 use Rattle.command_parse.specs.Meaning as meaning
@@ -8,7 +8,7 @@ use Rattle.command_parse.specs.Whole.{close_of, execute_by, execute_of, fetch_of
 use Rattle.command_parse.specs.declared.fault.CommandFault.{CommandFault}
 use Rattle.command_parse.specs.declared.fault.CommandFault.TheVariants as fault
 use Rattle.command_parse.specs.declared.statement.Known.{Known}
-use Rattle.message_judge.proofs.Commands.{Faulty, IsRead, IsSilent, Whole, is_whole, long-silent, numbered-none, numbered-some, reads}
+use Rattle.message_judge.proofs.Commands.{Faulty, IsRead, IsSilent, Whole, is_unknown, is_whole, long-silent, numbered-none, numbered-some, reads}
 
 -- Some the router answers itself, and an execute is one.
 
@@ -58,3 +58,22 @@ execute-runs (Some known) payload =
         | Whole types nulls values ↦ tt
         | Faulty why other ↦ tt
       ]
+
+-- of what is known
+abbrev pub IsReadKnown : Result Meaning CommandFault → Type 0
+IsReadKnown (Err why) = is_unknown why ≡ false
+IsReadKnown (Ok (meaning.Execute id types nulls values)) = Unit {0}
+IsReadKnown (Ok (meaning.ResetStmt id)) = Unit {0}
+IsReadKnown (Ok _) = ⊥
+
+pub execute-known : (known : Known) (payload : List ℕ) → IsReadKnown (execute_of (Some known) payload)
+execute-known known payload =
+    by-number IsReadKnown payload (λ id. of_known id (Some known) (execute_by payload id)) refl (λ id. by id (reads id known payload)) where
+      by : (id : ℕ) → IsRead id (execute_by payload id known) (is_whole known payload) → IsReadKnown (execute_by payload id known)
+      by id is = elim is as (λ read whole q. IsReadKnown read) [
+        | Whole types nulls values ↦ tt
+        | Faulty why other ↦ other
+      ]
+
+pub reset-known : (known : Known) (payload : List ℕ) → IsReadKnown (reset_of (Some known) payload)
+reset-known known payload = by-number IsReadKnown payload (λ id. of_known id (Some known) (λ k. Ok (meaning.ResetStmt id))) refl (λ id. tt)

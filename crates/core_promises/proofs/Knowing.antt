@@ -1,5 +1,5 @@
--- Where more is known of what a client prepared, a verdict is so as well.
-use Rattle.std.specs.Prelude.{◌≡◌, ℕ, Bool, true, false, find, is_some, List, Option, Some, None}
+-- Where the same is known of what a client prepared, a verdict is so as well.
+use Rattle.std.specs.Prelude.{◌≡◌, ◌<◌, ℕ, Bool, true, false, find, is_some, List, Option, Some, None}
 use Rattle.std.specs.Option.{option_and_then}
 use Rattle.std.proofs.Common.{refl, sym, ap, subst, ◌∙◌}
 use Rattle.session_state.specs.declared.pin.Pin.{Pin}
@@ -13,7 +13,7 @@ use Rattle.message_judge.specs.declared.caller.Prepared.{Prepared}
 use Rattle.core_promises.specs.Judges.{IsRoutedFor, IsToldAt, IsToldFor, IsVerdictFor, Rulebook, Situation}
 use Rattle.core_promises.specs.Statements.{number_named}
 
--- what is so of a client in one is so in the other, but that it may have prepared more under its numbers
+-- what is so of a client in one is so in the other, and what it prepared under a number above 0 is the same
 pub record KnowsMore (one other : Situation) : Type 0 where
   pub port : other.port ≡ one.port
   pub user : other.user ≡ one.user
@@ -21,6 +21,7 @@ pub record KnowsMore (one other : Situation) : Type 0 where
   pub pins : other.pins ≡ one.pins
   pub homes : other.homes ≡ one.homes
   pub statements : (number : ℕ) (prepared : Prepared) → one.statements number ≡ Some prepared → other.statements number ≡ Some prepared
+  pub back : (number : ℕ) (prepared : Prepared) → 0 < number → other.statements number ≡ Some prepared → one.statements number ≡ Some prepared
   pub given : (number : ℕ) → one.given number ≡ false → other.given number ≡ false
 
 named : (one other : Situation) → KnowsMore one other → (number : Option ℕ) (prepared : Prepared)
@@ -41,6 +42,7 @@ verdict_within book one other within c payload verdict for = record {
   there = λ h some. for.there h (ap (λ (homes : Hostgroup → Option LinkId). is_some (homes h)) (sym within.homes) ∙ some);
   flag = for.flag;
   prepared = λ prepared is. named one other within (number_named payload) prepared (for.prepared prepared is);
+  named = λ number prepared is some there. for.named number prepared is some (within.back number prepared some there);
   number = λ n is. within.given n (for.number n is);
   is = for.is;
 }

@@ -15,3 +15,4 @@ pub mod Wanted
 pub mod Statements
 pub mod Knowing
 pub mod Ruling
+pub mod Forgetting

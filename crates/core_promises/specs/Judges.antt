@@ -90,7 +90,8 @@ verdict_on rules known payload =
     verdict_by known.pins known.is_there (judged router_reads rules known.caller known.standing known.prepared payload).draft
 
 -- It is this on a message of this client, of which this is so. There is a link for it where one carries its session; its flag is one by which
--- rules may be tried first; a statement is what it prepared under the number that the message names, and its next number wasn't given yet.
+-- rules may be tried first; a statement is what it prepared under the number that the message names, and is known where one stands there; and its
+-- next number wasn't given yet.
 pub record IsVerdictFor (book : Rulebook) (situation : Situation) (c : ClientNo) (payload : List ℕ) (verdict : Verdict) : Type 0 where
   pub known : Knowledge
   pub client : known.caller.number ≡ c
@@ -102,6 +103,7 @@ pub record IsVerdictFor (book : Rulebook) (situation : Situation) (c : ClientNo)
   pub there : (hostgroup : Hostgroup) → is_some (situation.homes hostgroup) ≡ true → known.is_there hostgroup ≡ true
   pub flag : is_first_flag book.rules known.caller.flag ≡ true
   pub prepared : (one : Prepared) → known.prepared ≡ Some one → option_and_then situation.statements (number_named payload) ≡ Some one
+  pub named : (number : ℕ) (one : Prepared) → number_named payload ≡ Some number → 0 < number → situation.statements number ≡ Some one → known.prepared ≡ Some one
   pub number : (n : ℕ) → known.standing.next_number ≡ Some n → situation.given n ≡ false
   pub is : verdict ≡ verdict_on book.rules known payload
 

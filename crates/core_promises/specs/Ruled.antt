@@ -1,5 +1,5 @@
 -- Turns of a client by what the verdict says of what came up.
-use Rattle.std.specs.Prelude.{ℕ, nat_le, List, [], ◌∷◌, Option}
+use Rattle.std.specs.Prelude.{◌≡◌, ◌<◌, ◌≤◌, ℕ, is_some, nat_le, true, List, [], ◌∷◌, Option, Some}
 use Rattle.std.specs.Option.{option_and_then, option_map}
 use Rattle.mx_base.specs.declared.names.ClientNo.{ClientNo}
 use Rattle.pin_classifier.specs.Classes.{class_of}
@@ -59,25 +59,39 @@ situation_at keys desk = record {
 abbrev pub situation_up : (keys : (key : ℕ) → Option Key) → Setup → (default : List ℕ) → Client → Situation
 situation_up keys setup default row = situation_at keys (desk_up setup default row)
 
--- the rules, and the texts that are kept by their numbers
+-- the rules, and the texts that are kept by their numbers, of which those up to `since` were given before the entry
 pub record Ruling : Type 0 where
   pub book : Rulebook
+  pub since : ℕ
   pub keys : (key : ℕ) → Option Key
 
-abbrev pub ruling_of : Service → (keys : (key : ℕ) → Option Key) → Ruling
-ruling_of service keys = record { book = book_of service; keys = keys }
+abbrev pub ruling_of : Service → (since : ℕ) → (keys : (key : ℕ) → Option Key) → Ruling
+ruling_of service since keys = record { book = book_of service; since = since; keys = keys }
+
+-- The text of each statement that a client has is kept since before the entry.
+
+pub record IsKept (ruling : Ruling) (statement : Statement) : Type 0 where
+  pub early : statement.prepared.key ≤ ruling.since
+  pub there : is_some (ruling.keys statement.prepared.key) ≡ true
+
+abbrev pub AreKept : Ruling → ClientStatements → Type 0
+AreKept ruling statements =
+    (number : ℕ) (statement : Statement) → 0 < number → statement_at statements number ≡ Some statement → IsKept ruling statement
 
 -- this choice is what the verdict says of a message
 abbrev pub IsChoiceFor : Choice → Rulebook → Situation → (keys : (key : ℕ) → Option Key) → ClientNo → (payload : List ℕ) → Type 0
 IsChoiceFor (Goes route keyed) book situation keys c payload = IsRoutedFor book situation keys c payload route
 IsChoiceFor (Answers payloads) book situation keys c payload = IsToldFor book situation c payload payloads
 
+-- it is so at a turn, where the texts of what its client has prepared are kept
 abbrev pub IsRuled : Ruling → (choice : Choice) → (setup : Setup) → (default : List ℕ) → (c : ClientNo) → (old new : Tabled)
     → IsTurn choice setup default c old new → Type 0
 IsRuled ruling (Goes route keyed) setup default c old new turn =
-    IsChoiceFor (Goes route keyed) ruling.book (situation_up ruling.keys setup default turn.up.row) ruling.keys c turn.up.message.payload
+    AreKept ruling (desk_up setup default turn.up.row).seat.statements
+    → IsChoiceFor (Goes route keyed) ruling.book (situation_up ruling.keys setup default turn.up.row) ruling.keys c turn.up.message.payload
 IsRuled ruling (Answers payloads) setup default c old new turn =
-    IsChoiceFor (Answers payloads) ruling.book (situation_up ruling.keys setup default turn.up.row) ruling.keys c turn.up.message.payload
+    AreKept ruling (desk_up setup default turn.up.row).seat.statements
+    → IsChoiceFor (Answers payloads) ruling.book (situation_up ruling.keys setup default turn.up.row) ruling.keys c turn.up.message.payload
 
 abbrev pub AreRuled : Ruling → (choices : List Choice) → (halt : Halt) → (setup : Setup) → (default : List ℕ) → (c : ClientNo) → (old new : Tabled)
     → Turns choices halt setup default c old new → Type 0

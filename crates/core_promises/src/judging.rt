@@ -1,5 +1,5 @@
 // What the verdict says of a message that goes to a server; and routers that do otherwise with one: none that keeps its clients apart does so.
-ghost use Rattle.std.specs.Prelude.{◌≡◌, ◌≢◌, ℕ, false, true, List, [], ◌∷◌, slice_index_or, Option, Some, None};
+ghost use Rattle.std.specs.Prelude.{◌≡◌, ◌≢◌, ◌<◌, ℕ, false, true, List, [], ◌∷◌, slice_index_or, Option, Some, None};
 ghost use Rattle.std.specs.Option.{option_and_then};
 ghost use Rattle.core_promises.specs.Asks.{IsTextOf};
 ghost use Rattle.core_promises.specs.InForce.{has_administrator};
@@ -8,7 +8,7 @@ ghost use Rattle.core_promises.specs.Sessions.{KeepsApart};
 ghost use Rattle.core_promises.specs.Statements.{number_named};
 ghost use Rattle.core_promises.specs.Wrong.{AnswersBy, AsTaken, AsksFor, IsOfStatement, RefusesUser, SendsBy, SetsNoFlag, StaysIn, book_up, is_for_servers, user_of};
 ghost use Rattle.message_judge.specs.declared.caller.Prepared.{Prepared};
-ghost use Rattle.log_story.specs.Plan.{Route, com_execute, com_init_db, com_prepare, com_query};
+ghost use Rattle.log_story.specs.Plan.{Route, com_execute, com_init_db, com_prepare, com_query, com_statement_reset};
 ghost use Rattle.mx_base.specs.declared.names.Port.TheVariants.{Admin};
 ghost use Rattle.mx_wire.specs.Log.{Log};
 ghost use Rattle.pin_classifier.specs.Classes.{class_of};
@@ -21,6 +21,7 @@ ghost use Rattle.query_rules.specs.declared.ask.Ask.{Ask};
 ghost use Rattle.query_rules.specs.declared.ask.Stop.TheVariants.{Ok as OkBy};
 ghost use Rattle.query_rules.specs.declared.rule.Rule.{Rule};
 ghost use Rattle.reply_text.specs.Replies.{ok_payload};
+ghost use Rattle.router_promises.specs.Errors.{unknown_statement};
 ghost use Rattle.router_promises.specs.Router.{home_of};
 ghost use Rattle.router_promises.specs.Takings.{Taking};
 ghost use Rattle.router_promises.specs.Terms.{Terms, plan_in, setup_in};
@@ -77,6 +78,18 @@ pub fn verdicts_give_new_numbers()
 pub fn runs_what_wasnt_prepared()
     ensures { (terms : Terms) (rest : List ℕ) (route : Route) (sends : SendsBy terms (com_execute ∷ rest) route)
         → AsTaken sends.up (λ situation. option_and_then situation.statements (number_named (com_execute ∷ rest)) ≡ None) → ⊥ }
+{}
+
+/// An execute, or a reset, of a statement that its client prepared, and didn't close, is answered that it is unknown.
+pub fn forgets_what_was_prepared()
+    ensures runs { (terms : Terms) (rest : List ℕ) (number id : ℕ) (one : Prepared)
+        (answers : AnswersBy terms (com_execute ∷ rest) (unknown_statement id ∷ []))
+        → number_named (com_execute ∷ rest) ≡ Some number → 0 < number
+        → AsTaken answers.up (λ situation. situation.statements number ≡ Some one) → ⊥ }
+    ensures resets { (terms : Terms) (rest : List ℕ) (number id : ℕ) (one : Prepared)
+        (answers : AnswersBy terms (com_statement_reset ∷ rest) (unknown_statement id ∷ []))
+        → number_named (com_statement_reset ∷ rest) ≡ Some number → 0 < number
+        → AsTaken answers.up (λ situation. situation.statements number ≡ Some one) → ⊥ }
 {}
 
 /// An execute goes elsewhere than its statement was prepared, and no transaction is open.

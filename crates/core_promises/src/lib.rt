@@ -13,11 +13,11 @@ pub use giving::{
 };
 pub use judging::{
     answers_a_choice, answers_a_ping_otherwise, answers_for_a_server, answers_nothing,
-    changes_its_rules, gives_a_number_again, goes_elsewhere, goes_past_a_rule,
-    goes_past_a_rule_of_its_user, leaves_its_transaction, runs_elsewhere, runs_what_wasnt_prepared,
-    sends_another_command, sends_for_an_administrator, sends_what_is_refused,
-    situations_are_promised, verdicts_ask, verdicts_give_new_numbers, verdicts_go_home,
-    verdicts_run_what_was_prepared, verdicts_stay_in_transactions,
+    changes_its_rules, forgets_what_was_prepared, gives_a_number_again, goes_elsewhere,
+    goes_past_a_rule, goes_past_a_rule_of_its_user, leaves_its_transaction, runs_elsewhere,
+    runs_what_wasnt_prepared, sends_another_command, sends_for_an_administrator,
+    sends_what_is_refused, situations_are_promised, verdicts_ask, verdicts_give_new_numbers,
+    verdicts_go_home, verdicts_run_what_was_prepared, verdicts_stay_in_transactions,
 };
 pub use sessions::{apart_is_private, cores_keep_apart};
 pub use waiting::{

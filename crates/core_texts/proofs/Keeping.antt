@@ -12,19 +12,21 @@ use Rattle.private_model.specs.Story.{Key}
 use Rattle.core_texts.specs.Texts.{AreLess, AreMore, key_at}
 use Rattle.core_texts.specs.declared.texts.Texts.{Texts}
 
-pub same_more : (old new : Texts) → new.last ≡ old.last → ((n : ℕ) → key_at new n ≡ key_at old n) → AreMore old new
-same_more old new last same = record {
+pub same_more : (old new : Texts) → new.last ≡ old.last → new.since ≡ old.since → ((n : ℕ) → key_at new n ≡ key_at old n) → AreMore old new
+same_more old new last since same = record {
   last = omega (arith, last);
+  since = since;
   kept = λ n key at. same n ∙ at;
   fresh = λ n key at. inl (sym (same n) ∙ at);
 }
 
 pub itself_more : (t : Texts) → AreMore t t
-itself_more t = record { last = omega arith; kept = λ n key at. at; fresh = λ n key at. inl at }
+itself_more t = record { last = omega arith; since = refl; kept = λ n key at. at; fresh = λ n key at. inl at }
 
 pub more_on : (a b d : Texts) → AreMore a b → AreMore b d → AreMore a d
 more_on a b d one more = record {
   last = (let first : a.last ≤ b.last = one.last in let next : b.last ≤ d.last = more.last in omega (arith, first, next));
+  since = more.since ∙ one.since;
   kept = λ n key at. more.kept n key (one.kept n key at);
   fresh = λ n key at. later n key (more.fresh n key at);
 } where
@@ -43,10 +45,11 @@ more_on a b d one more = record {
 other_number : (old : Texts) (n : ℕ) → n ≤ old.last → nat_eq (old.last + 1) n ≡ false
 other_number old n below = ne_eqb (old.last + 1) n (λ e. omega (arith, e, below))
 
-pub added_more : (old new : Texts) → new.last ≡ old.last + 1
+pub added_more : (old new : Texts) → new.last ≡ old.last + 1 → new.since ≡ old.since
     → ((n : ℕ) → nat_eq (old.last + 1) n ≡ false → key_at new n ≡ key_at old n) → AreMore old new
-added_more old new last others = record {
+added_more old new last since others = record {
   last = omega (arith, last);
+  since = since;
   kept = λ n key at. others n (other_number old n (old.counted n key at)) ∙ at;
   fresh = λ n key at. by n key at (nat_eq (old.last + 1) n) refl;
 } where

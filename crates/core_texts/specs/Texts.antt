@@ -12,12 +12,17 @@ key_at t number = get nat_eq t.kept number
 abbrev pub AreCounted : Texts → Type 0
 AreCounted t = (number : ℕ) (key : Key) → key_at t number ≡ Some key → number ≤ t.last
 
--- What stood under a number stands there; and what came has a number that none had.
+-- What stood under a number stands there; and what came has a number that none had. Nothing begins anew.
 pub record AreMore (old new : Texts) : Type 0 where
   pub last : old.last ≤ new.last
+  pub since : new.since ≡ old.since
   pub kept : (number : ℕ) (key : Key) → key_at old number ≡ Some key → key_at new number ≡ Some key
   pub fresh : (number : ℕ) (key : Key) → key_at new number ≡ Some key
       → (key_at old number ≡ Some key) ⊎ ((old.last < number) × (number ≤ new.last))
+
+-- Those that have come by now are those of before.
+abbrev pub HasBegun : Texts → Type 0
+HasBegun t = t.since ≡ t.last
 
 -- What stands under a number stood there.
 pub record AreLess (old new : Texts) : Type 0 where

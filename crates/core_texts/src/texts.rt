@@ -18,15 +18,17 @@ use std::collections::{HashMap, HashSet};
 /// So many texts stay, whether anybody needs them or not.
 const AT_LEAST: usize = 10_000;
 
-/// Texts by their numbers, of which none is greater than the last, and their numbers by what they are. Once there are so many (`most`), those
-/// are to be forgotten that nobody needs.
+/// Texts by their numbers, of which none is greater than the last, and their numbers by what they are. Those up to `since` were given before
+/// what goes on now began. Once there are so many (`most`), those are to be forgotten that nobody needs.
 #[derive(Drop)]
 pub struct Texts {
     alloc: Global,
     pub last: u64,
+    pub since: u64,
     pub kept: HashMap<u64, Kept>,
     numbers: HashMap<Bytes, u64>,
     most: usize,
+    pub ghost begun: { since ≤ last },
     pub ghost counted: { (number : ℕ) (key : Key) → get nat_eq kept number ≡ Some key → number ≤ last },
 }
 
@@ -73,7 +75,7 @@ impl Kept {
 }
 
 impl Texts {
-    ghost use Rattle.core_texts.specs.Texts.{AreLess, AreMore, key_at};
+    ghost use Rattle.core_texts.specs.Texts.{AreLess, AreMore, HasBegun, key_at};
 
     /// None yet. Takes no memory.
     pub fn new(alloc: Global) -> Self
@@ -83,10 +85,20 @@ impl Texts {
         Texts {
             alloc,
             last: 0,
+            since: 0,
             kept: HashMap::new(alloc),
             numbers: HashMap::new(alloc),
             most: AT_LEAST,
         }
+    }
+
+    /// Something begins: all that have numbers by now were given them before. Takes no memory.
+    pub fn begin(&mut self)
+        ensures begun { HasBegun self.new }
+        ensures last { self.new.last ≡ self.old.last }
+        ensures same { (number : ℕ) → key_at self.new number ≡ key_at self.old number }
+    {
+        self.since = self.last;
     }
 
     /// What stands under a number.
@@ -138,6 +150,7 @@ impl Texts {
         ensures there { IfOk result (λ number. key_at self.new number ≡ Some (record { text = text.now; place = place.now })) }
         ensures number { IfOk result (λ number. number ≡ self.old.last + 1) }
         ensures last { IfOk result (λ number. self.new.last ≡ number) }
+        ensures since { OnOk result (self.new.since ≡ self.old.since) }
         ensures others { IfOk result (λ number. (other : ℕ) → nat_eq number other ≡ false → key_at self.new other ≡ key_at self.old other) }
     {
         let number = self.last + 1;

@@ -44,6 +44,11 @@ pub named-known : (texts : Texts) (statements : ClientStatements) (payload : Lis
 named-known texts statements payload named is one known =
     sym (known-number texts statements (number_named payload)) ∙ (sym (ap prepared_of is) ∙ known)
 
+pub known-named : (texts : Texts) (statements : ClientStatements) (payload : List ℕ) (named : Option Named) → named ≡ named_in texts statements payload
+    → (number : ℕ) (one : Prepared) → number_named payload ≡ Some number → known_in (key_at texts) statements number ≡ Some one → prepared_of named ≡ Some one
+known-named texts statements payload named is number one at known =
+    ap prepared_of is ∙ known-number texts statements (number_named payload) ∙ ap (option_and_then (known_in (key_at texts) statements)) at ∙ known
+
 -- the next number is greater than the last, and none is greater than that
 
 next-by : (last n : ℕ) (full : Bool) → (if full then None else Some (last + 1)) ≡ Some n → n ≡ last + 1

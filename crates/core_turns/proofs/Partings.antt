@@ -30,9 +30,8 @@ use Rattle.core_tables.specs.Parting.{kept_at, left_in, left_row, parted_in, wit
 use Rattle.core_tables.specs.Tables.{IsSame, Tabled, client_put, tables_of}
 use Rattle.core_tables.specs.Taking.{IsUpOr}
 use Rattle.core_tables.specs.declared.client.Client.{Client}
-use Rattle.core_laws.specs.clients.Found.{desk_up}
-use Rattle.core_laws.specs.clients.Turns.{Answers, Choice, EndsThere, Goes, Halt, QuitsThere}
-use Rattle.core_texts.specs.Texts.{AreMore, key_at}
+use Rattle.core_laws.specs.clients.Turns.{Choice, EndsThere, Halt, QuitsThere}
+use Rattle.core_texts.specs.Texts.{AreMore}
 use Rattle.core_texts.specs.declared.texts.Texts.{Texts}
 use Rattle.marked_tables.specs.Goes.{GoesOn}
 use Rattle.marked_tables.specs.declared.marked.MarkedTables.{MarkedTables}
@@ -40,8 +39,7 @@ use Rattle.marked_tables.proofs.Going.{goes_along, still_goes}
 use Rattle.core_turns.specs.Turned.{HasChosen, HasGone, IsRuledTurn, IsSaid, IsToEnd, IsToQuit, MayLeaveBy, RuledTurns, StopsSo, TurnsUntil, halt_of, is_away}
 use Rattle.core_turns.specs.declared.turn.Stop.{Stop}
 use Rattle.core_turns.specs.declared.turn.Stop.TheVariants as stops
-use Rattle.core_turns.specs.Taken.{Keys}
-use Rattle.core_turns.proofs.Keys.{HasKeys, keys_along, keys_of, more_along, more_routed, more_said, more_told, same_texts}
+use Rattle.core_turns.proofs.Keys.{more_along, more_said, ruled_by, same_texts, turn_more}
 use Rattle.core_turns.proofs.Turning.{both-same, chosen-some, not-away, seated-there}
 
 -- Who is told at a look that it ends has ended.
@@ -192,62 +190,56 @@ module _ (ruling : Ruling) (service : Service) (default : List ℕ) (c : ClientN
       subst IsUpOr (sym (seated-there service default c old now is.up.row is.up.looks.there is.up.same))
       (record { found = subst (λ (o : Option Framed). IsSome o) (sym is.up.found) refl; past_login = is.past_login })
 
-abbrev pub by : Rulebook → Keys → Ruling
-by book keys = record { book = book; keys = keys }
-
--- Turns that are behind a client, whatever comes behind them, and whatever keys there are more by then.
-pub record HasTurned (book : Rulebook) (keys : Keys) (service : Service) (default : List ℕ) (c : ClientNo) (old now : Tabled) : Type 0 where
+-- Turns that are behind a client, whatever comes behind them, and whatever texts there are more by then.
+pub record HasTurned (book : Rulebook) (texts : Texts) (service : Service) (default : List ℕ) (c : ClientNo) (old now : Tabled) : Type 0 where
   pub choices : List Choice
-  pub said : All (IsSaid (by book keys) c) choices
-  pub onward : (later : Keys) → HasKeys keys later → (others : List Choice) (halt : Halt) (new : Tabled)
-      → TurnsUntil (by book later) others halt service default c now new → TurnsUntil (by book later) (choices ++ others) halt service default c old new
+  pub said : All (IsSaid (ruled_by book texts) c) choices
+  pub onward : (later : Texts) → AreMore texts later → (others : List Choice) (halt : Halt) (new : Tabled)
+      → TurnsUntil (ruled_by book later) others halt service default c now new → TurnsUntil (ruled_by book later) (choices ++ others) halt service default c old new
 
 -- The loop's invariant, and what stands behind it.
 
 pub record IsGoing (book : Rulebook) (first texts : Texts) (service : Service) (default : List ℕ) (c : ClientNo) (old now : MarkedTables) : Type 0 where
-  pub turned : HasTurned book (key_at texts) service default c (tables_of old.tables) (tables_of now.tables)
+  pub turned : HasTurned book texts service default c (tables_of old.tables) (tables_of now.tables)
   pub there : IsSome ((tables_of now.tables).clients c)
   pub goes : GoesOn old now
   pub more : AreMore first texts
 
--- a turn that was made stands by more keys
-more-turn : (book : Rulebook) (keys later : Keys) → HasKeys keys later → (choice : Choice) (service : Service) (default : List ℕ) (c : ClientNo) (old new : Tabled)
-    → IsRuledTurn (by book keys) choice service default c old new → IsRuledTurn (by book later) choice service default c old new
-more-turn book keys later has (Goes route keyed) service default c old new is =
-    (is.0, more_routed keys later has book (desk_up service default is.0.up.row) c is.0.up.message.payload route is.1)
-more-turn book keys later has (Answers payloads) service default c old new is =
-    (is.0, more_told keys later has book (desk_up service default is.0.up.row) c is.0.up.message.payload payloads is.1)
+-- a turn that was made stands by more texts
+more-turn : (book : Rulebook) (texts later : Texts) → AreMore texts later → (choice : Choice) (service : Service) (default : List ℕ) (c : ClientNo) (old new : Tabled)
+    → IsRuledTurn (ruled_by book texts) choice service default c old new → IsRuledTurn (ruled_by book later) choice service default c old new
+more-turn book texts later more choice service default c old new is = (is.0, turn_more book texts later more service default c choice old new is.0 is.1)
 
 module _ (book : Rulebook) (service : Service) (default : List ℕ) (c : ClientNo) where
-  none-turned : (keys : Keys) (old : Tabled) → HasTurned book keys service default c old old
-  none-turned keys old = record { choices = []; said = All-nil (IsSaid (by book keys) c); onward = λ later has others halt new is. is }
+  none-turned : (texts : Texts) (old : Tabled) → HasTurned book texts service default c old old
+  none-turned texts old = record { choices = []; said = All-nil (IsSaid (ruled_by book texts) c); onward = λ later more others halt new is. is }
 
-  one-more : (keys more : Keys) → HasKeys keys more → (old now later : Tabled) → HasTurned book keys service default c old now
-      → HasChosen (by book more) service default c now later → HasTurned book more service default c old later
-  one-more keys more has old now later turned chosen = record {
+  one-more : (texts more : Texts) → AreMore texts more → (old now later : Tabled) → HasTurned book texts service default c old now
+      → HasChosen (ruled_by book more) service default c now later → HasTurned book more service default c old later
+  one-more texts more comes old now later turned chosen = record {
     choices = turned.choices ++ chosen.choice ∷ [];
-    said = All-push (IsSaid (by book more) c) turned.choices chosen.choice
-        (All-weaker (IsSaid (by book keys) c) (IsSaid (by book more) c) (λ choice said. more_said keys more has book c choice said) turned.choices turned.said) chosen.said;
+    said = All-push (IsSaid (ruled_by book more) c) turned.choices chosen.choice
+        (All-weaker (IsSaid (ruled_by book texts) c) (IsSaid (ruled_by book more) c) (λ choice said. more_said book texts more comes c choice said) turned.choices turned.said) chosen.said;
     onward = λ last lasts others halt new is.
-        subst (λ (all : List Choice). TurnsUntil (by book last) all halt service default c old new) (sym (append_assoc turned.choices (chosen.choice ∷ []) others))
-        (turned.onward last (keys_along keys more last has lasts) (chosen.choice ∷ others) halt new
+        subst (λ (all : List Choice). TurnsUntil (ruled_by book last) all halt service default c old new) (sym (append_assoc turned.choices (chosen.choice ∷ []) others))
+        (turned.onward last (more_along texts more last comes lasts) (chosen.choice ∷ others) halt new
         (later, more-turn book more last lasts chosen.choice service default c now later chosen.turns, is));
   }
 
   pub begins : (texts : Texts) (m : MarkedTables) → is_away ((tables_of m.tables).clients c) ≡ false → IsGoing book texts texts service default c m m
   begins texts m going = record {
-    turned = none-turned (key_at texts) (tables_of m.tables);
+    turned = none-turned texts (tables_of m.tables);
     there = not-away ((tables_of m.tables).clients c) going;
     goes = still_goes m;
     more = same_texts texts;
   }
 
   pub goes-on : (first texts more : Texts) (old now later : MarkedTables) → IsGoing book first texts service default c old now
-      → HasChosen (by book (key_at more)) service default c (tables_of now.tables) (tables_of later.tables) → GoesOn now later → AreMore texts more
+      → HasChosen (ruled_by book more) service default c (tables_of now.tables) (tables_of later.tables) → GoesOn now later → AreMore texts more
       → IsGoing book first more service default c old later
   goes-on first texts more old now later going chosen goes comes = record {
-    turned = one-more (key_at texts) (key_at more) (keys_of texts more comes) (tables_of old.tables) (tables_of now.tables) (tables_of later.tables) going.turned chosen;
-    there = chosen-some (by book (key_at more)) service default c (tables_of now.tables) (tables_of later.tables) chosen;
+    turned = one-more texts more comes (tables_of old.tables) (tables_of now.tables) (tables_of later.tables) going.turned chosen;
+    there = chosen-some (ruled_by book more) service default c (tables_of now.tables) (tables_of later.tables) chosen;
     goes = goes_along old now later going.goes goes;
     more = more_along first texts more going.more comes;
   }
@@ -255,18 +247,17 @@ module _ (book : Rulebook) (service : Service) (default : List ℕ) (c : ClientN
   pub gone-so : (stop : Stop) (first texts more : Texts) (old now new : MarkedTables) → is_away ((tables_of old.tables).clients c) ≡ false
       → IsGoing book first texts service default c old now → AreMore texts more
       → StopsSo (halt_of stop) service default c (tables_of now.tables) (tables_of new.tables)
-      → HasGone TurnsUntil stop (by book (key_at more)) service default c (tables_of old.tables) (tables_of new.tables)
+      → HasGone TurnsUntil stop (ruled_by book more) service default c (tables_of old.tables) (tables_of new.tables)
   gone-so stop first texts more old now new present going comes is =
-      let has : HasKeys (key_at texts) (key_at more) = keys_of texts more comes in
-      let said : All (IsSaid (by book (key_at more)) c) going.turned.choices =
-      All-weaker (IsSaid (by book (key_at texts)) c) (IsSaid (by book (key_at more)) c) (λ choice said. more_said (key_at texts) (key_at more) has book c choice said)
+      let said : All (IsSaid (ruled_by book more) c) going.turned.choices =
+      All-weaker (IsSaid (ruled_by book texts) c) (IsSaid (ruled_by book more) c) (λ choice said. more_said book texts more comes c choice said)
       going.turned.choices going.turned.said in
       record {
         going = present;
         choices = going.turned.choices ++ [];
-        said = All-append (IsSaid (by book (key_at more)) c) going.turned.choices [] said (All-nil (IsSaid (by book (key_at more)) c));
-        turned = going.turned.onward (key_at more) has [] (halt_of stop) (tables_of new.tables) is;
+        said = All-append (IsSaid (ruled_by book more) c) going.turned.choices [] said (All-nil (IsSaid (ruled_by book more) c));
+        turned = going.turned.onward more comes [] (halt_of stop) (tables_of new.tables) is;
       }
 
-  pub gone-leaves : (keys : Keys) (stop : Stop) (old new : Tabled) → HasGone TurnsUntil stop (by book keys) service default c old new → MayLeaveBy stop (new.clients c)
-  gone-leaves keys stop old new gone = may-leave (by book keys) service default c stop gone.choices old new gone.turned
+  pub gone-leaves : (texts : Texts) (stop : Stop) (old new : Tabled) → HasGone TurnsUntil stop (ruled_by book texts) service default c old new → MayLeaveBy stop (new.clients c)
+  gone-leaves texts stop old new gone = may-leave (ruled_by book texts) service default c stop gone.choices old new gone.turned

@@ -37,12 +37,12 @@ use Rattle.core_laws.proofs.OfTaking.Joining.{noted_there}
 use Rattle.core_laws.specs.clients.Turns.{AreKeyed, Keyed}
 use Rattle.core_promises.specs.Judges.{Rulebook}
 use Rattle.core_promises.specs.Ruled.{situation_at}
-use Rattle.core_texts.specs.Texts.{key_at}
+use Rattle.core_texts.specs.Texts.{AreMore, key_at}
 use Rattle.core_turns.specs.Judged.{IsPreparedSo, byte_of, route_by}
 use Rattle.core_turns.specs.Preparing.{IsDueToPrepare, IsInMemory, stays_in}
 use Rattle.core_turns.specs.Taken.{IsDueThere, OnUp}
 use Rattle.core_turns.proofs.Forms.{prepare-asks}
-use Rattle.core_turns.proofs.Keys.{HasKeys, more_verdict}
+use Rattle.core_turns.proofs.Keys.{more_verdict, ruled_by}
 use Rattle.core_turns.proofs.Named.{next-few, next-is}
 use Rattle.core_turns.proofs.Ups.{on-up, said-in}
 
@@ -147,17 +147,17 @@ prepares_as text class hostgroup multiplex key number row classed some = record 
   whole = tt;
 }
 
-pub due_prepared : (book : Rulebook) (judged texts : Texts) → HasKeys (key_at judged) (key_at texts) → (ordinal flag since : ℕ) (hostgroup : Hostgroup) (text : List ℕ)
+pub due_prepared : (book : Rulebook) (judged texts : Texts) → AreMore judged texts → (ordinal flag since : ℕ) (hostgroup : Hostgroup) (text : List ℕ)
     (multiplex : Option Bool) (class : Class) (c : ClientNo) (old new : Tabled)
     → OnUp c old (λ row message. (nat_eq (byte_of message.payload) com_prepare ≡ true) × (class ≡ class_of text))
     → OnUp c old (λ row message. IsInMemory row.desk.seat.statements message.payload)
     → IsDueToPrepare ordinal flag since hostgroup text multiplex class c texts old new
     → OnUp c old (λ row message. row.desk.seat.port ≡ Traffic
     → IsPreparedSo book (situation_at (key_at judged) row.desk) (next_number row.desk.seat.statements) c message.payload hostgroup text multiplex
-    → IsDueThere hostgroup ordinal (record { book = book; keys = key_at texts }) c row message old new)
+    → IsDueThere hostgroup ordinal (ruled_by book texts) c row message old new)
 due_prepared book judged texts more ordinal flag since hostgroup text multiplex class c old new verdict memory due =
     on-up old c due.row (λ row message. row.desk.seat.port ≡ Traffic → IsPreparedSo book (situation_at (key_at judged) row.desk) (next_number row.desk.seat.statements) c message.payload hostgroup text multiplex
-    → IsDueThere hostgroup ordinal (record { book = book; keys = key_at texts }) c row message old new) due.there
+    → IsDueThere hostgroup ordinal (ruled_by book texts) c row message old new) due.there
     (λ message found port promised.
     let row_is : due.due.row ≡ due.row = same_Some due.due.row due.row (sym due.due.there ∙ due.there) in
     let asked : asked_in due.row.desk.seat.statements message.payload (Some text) ≡ Some (Says due.due.command) =
@@ -183,7 +183,7 @@ due_prepared book judged texts more ordinal flag since hostgroup text multiplex 
       single = refl;
       under = All-cons (λ (k : Keyed). key_at texts k.number ≡ Some k.key) one [] due.keyed (All-nil (λ (k : Keyed). key_at texts k.number ≡ Some k.key));
       prepares = λ numbered. ap is_some due.keyed;
-      ruled = record {
+      ruled = λ kept. record {
         wanted = record {
           route = record (route_by hostgroup (Some text) multiplex) { number = promised.number };
           key = Some (record { text = text; place = due.row.desk.seat.place });
@@ -191,7 +191,7 @@ due_prepared book judged texts more ordinal flag since hostgroup text multiplex 
         routed = refl;
         keyed = λ key is_key. due.keyed ∙ is_key;
         port = port;
-        is = more_verdict (key_at judged) (key_at texts) more book due.row.desk c message.payload _ promised.ruled;
+        is = more_verdict book judged texts more due.row.desk kept c message.payload _ promised.ruled;
       };
       flag = flag;
       command = due.due.command;

@@ -105,6 +105,7 @@ module _ (book : Rulebook) (situation : Situation) (next : Option ℕ) (c : Clie
     there = there;
     flag = by.flag;
     prepared = by.named;
+    named = by.known;
     number = λ n is_next. by.number n (sym by.next_is ∙ is_next);
     is = is ∙ ap (judging.verdict_by situation.pins is_there) by.is;
   }

@@ -36,7 +36,7 @@ use Rattle.shared_router.proofs.Arguing.{long_enough, types_there}
 use Rattle.core_tables.specs.Tables.{Tabled}
 use Rattle.core_tables.specs.Taking.{found_of, run_work}
 use Rattle.core_tables.specs.declared.client.Client.{Client}
-use Rattle.core_texts.specs.Texts.{key_at}
+use Rattle.core_texts.specs.Texts.{AreMore, key_at}
 use Rattle.core_texts.specs.declared.texts.Texts.{Texts}
 use Rattle.core_laws.proofs.OfTaking.Joining.{noted_there}
 use Rattle.core_laws.specs.clients.Turns.{AreBoundSo, Keyed}
@@ -47,7 +47,7 @@ use Rattle.core_turns.specs.Judged.{IsExecute, byte_of, goes_with, is_whole, rou
 use Rattle.core_turns.specs.Preparing.{IsDueToRun, IsHeld, IsHeldIf, IsInMemory, IsRunBy, moved_key, named_as, named_in, statement_named, stays_in}
 use Rattle.core_turns.specs.Taken.{IsDueThere, Keys, OnUp}
 use Rattle.core_turns.specs.declared.judged.Named.{Named}
-use Rattle.core_turns.proofs.Keys.{HasKeys, more_verdict}
+use Rattle.core_turns.proofs.Keys.{more_verdict, ruled_by}
 use Rattle.core_turns.proofs.Prepared.{asked_then, first_of, run_command, run_for, run_key_is, run_route, second_of, text_key}
 use Rattle.core_turns.proofs.Ups.{on-up}
 
@@ -213,7 +213,7 @@ run-asked setup prepared prepared_key number key stands args number_is at stays 
 
 -- So a statement is due that executes it.
 
-module _ (book : Rulebook) (judged texts : Texts) (more : HasKeys (key_at judged) (key_at texts)) (ordinal flag since : ℕ) (hostgroup : Hostgroup) (multiplex : Option Bool)
+module _ (book : Rulebook) (judged texts : Texts) (more : AreMore judged texts) (ordinal flag since : ℕ) (hostgroup : Hostgroup) (multiplex : Option Bool)
     (named : Named) (c : ClientNo) (old new : Tabled) where
   abbrev prepared : Prepared
   prepared = named.prepared
@@ -251,7 +251,7 @@ module _ (book : Rulebook) (judged texts : Texts) (more : HasKeys (key_at judged
     second = record { number = due.key; key = found_key stays prepared stands }
 
     first-there : key_at texts named.key ≡ Some (text_key prepared)
-    first-there = more.each named.key (text_key prepared) (of.keyed ∙ ap (λ (p : Prepared). Some (text_key p)) (sym of.known))
+    first-there = more.kept named.key (text_key prepared) (of.keyed ∙ ap (λ (p : Prepared). Some (text_key p)) (sym of.known))
 
     second-there : key_at texts due.key ≡ Some (found_key stays prepared stands)
     second-there = found-by texts named.key prepared stands due.key stays first-there due.keyed
@@ -259,7 +259,7 @@ module _ (book : Rulebook) (judged texts : Texts) (more : HasKeys (key_at judged
     same : stays ≡ true → due.key ≡ named.key
     same = same-by stays texts named.key prepared stands due.key due.keyed
 
-    pub ran-there : due.row.desk.seat.port ≡ Traffic → IsRuledRun due.row message → IsDueThere hostgroup ordinal (record { book = book; keys = key_at texts }) c due.row message old new
+    pub ran-there : due.row.desk.seat.port ≡ Traffic → IsRuledRun due.row message → IsDueThere hostgroup ordinal (ruled_by book texts) c due.row message old new
     ran-there port ruled = record {
       route = run_route hostgroup multiplex due.key;
       keyed = first ∷ second ∷ [];
@@ -268,7 +268,7 @@ module _ (book : Rulebook) (judged texts : Texts) (more : HasKeys (key_at judged
       under = All-cons (λ (k : Keyed). key_at texts k.number ≡ Some k.key) first (second ∷ []) first-there
           (All-cons (λ (k : Keyed). key_at texts k.number ≡ Some k.key) second [] second-there (All-nil (λ (k : Keyed). key_at texts k.number ≡ Some k.key)));
       prepares = λ numbered. absurd (let none : 0 < 0 = numbered in omega (arith, none));
-      ruled = record {
+      ruled = λ kept. record {
         wanted = record {
           route = route_by hostgroup None multiplex;
           key = unplaced prepared.place.schema (record { text = prepared.text; place = prepared.place }) stands;
@@ -276,7 +276,7 @@ module _ (book : Rulebook) (judged texts : Texts) (more : HasKeys (key_at judged
         routed = refl;
         keyed = λ key is_key. unplaced-so (key_at texts) prepared.place.schema stands (text_key prepared) due.key refl second-there key is_key;
         port = port;
-        is = more_verdict (key_at judged) (key_at texts) more book due.row.desk c message.payload _ ruled;
+        is = more_verdict book judged texts more due.row.desk kept c message.payload _ ruled;
       };
       flag = flag;
       command = run_command prepared stands due.due.args;
@@ -313,9 +313,9 @@ module _ (book : Rulebook) (judged texts : Texts) (more : HasKeys (key_at judged
   pub due_run : OnUp c old (λ row message. (named_in judged row.desk.seat.statements message.payload ≡ Some named) × IsExecute prepared message.payload)
       → OnUp c old (λ row message. IsInMemory row.desk.seat.statements message.payload)
       → IsDueToRun ordinal flag since hostgroup multiplex named.key prepared c texts old new
-      → OnUp c old (λ row message. row.desk.seat.port ≡ Traffic → IsRuledRun row message → IsDueThere hostgroup ordinal (record { book = book; keys = key_at texts }) c row message old new)
+      → OnUp c old (λ row message. row.desk.seat.port ≡ Traffic → IsRuledRun row message → IsDueThere hostgroup ordinal (ruled_by book texts) c row message old new)
   due_run verdict memory due =
-      on-up old c due.row (λ row message. row.desk.seat.port ≡ Traffic → IsRuledRun row message → IsDueThere hostgroup ordinal (record { book = book; keys = key_at texts }) c row message old new) due.there
+      on-up old c due.row (λ row message. row.desk.seat.port ≡ Traffic → IsRuledRun row message → IsDueThere hostgroup ordinal (ruled_by book texts) c row message old new) due.there
       (λ message found.
       let on = verdict due.row due.there message found in
       ran-there due message found on.0 on.1 (memory due.row due.there message found))

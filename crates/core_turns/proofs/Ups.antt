@@ -84,7 +84,7 @@ pub answer-so : (anew : Bool) (ruling : Ruling) (c : ClientNo) (flag : ℕ) (pac
 answer-so anew ruling c flag packets statements payloads old new own spelt is noted made = λ row there message found ruled. record {
   payloads = payloads;
   own = own;
-  ruled = ruled;
+  ruled = λ kept. ruled;
   flag = flag;
   packets = packets;
   statements = statements;
@@ -159,7 +159,7 @@ due-there ruling hostgroup ordinal flag since text multiplex form c old new send
       single = refl;
       under = All-nil (λ (one : Keyed). ruling.keys one.number ≡ Some one.key);
       prepares = λ numbered. absurd (let none : 0 < 0 = numbered in omega (arith, none));
-      ruled = unkeyed ruling.book ruling.keys due.row c message.payload hostgroup text multiplex port ruled;
+      ruled = λ kept. unkeyed ruling.book ruling.keys due.row c message.payload hostgroup text multiplex port ruled;
       flag = flag;
       command = due.command;
       work = text_work ordinal hostgroup since multiplex form (spelling 0 (text_payload due.command));

@@ -1,5 +1,5 @@
 -- What a message can be of which this becomes.
-use Rattle.std.specs.Prelude.{◌≡◌, ◌⊎◌, ◌&&◌, ℕ, Bool, true, false, is_none, length, nat_eq, nat_le, not, slice_index_or, drop, if◌then◌else◌, List, Option, Some, None}
+use Rattle.std.specs.Prelude.{◌≡◌, ◌<◌, ◌⊎◌, ◌&&◌, ℕ, Bool, true, false, is_none, length, nat_eq, nat_le, not, slice_index_or, drop, if◌then◌else◌, List, Option, Some, None}
 use Rattle.std.specs.Option.{option_and_then}
 use Rattle.mx_base.specs.declared.names.ClientNo.{ClientNo}
 use Rattle.mx_base.specs.declared.names.Hostgroup.{Hostgroup}
@@ -117,6 +117,7 @@ pub record IsDraftFor (book : Rulebook) (situation : Situation) (next : Option �
   pub next_is : standing.next_number ≡ next
   pub flag : is_first_flag book.rules caller.flag ≡ true
   pub named : (one : Prepared) → prepared ≡ Some one → option_and_then situation.statements (number_named payload) ≡ Some one
+  pub known : (number : ℕ) (one : Prepared) → number_named payload ≡ Some number → 0 < number → situation.statements number ≡ Some one → prepared ≡ Some one
   pub number : (n : ℕ) → next ≡ Some n → situation.given n ≡ false
   pub is : draft_of caller prepared draft ≡ (judged router_reads book.rules caller standing prepared payload).draft
 

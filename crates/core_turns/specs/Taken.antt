@@ -21,7 +21,7 @@ use Rattle.core_tables.specs.Tables.{IsSame, Tabled, client_changed}
 use Rattle.core_tables.specs.Taking.{answers, begins_anew, found_of, goes}
 use Rattle.core_tables.specs.declared.client.Client.{Client}
 use Rattle.core_promises.specs.Judges.{IsRoutedFor, IsToldFor}
-use Rattle.core_promises.specs.Ruled.{Ruling, situation_at}
+use Rattle.core_promises.specs.Ruled.{AreKept, Ruling, situation_at}
 use Rattle.core_turns.specs.declared.turn.Stop.{Stop}
 use Rattle.core_turns.specs.declared.turn.Stop.TheVariants as stops
 use Rattle.core_turns.specs.declared.turn.Turn.{Turn}
@@ -40,7 +40,7 @@ AreUnder keys keyed = All (λ (one : Keyed). keys one.number ≡ Some one.key) k
 abbrev pub OnUp : ClientNo → Tabled → (Client → Framed → Type 0) → Type 0
 OnUp c t fact = (row : Client) → t.clients c ≡ Some row → (message : Framed) → found_of row ≡ Some message → fact row message
 
--- The router answers it, in its own words, as the verdict says; a COM_RESET_CONNECTION begins anew.
+-- The router answers it, in its own words, as the verdict says where the texts of what is prepared are kept; a COM_RESET_CONNECTION begins anew.
 
 abbrev pub answered_so : (anew : Bool) → ClientNo → (flag : ℕ) → (packets : List ℕ) → ClientStatements → Tabled → Tabled
 answered_so true c flag packets statements t = begins_anew c flag packets statements t
@@ -49,7 +49,7 @@ answered_so false c flag packets statements t = client_changed c (answers flag p
 pub record IsAnswered (ruling : Ruling) (c : ClientNo) (row : Client) (message : Framed) (old new : Tabled) : Type 0 where
   pub payloads : List (List ℕ)
   pub own : IsOwnAnswer ruling.book.rules c payloads
-  pub ruled : IsToldFor ruling.book (situation_at ruling.keys row.desk) c message.payload payloads
+  pub ruled : AreKept ruling row.desk.seat.statements → IsToldFor ruling.book (situation_at ruling.keys row.desk) c message.payload payloads
   pub flag : ℕ
   pub packets : List ℕ
   pub statements : ClientStatements
@@ -65,7 +65,8 @@ pub record IsDueThere (hostgroup : Hostgroup) (ordinal : ℕ) (ruling : Ruling) 
   pub single : route.mirror ≡ None
   pub under : AreUnder ruling.keys keyed
   pub prepares : 0 < route.number → is_some (ruling.keys route.key) ≡ true
-  pub ruled : IsRoutedFor ruling.book (situation_at ruling.keys row.desk) ruling.keys c message.payload route
+  pub ruled : AreKept ruling row.desk.seat.statements
+      → IsRoutedFor ruling.book (situation_at ruling.keys row.desk) ruling.keys c message.payload route
   pub flag : ℕ
   pub command : Command
   pub work : Work

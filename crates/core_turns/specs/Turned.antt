@@ -18,7 +18,8 @@ use Rattle.core_tables.specs.Taking.{IsUpOr}
 use Rattle.core_tables.specs.declared.client.Client.{Client}
 use Rattle.core_laws.specs.clients.Turns.{Answers, Choice, ComesUp, Ends, Goes, GoesBy, Halt, IsLookedAt, IsTurn, Keyed, MayLeave, Quits, Rests, RestsThere, Turns, Waits, WaitsThere, waits_at}
 use Rattle.core_promises.specs.Judges.{IsRoutedFor}
-use Rattle.core_promises.specs.Ruled.{AreRuled, IsRuled, Ruling, situation_up}
+use Rattle.core_laws.specs.clients.Found.{desk_up}
+use Rattle.core_promises.specs.Ruled.{AreKept, AreRuled, IsRuled, Ruling, situation_up}
 use Rattle.core_turns.specs.Taken.{AreUnder}
 use Rattle.core_turns.specs.declared.turn.Stop.{Stop}
 use Rattle.core_turns.specs.declared.turn.Stop.TheVariants as stops
@@ -103,7 +104,8 @@ pub record IsDueIn (hostgroup : Hostgroup) (ruling : Ruling) (service : Service)
   pub single : route.mirror ≡ None
   pub under : AreUnder ruling.keys keyed
   pub prepares : 0 < route.number → is_some (ruling.keys route.key) ≡ true
-  pub ruled : IsRoutedFor ruling.book (situation_up ruling.keys service default goes.up.row) ruling.keys c goes.up.message.payload route
+  pub ruled : AreKept ruling (desk_up service default goes.up.row).seat.statements
+      → IsRoutedFor ruling.book (situation_up ruling.keys service default goes.up.row) ruling.keys c goes.up.message.payload route
 
 abbrev pub IsTurned : Turn → Ruling → Service → (default : List ℕ) → ClientNo → (old new : Tabled) → Type 0
 IsTurned (turns.Stops stop) ruling service default c old new = StopsSo (halt_of stop) service default c old new

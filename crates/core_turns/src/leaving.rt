@@ -50,7 +50,7 @@ pub fn take_turns(
     alloc: Global,
     client: ClientNo,
 ) -> Result<Option<Went>, OutOfMemory>
-    ensures is { IfOk result (λ went. HasGoneOn RuledTurns went (ruling_of service.now (key_at texts.new)) service.now.setup service.now.default_schema
+    ensures is { IfOk result (λ went. HasGoneOn RuledTurns went (ruling_of service.now texts.new.since (key_at texts.new)) service.now.setup service.now.default_schema
         client (tables_of marked.old.tables) (tables_of marked.new.tables)) }
     ensures goes { OnOk result (GoesOn marked.old marked.new) }
     ensures more { OnOk result (AreMore texts.old texts.new) }

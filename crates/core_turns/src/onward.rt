@@ -32,7 +32,7 @@ fn go_further(
     due: &mut Option<Hostgroup>,
 ) -> Result<Option<Stop>, OutOfMemory>
     requires there { IsSome ((tables_of marked.old.tables).clients client) }
-    ensures is { IfOk result (λ stop. HasGoneFurther stop (ruling_of service.now (key_at texts.new)) service.now.setup service.now.default_schema
+    ensures is { IfOk result (λ stop. HasGoneFurther stop (ruling_of service.now texts.new.since (key_at texts.new)) service.now.setup service.now.default_schema
         client (tables_of marked.old.tables) (tables_of marked.new.tables)) }
     ensures there { OnOk result (IsSome ((tables_of marked.new.tables).clients client)) }
     ensures goes { OnOk result (GoesOn marked.old marked.new) }
@@ -64,7 +64,7 @@ pub fn go_on(
     alloc: Global,
     client: ClientNo,
 ) -> Result<Option<Went>, OutOfMemory>
-    ensures is { IfOk result (λ went. HasGoneOn TurnsUntil went (ruling_of service.now (key_at texts.new)) service.now.setup service.now.default_schema
+    ensures is { IfOk result (λ went. HasGoneOn TurnsUntil went (ruling_of service.now texts.new.since (key_at texts.new)) service.now.setup service.now.default_schema
         client (tables_of marked.old.tables) (tables_of marked.new.tables)) }
     ensures leaves { IfOk result (λ went. MayLeaveIf went ((tables_of marked.new.tables).clients client)) }
     ensures goes { OnOk result (GoesOn marked.old marked.new) }

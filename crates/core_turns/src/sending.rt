@@ -116,7 +116,7 @@ fn serve(
     requires up { IsUpOr ((tables_of marked.old.tables).clients client) }
     requires port { OnUp client (tables_of marked.old.tables) (λ row message. row.desk.seat.port ≡ Traffic) }
     ensures is { IfOk result (λ turn. OnUp client (tables_of marked.old.tables)
-        (λ row message. IsTakenUp turn ordinal (ruling_of service.now (key_at texts.new)) client row message
+        (λ row message. IsTakenUp turn ordinal (ruling_of service.now texts.new.since (key_at texts.new)) client row message
         (tables_of marked.old.tables) (tables_of marked.new.tables))) }
     ensures goes { OnOk result (GoesOn marked.old marked.new) }
     ensures more { OnOk result (AreMore texts.old texts.new) }
@@ -187,7 +187,7 @@ pub(crate) fn take_up(
 ) -> Result<Turn, OutOfMemory>
     requires up { IsUpOr ((tables_of marked.old.tables).clients client) }
     ensures is { IfOk result (λ turn. OnUp client (tables_of marked.old.tables)
-        (λ row message. IsTakenUp turn ordinal (ruling_of service.now (key_at texts.new)) client row message
+        (λ row message. IsTakenUp turn ordinal (ruling_of service.now texts.new.since (key_at texts.new)) client row message
         (tables_of marked.old.tables) (tables_of marked.new.tables))) }
     ensures goes { OnOk result (GoesOn marked.old marked.new) }
     ensures more { OnOk result (AreMore texts.old texts.new) }

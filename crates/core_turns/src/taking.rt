@@ -33,7 +33,7 @@ pub(crate) fn take_there(
     client: ClientNo,
 ) -> Result<Turn, OutOfMemory>
     requires there { IsSome ((tables_of marked.old.tables).clients client) }
-    ensures is { IfOk result (λ turn. IsTurned turn (ruling_of service.now (key_at texts.new)) service.now.setup service.now.default_schema client
+    ensures is { IfOk result (λ turn. IsTurned turn (ruling_of service.now texts.new.since (key_at texts.new)) service.now.setup service.now.default_schema client
         (tables_of marked.old.tables) (tables_of marked.new.tables)) }
     ensures goes { OnOk result (GoesOn marked.old marked.new) }
     ensures more { OnOk result (AreMore texts.old texts.new) }
@@ -66,7 +66,7 @@ pub fn take_next(
     alloc: Global,
     client: ClientNo,
 ) -> Result<Option<Turn>, OutOfMemory>
-    ensures is { IfOk result (λ turn. IsTurnedIf turn (ruling_of service.now (key_at texts.new)) service.now.setup service.now.default_schema
+    ensures is { IfOk result (λ turn. IsTurnedIf turn (ruling_of service.now texts.new.since (key_at texts.new)) service.now.setup service.now.default_schema
         client (tables_of marked.old.tables) (tables_of marked.new.tables)) }
     ensures goes { OnOk result (GoesOn marked.old marked.new) }
     ensures more { OnOk result (AreMore texts.old texts.new) }

@@ -2,6 +2,7 @@ pub mod Fates
 pub mod Recording
 pub mod Covering
 pub mod Situated
+pub mod Kept
 pub mod Judging
 pub mod Keeping
 pub mod Speaking
@@ -14,6 +15,8 @@ pub mod Forcing
 pub mod Holding
 pub mod Held
 pub mod Causing
+pub mod AsTold
+pub mod KeptOn
 pub mod Router
 pub mod Learning
 pub mod Staying

@@ -24,7 +24,8 @@ use Rattle.core_tables.specs.Tables.{IsSame, Tabled}
 use Rattle.core_tables.specs.declared.client.Client.{Client}
 use Rattle.core_laws.specs.clients.Going.{GivenUp, is_going}
 use Rattle.core_laws.specs.entry.Cores.{with_entry}
-use Rattle.router_laws.specs.decisions.Routers.{IsRouter}
+use Rattle.router_laws.specs.decisions.Held.{AreHeldSince}
+use Rattle.router_laws.specs.decisions.Routers.{IsLearned, IsRouter}
 use Rattle.router_laws.specs.wakes.Calling.{Caller, GivesUpAll, IsThere, is_called, is_given}
 use Rattle.client_session.specs.Errors.{connection_refused}
 use Rattle.core_promises.specs.Causes.{IsLateCause}
@@ -37,9 +38,9 @@ use Rattle.router_laws.specs.waits.Drained.{IsDrainedFor}
 use Rattle.router_laws.specs.wakes.Deciding.{IsCallerOurs}
 use Rattle.router_laws.specs.wakes.Waking.{FailsSo, WakesSo}
 use Rattle.router_laws.proofs.OfWakes.Settled.{same_itself}
-use Rattle.router_laws.proofs.OfDecisions.Learning.{learns}
+use Rattle.router_laws.proofs.OfDecisions.Learning.{learned}
 use Rattle.core_texts.specs.declared.texts.Texts.{Texts}
-use Rattle.core_texts.specs.Texts.{AreMore, key_at}
+use Rattle.core_texts.specs.Texts.{AreMore, HasBegun, key_at}
 use Rattle.shared_core.proofs.Causing.{late_by, late_more, refused_by}
 use Rattle.shared_core.proofs.Coming.{come_as, come_on}
 use Rattle.shared_core.specs.Causes.{given_with, is_late, is_refused}
@@ -48,7 +49,7 @@ use Rattle.shared_core.specs.Stands.{Carries, CarriesWhere, is_roomy, tables}
 use Rattle.shared_core.specs.Wakes.{AreCalled, HasFailed, HasWoken, HaveGivenUp, IsWaiting}
 use Rattle.shared_core.specs.declared.roomy.Roomy.{Roomy}
 use Rattle.shared_core.specs.declared.router.Router.{Router}
-use Rattle.shared_core.proofs.Carrying.{carries_by, none_come}
+use Rattle.shared_core.proofs.Carrying.{carries_since, none_come}
 use Rattle.shared_core.proofs.Goings.{called-so}
 use Rattle.shared_core.proofs.Numbers.{or_by, or_first, there_by}
 use Rattle.shared_core.proofs.Rooming.{or_true}
@@ -244,34 +245,39 @@ there_one c why old mid waiting answered =
 
 abbrev pub Fails : Type 0
 Fails = (service : Service) (texts : Texts) (log : Log) (t now : Tabled) (roomy : ClientNo → Bool) (given : List GivenUp)
-    (callers : List Caller) (links : List LinkId) (server : ServerId) (address : Address) → IsRouter service texts log t roomy
+    (callers : List Caller) (links : List LinkId) (server : ServerId) (address : Address) → (router : IsRouter service texts log t roomy)
     → MayFollow log (OpenFailed server address) → (fails : FailsSo service.setup service.default_schema given callers links t now) → All IsGivenOurs given → AreRefused given
     → All (IsCallerOurs (rules_in service) texts) callers
-    → AreRuledAll (ruling_of service (key_at texts)) callers service.setup service.default_schema fails.late fails.calls.turned fails.calls.going
+    → AreRuledAll (ruling_of service texts.since (key_at texts)) callers service.setup service.default_schema fails.late fails.calls.turned fails.calls.going
+    → AreHeldSince texts service.default_schema router.core.decided log
     → IsRouter service texts (with_entry log (OpenFailed server address)) now roomy
 
 pub fails_carries : Fails → (service : Service) (server : ServerId) (old new : Router) → HasFailed service new.texts (tables old) (tables new)
-    → new.roomy ≡ old.roomy → new.came ≡ old.came → AreMore old.texts new.texts → (address : Address) → Carries service (OpenFailed server address) old new
-fails_carries law service server old new failed roomy came more address =
-    carries_by service old new roomy came more (OpenFailed server address) refl (λ log may is.
+    → new.roomy ≡ old.roomy → new.came ≡ old.came → AreMore old.texts new.texts → HasBegun old.texts → (address : Address) → Carries service (OpenFailed server address) old new
+fails_carries law service server old new failed roomy came more begun address =
+    carries_since service old new roomy came more begun (OpenFailed server address) refl (λ log may is.
     law service new.texts log (tables old) (tables new) (is_roomy old.roomy) failed.given failed.callers failed.links server address
-    is may failed.so failed.given_ours failed.refused failed.ours failed.ruled)
+    is.router may failed.so failed.given_ours failed.refused failed.ours failed.ruled is.since)
 
 abbrev pub Wakes : Type 0
 Wakes = (service : Service) (texts : Texts) (log : Log) (t now : Tabled) (roomy room : ClientNo → Bool) (given : List GivenUp)
-    (callers : List Caller) (links : List LinkId) (until_ms now_ms : ℕ) → IsRouter service texts log t roomy → MayFollow log (Woke until_ms now_ms)
+    (callers : List Caller) (links : List LinkId) (until_ms now_ms : ℕ) → (router : IsRouter service texts log t roomy) → MayFollow log (Woke until_ms now_ms)
     → IsDrainedFor t log → (wakes : WakesSo service.setup service.default_schema given callers links roomy t now) → All IsGivenOurs given
     → AreLate service.wait_ms now_ms (has_administrator log) given
     → All (IsCallerOurs (rules_in service) texts) callers
-    → AreRuledAll (ruling_of service (key_at texts)) callers service.setup service.default_schema wakes.late wakes.calls.turned wakes.calls.going
+    → AreRuledAll (ruling_of service texts.since (key_at texts)) callers service.setup service.default_schema wakes.late wakes.calls.turned wakes.calls.going
+    → AreHeldSince texts service.default_schema router.core.decided log
     → IsRouter service texts (with_entry log (Woke until_ms now_ms)) now room
 
 pub wakes_carries : Wakes → (service : Service) (now_ms : ℕ) (old new : Router)
     → HasWoken service new.texts now_ms old.came.administrator old.roomy (tables old) (tables new)
-    → new.came ≡ old.came → AreMore old.texts new.texts → (until_ms : ℕ) → CarriesWhere (IsDrainedFor (tables old)) service (Woke until_ms now_ms) old new
-wakes_carries law service now_ms old new woken came more until_ms log drained may stands = record {
+    → new.came ≡ old.came → AreMore old.texts new.texts → HasBegun old.texts → (until_ms : ℕ) → CarriesWhere (IsDrainedFor (tables old)) service (Woke until_ms now_ms) old new
+wakes_carries law service now_ms old new woken came more begun until_ms log drained may stands = record {
   router = law service new.texts log (tables old) (tables new) (is_roomy old.roomy) (is_roomy new.roomy) woken.given woken.callers
-      woken.links until_ms now_ms (learns service old.texts new.texts log (tables old) (is_roomy old.roomy) stands.router more) may drained woken.so woken.given_ours
-      (late_more service.wait_ms now_ms old.came.administrator (has_administrator log) stands.counted.administrator woken.given woken.late) woken.ours woken.ruled;
+      woken.links until_ms now_ms learnt.router may drained woken.so woken.given_ours
+      (late_more service.wait_ms now_ms old.came.administrator (has_administrator log) stands.counted.administrator woken.given woken.late) woken.ours woken.ruled learnt.since;
   counted = come_as (with_entry log (Woke until_ms now_ms)) old.came new.came came (come_on log (Woke until_ms now_ms ∷ []) old.came refl stands.counted);
 }
+  where
+    learnt : IsLearned service new.texts log (tables old) (is_roomy old.roomy)
+    learnt = learned service old.texts new.texts log (tables old) (is_roomy old.roomy) stands.router begun more

@@ -7,11 +7,11 @@ use Rattle.mx_wire.specs.Log.{Log, accepted_link, accepted_links}
 use Rattle.mx_wire.specs.Tells.{MayFollow}
 use Rattle.mx_wire.specs.declared.entry.Entry.{Entry}
 use Rattle.core_service.specs.declared.service.Service.{Service}
-use Rattle.router_laws.specs.decisions.Routers.{IsRouter}
+use Rattle.router_laws.specs.decisions.Routers.{IsLearned, IsRouter}
 use Rattle.core_laws.specs.entry.Cores.{with_entry}
-use Rattle.router_laws.proofs.OfDecisions.Learning.{learns}
+use Rattle.router_laws.proofs.OfDecisions.Learning.{learned, learns}
 use Rattle.core_texts.specs.declared.texts.Texts.{Texts}
-use Rattle.core_texts.specs.Texts.{AreMore}
+use Rattle.core_texts.specs.Texts.{AreMore, HasBegun}
 use Rattle.core_texts.proofs.Keeping.{itself_more}
 use Rattle.shared_core.proofs.Coming.{come_as, come_on}
 use Rattle.shared_core.specs.Stands.{Carries, Shown, StandsBy, StandsFor, is_roomy, shown, tables, tables_in}
@@ -35,6 +35,17 @@ module _ (service : Service) (old new : Router) (roomy : new.roomy ≡ old.roomy
   carries_by e none goes log may stands = record {
     router = subst (λ (r : Roomy). IsRouter service new.texts (with_entry log e) (tables new) (is_roomy r)) (sym roomy)
         (goes log may (learns service old.texts new.texts log (tables old) (is_roomy old.roomy) stands.router more));
+    counted = come_as (with_entry log e) old.came new.came came (come_on log (e ∷ []) old.came none stands.counted);
+  }
+
+  -- and where it began with all texts that it had
+  pub carries_since : HasBegun old.texts → (e : Entry) → accepted_links (e ∷ []) ≡ []
+      → ((log : Log) → MayFollow log e → IsLearned service new.texts log (tables old) (is_roomy old.roomy)
+      → IsRouter service new.texts (with_entry log e) (tables new) (is_roomy old.roomy))
+      → Carries service e old new
+  carries_since begun e none goes log may stands = record {
+    router = subst (λ (r : Roomy). IsRouter service new.texts (with_entry log e) (tables new) (is_roomy r)) (sym roomy)
+        (goes log may (learned service old.texts new.texts log (tables old) (is_roomy old.roomy) stands.router begun more));
     counted = come_as (with_entry log e) old.came new.came came (come_on log (e ∷ []) old.came none stands.counted);
   }
 

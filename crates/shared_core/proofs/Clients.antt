@@ -37,12 +37,13 @@ use Rattle.router_laws.specs.clients.Speaks.{IsLinkOf, SpeaksSo}
 use Rattle.router_laws.specs.entering.Rooms.{OthersLack}
 use Rattle.core_promises.specs.Ruled.{AreRuled, ruling_of}
 use Rattle.router_laws.specs.decisions.Speaks.{IsOurs, IsPartingOurs}
-use Rattle.router_laws.specs.decisions.Routers.{IsRouter}
+use Rattle.router_laws.specs.decisions.Held.{AreHeldSince}
+use Rattle.router_laws.specs.decisions.Routers.{IsLearned, IsRouter}
 use Rattle.router_laws.specs.routers.Somehow.{AreLinked, IsLinked}
 use Rattle.core_laws.specs.entry.Cores.{with_entry}
-use Rattle.router_laws.proofs.OfDecisions.Learning.{learns}
+use Rattle.router_laws.proofs.OfDecisions.Learning.{learned, learns}
 use Rattle.core_texts.specs.declared.texts.Texts.{Texts}
-use Rattle.core_texts.specs.Texts.{AreMore, key_at}
+use Rattle.core_texts.specs.Texts.{AreMore, HasBegun, key_at}
 use Rattle.core_texts.proofs.Keeping.{itself_more, more_on}
 use Rattle.shared_core.proofs.Coming.{administrator_then, come_as, come_on}
 use Rattle.shared_core.specs.Came.{HaveCome, came_then}
@@ -71,11 +72,12 @@ Away = (service : Service) (texts : Texts) (log : Log) (t now : Tabled) (roomy :
 abbrev pub Speaks : Type 0
 Speaks = (service : Service) (texts : Texts) (log : Log) (t now : Tabled) (roomy room : ClientNo → Bool) (link : LinkId) (bytes : List ℕ)
     (c : ClientNo) (ordinal : ℕ) (choices : List Choice) (halt : Halt) (parting : Parting) (links : List LinkId)
-    → IsRouter service texts log t roomy → MayFollow log (entry.Got link bytes)
+    → (router : IsRouter service texts log t roomy) → MayFollow log (entry.Got link bytes)
     → (so : SpeaksSo service.setup service.default_schema link bytes c ordinal choices halt parting links t now)
     → All (IsOurs (rules_in service) texts c) choices → IsPartingOurs parting
     → OthersLack c roomy room
-    → AreRuled (ruling_of service (key_at texts)) choices halt service.setup service.default_schema c so.heard so.follows.turned so.follows.turns
+    → AreRuled (ruling_of service texts.since (key_at texts)) choices halt service.setup service.default_schema c so.heard so.follows.turned so.follows.turns
+    → AreHeldSince texts service.default_schema router.core.decided log
     → IsRouter service texts (with_entry log (entry.Got link bytes)) now room
 
 abbrev pub Again : Type 0
@@ -91,11 +93,12 @@ AtOnce = (service : Service) (texts : Texts) (log : Log) (e : Entry) (t now : Ta
 abbrev pub Going : Type 0
 Going = (service : Service) (texts : Texts) (log : Log) (e : Entry) (t now : Tabled) (roomy room : ClientNo → Bool) (link : LinkId)
     (c : ClientNo) (links : List LinkId) (ordinal : ℕ) (choices : List Choice) (halt : Halt) (parting : Parting)
-    → IsRouter service texts log t roomy → MayFollow log e → IsLossOf link e
+    → (router : IsRouter service texts log t roomy) → MayFollow log e → IsLossOf link e
     → (so : LeavesGoing service.setup service.default_schema link links ordinal choices halt parting c t now)
     → All (IsOurs (rules_in service) texts c) choices → IsPartingOurs parting
     → OthersLack c roomy room
-    → AreRuled (ruling_of service (key_at texts)) choices halt service.setup service.default_schema c so.between so.follows.turned so.follows.turns
+    → AreRuled (ruling_of service texts.since (key_at texts)) choices halt service.setup service.default_schema c so.between so.follows.turned so.follows.turns
+    → AreHeldSince texts service.default_schema router.core.decided log
     → IsRouter service texts (with_entry log e) now room
 
 abbrev pub Linked : Type 0
@@ -201,6 +204,11 @@ learnt : (service : Service) (old new : Router) → Keeps old new → (log : Log
     → IsRouter service new.texts log (tables old) (is_roomy old.roomy)
 learnt service old new keeps log stood = learns service old.texts new.texts log (tables old) (is_roomy old.roomy) stood.router keeps.texts
 
+learnt_since : (service : Service) (old new : Router) → Keeps old new → HasBegun old.texts → (log : Log) → StandsFor service log old
+    → IsLearned service new.texts log (tables old) (is_roomy old.roomy)
+learnt_since service old new keeps begun log stood =
+    learned service old.texts new.texts log (tables old) (is_roomy old.roomy) stood.router begun keeps.texts
+
 -- Of entries at which nobody comes.
 
 module _ (service : Service) (e : Entry) (old new : Router) (keeps : Keeps old new) (none : accepted_links (e ∷ []) ≡ []) where
@@ -249,16 +257,17 @@ none_read link r aside numbered reads =
     (and_right (is_known r.marked.changed link) (reads_in (tables r) link) reads))))
 
 pub speaks_carry : (service : Service) (link : LinkId) (bytes : List ℕ) (c : ClientNo) (old new : Router) → Speaks
-    → (tables old).links link ≡ None → (tables old).numbers link ≡ Some c → Keeps old new
+    → (tables old).links link ≡ None → (tables old).numbers link ≡ Some c → Keeps old new → HasBegun old.texts
     → ((row : Client) → IsLinkOf link c row (tables old) → is_ended row.desk.seat.phase ≡ false → HasSpoken service new.texts link bytes c (tables old) (tables new))
     → reads_on old.marked link ≡ true → Carries service (entry.Got link bytes) old new
-speaks_carry service link bytes c old new law aside numbered keeps spoken reads log may stood =
+speaks_carry service link bytes c old new law aside numbered keeps begun spoken reads log may stood =
+    let since : IsLearned service new.texts log (tables old) (is_roomy old.roomy) = learnt_since service old new keeps begun log stood in
     let read = read_row link c (tables old) aside numbered (and_right (is_known old.marked.changed link) (reads_in (tables old) link) reads) in
     let spoke : HasSpoken service new.texts link bytes c (tables old) (tables new) =
     spoken read.0 (record { numbered = numbered; there = read.1 }) read.2 in
     kept_stands service (entry.Got link bytes) old new keeps refl log stood.counted
     (law service new.texts log (tables old) (tables new) (is_roomy old.roomy) (is_roomy old.roomy) link bytes c spoke.ordinal spoke.choices
-    spoke.halt spoke.parting spoke.links (learnt service old new keeps log stood) may spoke.so spoke.ours spoke.word (λ other apart full. full) spoke.ruled)
+    spoke.halt spoke.parting spoke.links since.router may spoke.so spoke.ours spoke.word (λ other apart full. full) spoke.ruled since.since)
 
 -- A link is lost.
 
@@ -318,10 +327,11 @@ module _ (service : Service) (link : LinkId) (c : ClientNo) (old new : Router) (
       (at_once_router law service new.texts log e (tables old) (tables new) (is_roomy old.roomy) link c has.links (learnt service old new keeps log stood) may lost
       has.so))
 
-  pub going_loses : Going → HasLeftGoing service new.texts link c (tables old) (tables new) → Loses service link old new
-  going_loses law has =
+  pub going_loses : Going → HasBegun old.texts → HasLeftGoing service new.texts link c (tables old) (tables new) → Loses service link old new
+  going_loses law begun has =
       loses_by service link old new
       (λ e lost log may stood.
+      let since : IsLearned service new.texts log (tables old) (is_roomy old.roomy) = learnt_since service old new keeps begun log stood in
       kept_stands service e old new keeps (lost_none link e lost) log stood.counted
       (law service new.texts log e (tables old) (tables new) (is_roomy old.roomy) (is_roomy old.roomy) link c has.links has.ordinal
-      has.choices has.halt has.parting (learnt service old new keeps log stood) may lost has.so has.ours has.word (λ other apart full. full) has.ruled))
+      has.choices has.halt has.parting since.router may lost has.so has.ours has.word (λ other apart full. full) has.ruled since.since))

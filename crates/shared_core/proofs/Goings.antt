@@ -13,7 +13,6 @@ use Rattle.client_seat.specs.Seats.{ended, is_ended}
 use Rattle.core_service.specs.Serves.{rules_in}
 use Rattle.core_service.specs.declared.service.Service.{Service}
 use Rattle.query_rules.specs.declared.rule.Rule.{Rule}
-use Rattle.core_promises.proofs.Ruling.{are_ruled_more}
 use Rattle.core_promises.specs.Ruled.{AreRuled, Ruling, book_of, ruling_of}
 use Rattle.core_texts.specs.Texts.{AreMore, key_at}
 use Rattle.core_texts.specs.declared.texts.Texts.{Texts}
@@ -22,6 +21,7 @@ use Rattle.router_laws.specs.decisions.Speaks.{IsOurs}
 use Rattle.core_tables.specs.Parting.{left_in}
 use Rattle.core_tables.specs.Tables.{IsSame, Tabled}
 use Rattle.core_tables.specs.declared.client.Client.{Client}
+use Rattle.core_turns.proofs.Keys.{turns_more}
 use Rattle.core_turns.specs.Turned as turned
 use Rattle.core_turns.specs.Turned.{HasGoneOn, IsSaid, RuledTurns, halt_of, is_away}
 use Rattle.core_turns.specs.declared.turn.Stop.{Stop}
@@ -50,10 +50,10 @@ or-last false = refl
 
 -- What is chosen by behind its turns leaves what they were.
 pub went_chosen : (service : Service) (c : ClientNo) (went : Option Went) (old mid new : Router) → Chooses mid new
-    → HasGoneOn RuledTurns went (ruling_of service (key_at mid.texts)) service.setup service.default_schema c (tables old) (tables mid)
-    → HasGoneOn RuledTurns went (ruling_of service (key_at new.texts)) service.setup service.default_schema c (tables old) (tables new)
+    → HasGoneOn RuledTurns went (ruling_of service mid.texts.since (key_at mid.texts)) service.setup service.default_schema c (tables old) (tables mid)
+    → HasGoneOn RuledTurns went (ruling_of service new.texts.since (key_at new.texts)) service.setup service.default_schema c (tables old) (tables new)
 went_chosen service c went old mid new chosen gone =
-    let P : Shown → Type 0 = λ s. HasGoneOn RuledTurns went (ruling_of service (key_at s.texts)) service.setup service.default_schema c (tables old)
+    let P : Shown → Type 0 = λ s. HasGoneOn RuledTurns went (ruling_of service s.texts.since (key_at s.texts)) service.setup service.default_schema c (tables old)
     (tables_in s) in
     subst P (sym chosen.same) gone
 
@@ -117,10 +117,10 @@ ours_more rules old new more c choices all = λ k d within. choice_more rules ol
 
 -- Its turns, and how it is ended behind them.
 
-said-ours : (service : Service) (texts : Texts) (c : ClientNo) (choices : List Choice) → All (IsSaid (ruling_of service (key_at texts)) c) choices
+said-ours : (service : Service) (texts : Texts) (c : ClientNo) (choices : List Choice) → All (IsSaid (ruling_of service texts.since (key_at texts)) c) choices
     → All (IsOurs (rules_in service) texts c) choices
 said-ours service texts c choices all = λ k d within. one (get_or choices k d) (all k d within) where
-  one : (choice : Choice) → IsSaid (ruling_of service (key_at texts)) c choice → IsOurs (rules_in service) texts c choice
+  one : (choice : Choice) → IsSaid (ruling_of service texts.since (key_at texts)) c choice → IsOurs (rules_in service) texts c choice
   one (Goes route keyed) is = is
   one (Answers payloads) is = is
 
@@ -134,11 +134,11 @@ rests-behind setup default c choices Ends old mid turns = tt
 
 pub gone-so : (service : Service) (took_texts texts : Texts) → AreMore took_texts texts → (c : ClientNo) (ends : Bool) (took : Option Went) (went : Went)
     (old mid new : Tabled) → took ≡ Some went
-    → HasGoneOn RuledTurns took (ruling_of service (key_at took_texts)) service.setup service.default_schema c old mid
+    → HasGoneOn RuledTurns took (ruling_of service took_texts.since (key_at took_texts)) service.setup service.default_schema c old mid
     → (RestsBehind (halt_of went.stop) c mid → HasParted c ends (halt_of went.stop) mid new) → HasGone service texts c ends old new
 gone-so service took_texts texts more c ends took went old mid new is gone parts =
-    let P : Option Went → Type 0 = λ o. HasGoneOn RuledTurns o (ruling_of service (key_at took_texts)) service.setup service.default_schema c old mid in
-    let on : turned.HasGone RuledTurns went.stop (ruling_of service (key_at took_texts)) service.setup service.default_schema c old mid = subst P is gone in
+    let P : Option Went → Type 0 = λ o. HasGoneOn RuledTurns o (ruling_of service took_texts.since (key_at took_texts)) service.setup service.default_schema c old mid in
+    let on : turned.HasGone RuledTurns went.stop (ruling_of service took_texts.since (key_at took_texts)) service.setup service.default_schema c old mid = subst P is gone in
     let parted : HasParted c ends (halt_of went.stop) mid new =
     parts (rests-behind service.setup service.default_schema c on.choices (halt_of went.stop) old mid on.turned.0) in
     record {
@@ -148,7 +148,7 @@ gone-so service took_texts texts more c ends took went old mid new is gone parts
       ours = ours_more (rules_in service) took_texts texts more c on.choices (said-ours service took_texts c on.choices on.said);
       word = parted.word;
       goes = record { turned = mid; turns = on.turned.0; once = parted.once; parts = parted.parts };
-      ruled = are_ruled_more (key_at took_texts) (key_at texts) more.kept (book_of service) service.setup service.default_schema c on.choices
+      ruled = turns_more (book_of service) took_texts texts more service.setup service.default_schema c on.choices
           (halt_of went.stop) old mid on.turned.0 on.turned.1;
       ended = parted.ended;
     }
@@ -161,10 +161,10 @@ away-going (Some row) away going = by (is_ended row.desk.seat.phase) away going 
   by false is off = let e = is in cc
 
 pub absent-so : (service : Service) (texts : Texts) (c : ClientNo) (ends : Bool) (took : Option Went) (old mid new : Tabled) → took ≡ None
-    → HasGoneOn RuledTurns took (ruling_of service (key_at texts)) service.setup service.default_schema c old mid → is_going (old.clients c) ≡ true
+    → HasGoneOn RuledTurns took (ruling_of service texts.since (key_at texts)) service.setup service.default_schema c old mid → is_going (old.clients c) ≡ true
     → HasGone service texts c ends old new
 absent-so service texts c ends took old mid new is gone going =
-    let P : Option Went → Type 0 = λ o. HasGoneOn RuledTurns o (ruling_of service (key_at texts)) service.setup service.default_schema c old mid in
+    let P : Option Went → Type 0 = λ o. HasGoneOn RuledTurns o (ruling_of service texts.since (key_at texts)) service.setup service.default_schema c old mid in
     let absent : turned.IsAbsent c old mid = subst P is gone in
     absurd (away-going (old.clients c) absent.away going)
 
@@ -211,11 +211,11 @@ callers_more rules old new more callers all = λ k d within.
     record { choices = ours_more rules old new more (get_or callers k d).client (get_or callers k d).choices one.choices; parting = one.parting })
 
 all_ruled_more : (service : Service) (old new : Texts) → AreMore old new → (callers : List Caller) (setup : Setup) (default : List ℕ) (a b : Tabled)
-    (going : AllGoOn callers setup default a b) → AreRuledAll (ruling_of service (key_at old)) callers setup default a b going
-    → AreRuledAll (ruling_of service (key_at new)) callers setup default a b going
+    (going : AllGoOn callers setup default a b) → AreRuledAll (ruling_of service old.since (key_at old)) callers setup default a b going
+    → AreRuledAll (ruling_of service new.since (key_at new)) callers setup default a b going
 all_ruled_more service old new more [] setup default a b going ruled = tt
 all_ruled_more service old new more (k ∷ ks) setup default a b going ruled = (
-  are_ruled_more (key_at old) (key_at new) more.kept (book_of service) setup default k.client k.choices k.halt a going.1.turned going.1.turns ruled.0,
+  turns_more (book_of service) old new more setup default k.client k.choices k.halt a going.1.turned going.1.turns ruled.0,
   all_ruled_more service old new more ks setup default going.0 b going.2 ruled.1,
 )
 
@@ -239,7 +239,7 @@ followed-more service before texts more c ends old new followed = record {
   ours = ours_more (rules_in service) before texts more c followed.choices followed.ours;
   word = followed.word;
   follows = followed.follows;
-  ruled = are_ruled_more (key_at before) (key_at texts) more.kept (book_of service) service.setup service.default_schema c followed.choices followed.halt
+  ruled = turns_more (book_of service) before texts more service.setup service.default_schema c followed.choices followed.halt
       old followed.follows.turned followed.follows.turns followed.ruled;
   ended = followed.ended;
 }
@@ -277,8 +277,8 @@ one-more : (service : Service) (texts : Texts) (clients : List ClientNo) (c : Cl
     → HasGone service texts c ends mid new → HaveGone service texts (clients ++ c ∷ []) old new
 one-more service texts clients c ends old mid new before gone =
     let last : Caller = record { client = c; choices = gone.choices; halt = gone.halt; parting = gone.parting } in
-    let along : AllGoRuled (ruling_of service (key_at texts)) (before.callers ++ last ∷ []) service.setup service.default_schema old new =
-    gone-along (ruling_of service (key_at texts)) before.callers last service.setup service.default_schema old mid new (before.going, before.ruled)
+    let along : AllGoRuled (ruling_of service texts.since (key_at texts)) (before.callers ++ last ∷ []) service.setup service.default_schema old new =
+    gone-along (ruling_of service texts.since (key_at texts)) before.callers last service.setup service.default_schema old mid new (before.going, before.ruled)
     (gone.goes, gone.ruled) in
     record {
       callers = before.callers ++ last ∷ [];

@@ -26,6 +26,7 @@ use Rattle.link_marks.specs.Marks.{is_known}
 use Rattle.marked_tables.specs.Goes.{reads_on}
 use Rattle.marked_tables.specs.Marking.{carried_at}
 use Rattle.core_laws.specs.clients.Going.{GivenUp, GoesSo, Going, IsCalled, is_going, told_to}
+use Rattle.router_laws.specs.decisions.Held.{AreHeldSince}
 use Rattle.router_laws.specs.decisions.Routers.{IsRouter}
 use Rattle.core_laws.specs.entry.Cores.{with_entry}
 use Rattle.router_laws.specs.reading.Givings.{MayGiveUp}
@@ -35,9 +36,9 @@ use Rattle.router_laws.specs.decisions.Rulings.{IsRuledOn}
 use Rattle.router_laws.specs.decisions.Speaks.{AreGivenOurs, AreGoingOurs}
 use Rattle.router_laws.specs.reading.Hears.{HearsRuled, HearsSo}
 use Rattle.core_texts.specs.declared.texts.Texts.{Texts}
-use Rattle.core_texts.specs.Texts.{key_at}
+use Rattle.core_texts.specs.Texts.{HasBegun, key_at}
 use Rattle.router_laws.specs.decisions.Causes.{IsHeardFor}
-use Rattle.shared_core.proofs.Carrying.{carries_by}
+use Rattle.shared_core.proofs.Carrying.{carries_since}
 use Rattle.shared_core.proofs.Causing.{heard_for}
 use Rattle.shared_core.specs.Follows.{HasCalled, HasGiven, IsFor, Keeps, MayBeGiven, told_client, up_client}
 use Rattle.shared_core.specs.Hears.{HasHeard}
@@ -65,10 +66,11 @@ StillGoes =
 abbrev pub Routes : Type 0
 Routes =
     (service : Service) (texts : Texts) (log : Log) (t now : Tabled) (roomy : ClientNo → Bool) (l : LinkId) (bytes : List ℕ) (clock : ℕ)
-    (given : Option GivenUp) (going : Option Going) → IsRouter service texts log t roomy → MayFollow log (entry.Got l bytes)
+    (given : Option GivenUp) (going : Option Going) → (router : IsRouter service texts log t roomy) → MayFollow log (entry.Got l bytes)
     → AreBytes bytes → (so : HearsSo service.setup service.default_schema l bytes clock given going t now) → AreGivenOurs given
     → AreGoingOurs (rules_in service) texts going
-    → IsRuledOn (ruling_of service (key_at texts)) going service.setup service.default_schema so.freed now so.goes → IsHeardFor l t given
+    → IsRuledOn (ruling_of service texts.since (key_at texts)) going service.setup service.default_schema so.freed now so.goes → IsHeardFor l t given
+    → AreHeldSince texts service.default_schema router.core.decided log
     → IsRouter service texts (with_entry log (entry.Got l bytes)) now roomy
 
 -- What is given up may be, and who is called for that goes on still.
@@ -122,9 +124,9 @@ heard_so hears still service link bytes old new name said given read_table heard
     let goes_on : HasCalled service new.texts name gives.told freed (tables new) =
     calls gives.told gives.its (for_then link name heard freed given (λ c. still link gives.told heard mid freed c gives.same frees) may) in
     let named : name ≡ name_in at.0.row.link.state.carries = carried ∙ ap carried_at at.1 in
-    let all : HearsRuled (ruling_of service (key_at new.texts)) service.setup service.default_schema link bytes old.clock gives.told goes_on.going (tables old)
+    let all : HearsRuled (ruling_of service new.texts.since (key_at new.texts)) service.setup service.default_schema link bytes old.clock gives.told goes_on.going (tables old)
     (tables new) =
-    hears (ruling_of service (key_at new.texts)) service.setup service.default_schema link bytes old.clock gives.told goes_on.going at.0 said (tables old) read_table heard mid
+    hears (ruling_of service new.texts.since (key_at new.texts)) service.setup service.default_schema link bytes old.clock gives.told goes_on.going at.0 said (tables old) read_table heard mid
     freed (tables new) at.1 (unlike at.0.row.lost two.0) (unlike at.0.row.link.spoilt two.1) is kept (may_of link name heard gives.told given gives.its may)
     gives.same frees
     (subst (λ (n : Option SessionName). IsCalled n gives.told freed (option_map (λ (g : Going). g.client) goes_on.going)) named goes_on.called)
@@ -140,10 +142,10 @@ heard_so hears still service link bytes old new name said given read_table heard
     }
 
 -- So the router stands for the log with it.
-pub read_carries : Routes → (service : Service) (link : LinkId) (bytes : List ℕ) (old new : Router) → Keeps old new → AreBytes bytes
+pub read_carries : Routes → (service : Service) (link : LinkId) (bytes : List ℕ) (old new : Router) → Keeps old new → HasBegun old.texts → AreBytes bytes
     → HasHeard service link bytes old new → Carries service (entry.Got link bytes) old new
-read_carries routes service link bytes old new keeps are heard =
-    carries_by service old new keeps.roomy keeps.came keeps.texts (entry.Got link bytes) refl
-    (λ log may router.
-    routes service new.texts log (tables old) (tables new) (is_roomy old.roomy) link bytes old.clock heard.given heard.going router may
-    are heard.so heard.given_ours heard.ours heard.ruled heard.why)
+read_carries routes service link bytes old new keeps begun are heard =
+    carries_since service old new keeps.roomy keeps.came keeps.texts begun (entry.Got link bytes) refl
+    (λ log may learnt.
+    routes service new.texts log (tables old) (tables new) (is_roomy old.roomy) link bytes old.clock heard.given heard.going learnt.router may
+    are heard.so heard.given_ours heard.ours heard.ruled heard.why learnt.since)

@@ -31,13 +31,14 @@ use Rattle.core_laws.specs.entry.Freeing.{all_freed}
 use Rattle.core_promises.specs.Ruled.{ruling_of}
 use Rattle.router_laws.specs.decisions.Rulings.{IsRuledOn}
 use Rattle.router_laws.specs.decisions.Speaks.{AreGivenOurs, AreGoingOurs}
-use Rattle.router_laws.specs.decisions.Routers.{IsRouter}
+use Rattle.router_laws.specs.decisions.Held.{AreHeldFor}
+use Rattle.router_laws.specs.decisions.Routers.{IsLearned, IsRouter}
 use Rattle.router_laws.specs.links.Loses.{Break, GoesWithIt, IsGivenUpWith, LosesEnded, LosesSo, MayGiveUpWith, ReadEnds, ReadFails, WriteFails, entry_by, gives}
 use Rattle.router_laws.specs.wakes.Calling.{AreHomesOf}
 use Rattle.core_texts.specs.declared.texts.Texts.{Texts}
-use Rattle.core_texts.specs.Texts.{key_at}
+use Rattle.core_texts.specs.Texts.{HasBegun, key_at}
 use Rattle.router_laws.specs.decisions.Causes.{IsLostFor}
-use Rattle.shared_core.proofs.Carrying.{carries_by}
+use Rattle.shared_core.proofs.Carrying.{carries_by, carries_since}
 use Rattle.shared_core.proofs.Causing.{lost_for}
 use Rattle.shared_core.proofs.Hears.{its_then}
 use Rattle.shared_core.proofs.Tabling.{tables_are}
@@ -52,9 +53,10 @@ use Rattle.shared_core.specs.declared.router.Router.{Router}
 abbrev pub Routes : Type 0
 Routes =
     (service : Service) (texts : Texts) (log : Log) (t now : Tabled) (roomy : ClientNo → Bool) (l : LinkId) (how : Break)
-    (given : Option GivenUp) (going : Option Going) → IsRouter service texts log t roomy → MayFollow log (entry_by how l)
+    (given : Option GivenUp) (going : Option Going) → (router : IsRouter service texts log t roomy) → MayFollow log (entry_by how l)
     → AreGivenOurs given → AreGoingOurs (rules_in service) texts going → (so : LosesSo service.setup service.default_schema l given going t now)
-    → IsRuledOn (ruling_of service (key_at texts)) going service.setup service.default_schema so.lost now so.goes → IsLostFor l t given
+    → IsRuledOn (ruling_of service texts.since (key_at texts)) going service.setup service.default_schema so.lost now so.goes → IsLostFor l t given
+    → AreHeldFor going texts service.default_schema router.core.decided log
     → IsRouter service texts (with_entry log (entry_by how l)) now roomy
 
 abbrev pub EndedRoutes : Type 0
@@ -62,6 +64,12 @@ EndedRoutes =
     (service : Service) (texts : Texts) (log : Log) (t now : Tabled) (roomy : ClientNo → Bool) (l : LinkId) (how : Break) (c : ClientNo)
     (links : List LinkId) → IsRouter service texts log t roomy → MayFollow log (entry_by how l) → LosesEnded l c links t now
     → IsRouter service texts (with_entry log (entry_by how l)) now roomy
+
+-- the texts are held, whoever goes on
+held_for : {service : Service} {texts : Texts} {log : Log} {t : Tabled} {roomy : ClientNo → Bool} (going : Option Going)
+    → (learnt : IsLearned service texts log t roomy) → AreHeldFor going texts service.default_schema learnt.router.core.decided log
+held_for None learnt = tt
+held_for (Some going) learnt = learnt.since
 
 -- Who went on does so still: no link that is lost, and no statement that is given up, ends a client.
 
@@ -301,14 +309,14 @@ module _ (service : Service) (link : LinkId) (old new : Router) where
   loses_each : ((how : Break) → Carries service (entry_by how link) old new) → Loses service link old new
   loses_each each = record { ended = each ReadEnds; unread = each ReadFails; unwritten = each WriteFails }
 
-  pub lost_loses : Routes → Keeps old new → HasLost service new.texts link (tables old) (tables new) → Loses service link old new
-  lost_loses routes keeps has =
+  pub lost_loses : Routes → Keeps old new → HasBegun old.texts → HasLost service new.texts link (tables old) (tables new) → Loses service link old new
+  lost_loses routes keeps begun has =
       loses_each
       (λ how.
-      carries_by service old new keeps.roomy keeps.came keeps.texts (entry_by how link) (none_come how link)
-      (λ log may router.
-      routes service new.texts log (tables old) (tables new) (is_roomy old.roomy) link how has.given has.going router may
-      has.given_ours has.ours has.so has.ruled has.why))
+      carries_since service old new keeps.roomy keeps.came keeps.texts begun (entry_by how link) (none_come how link)
+      (λ log may learnt.
+      routes service new.texts log (tables old) (tables new) (is_roomy old.roomy) link how has.given has.going learnt.router may
+      has.given_ours has.ours has.so has.ruled has.why (held_for has.going learnt)))
 
   pub ended_loses : EndedRoutes → (c : ClientNo) → Keeps old new → HasLostEnded link c (tables old) (tables new) → Loses service link old new
   ended_loses routes c keeps has =

@@ -30,7 +30,7 @@ use Rattle.core_texts.specs.Texts.{AreLess}
 use Rattle.router_laws.specs.decisions.Held.{KeepsTexts}
 use Rattle.router_laws.proofs.OfDecisions.Learning.{forgets}
 use Rattle.shared_core.proofs.Coming.{come_as}
-use Rattle.shared_core.specs.Machine.{Tells}
+use Rattle.shared_core.specs.Machine.{IsDueIn, Tells}
 use Rattle.shared_core.specs.Says.{target_of}
 use Rattle.shared_core.specs.Stands.{ActsBy, Carries, CarriesWhere, Chooses, IsClosed, Loses, Moves, PartsFor, SettlesSo, Shown, StandsBy, StandsFor}
 use Rattle.shared_core.specs.Stands.{is_roomy, parted, shown, tables, tables_in, without_client, without_link}
@@ -147,19 +147,27 @@ forgets_stands service log a b less keeps same stands =
       counted = stands.counted;
     })
 
-pub moves_forgot : (a b c : Router) → c ≡ record b { texts = c.texts } → Moves a b → Moves a c
-moves_forgot a b c same moves =
-    subst (λ (r : Router). Moves a r) (sym same) (record { goes = moves.goes; client = moves.client; link = moves.link })
+pub moves_forgot : (old forgot new : Router) → forgot ≡ record old { texts = forgot.texts } → Moves forgot new → Moves old new
+moves_forgot old forgot new same moves =
+    let from : Moves (record old { texts = forgot.texts }) new = subst (λ (r : Router). Moves r new) same moves in
+    record { goes = from.goes; client = from.client; link = from.link }
 
--- An event goes through, the router settles, and texts are forgotten.
+-- what is told of a router that forgot some is told of it before
+pub tells_forgot : (service : Service) (event : Event) (bytes : List ℕ) (old forgot new : Router) → AreLess old.texts forgot.texts
+    → KeepsTexts old.texts forgot.texts (tables old) → forgot ≡ record old { texts = forgot.texts } → Tells service event bytes forgot new
+    → Tells service event bytes old new
+tells_forgot service event bytes old forgot new less keeps same tells until_ms e told log due may stands =
+    tells until_ms e
+    (subst (λ (r : Router). IsToldOf until_ms (option_map target_of r.asked) event bytes e) (sym same) told) log
+    (subst (λ (r : Router). IsDueIn r event log) (sym same) due) may (forgets_stands service log old forgot less keeps same stands)
 
-pub tells_along : SettlesRouters → (service : Service) (event : Event) (bytes : List ℕ) (old mid settled forgot new : Router)
-    → Tells service event bytes old mid → SettlesSo mid settled → AreLess settled.texts forgot.texts → KeepsTexts settled.texts forgot.texts (tables settled)
-    → forgot ≡ record settled { texts = forgot.texts } → Chooses forgot new → Tells service event bytes old new
-tells_along law service event bytes old mid settled forgot new tells settles less keeps same chosen until_ms e told log due may stands =
-    shown_stands service (with_entry log e) forgot new chosen.same
-    (forgets_stands service (with_entry log e) settled forgot less keeps same
-    (law service mid settled settles (with_entry log e) (tells until_ms e told log due may stands)))
+-- An event goes through, and the router settles.
+
+pub tells_along : SettlesRouters → (service : Service) (event : Event) (bytes : List ℕ) (old mid settled new : Router)
+    → Tells service event bytes old mid → SettlesSo mid settled → Chooses settled new → Tells service event bytes old new
+tells_along law service event bytes old mid settled new tells settles chosen until_ms e told log due may stands =
+    shown_stands service (with_entry log e) settled new chosen.same
+    (law service mid settled settles (with_entry log e) (tells until_ms e told log due may stands))
 
 pub moves_along : (old mid settled new : Router) → Moves old mid → Moves mid settled → Chooses settled new → Moves old new
 moves_along old mid settled new first next chosen = record {

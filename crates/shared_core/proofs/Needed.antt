@@ -4,7 +4,7 @@ use Rattle.std.specs.Borrow.{Bor}
 use Rattle.std.specs.List.{list_any}
 use Rattle.std.specs.Map.{lookup, values_of}
 use Rattle.std.specs.Map.Iter.{deref}
-use Rattle.std.proofs.Common.{refl, ap, ◌∙◌}
+use Rattle.std.proofs.Common.{refl, sym, ap, ◌∙◌}
 use Rattle.std.proofs.lemmas.Bool.{eq-eqb}
 use Rattle.std.proofs.lemmas.Option.{none-some, same_Some}
 use Rattle.mx_base.specs.declared.names.ClientNo.{ClientNo}
@@ -13,10 +13,11 @@ use Rattle.stmt_map.specs.Client.{statement_at}
 use Rattle.stmt_map.specs.declared.statement.Statement.{Statement}
 use Rattle.core_tables.specs.Tables.{Tabled}
 use Rattle.core_tables.specs.declared.client.Client.{Client}
-use Rattle.core_texts.specs.Texts.{key_at}
+use Rattle.core_texts.specs.Texts.{AreLess, key_at}
 use Rattle.core_texts.specs.declared.texts.Texts.{Texts}
 use Rattle.router_laws.specs.decisions.Held.{KeepsTexts}
 use Rattle.shared_core.specs.Needed.{have_prepared, needs, works_on}
+use Rattle.shared_core.specs.declared.router.Router.{Router}
 
 pub or_true : (a : Bool) → (a || true) ≡ true
 or_true true = refl
@@ -71,3 +72,20 @@ keeps_texts old new t has all kept = record {
 -- none is forgotten
 pub keeps_itself : (texts : Texts) (t : Tabled) → KeepsTexts texts texts t
 keeps_itself texts t = record { statements = λ c row number s there at. refl; works = λ c row work there in_work. refl }
+
+-- As an event begins they are those that are left.
+
+pub begun_less : (old mid new : Texts) → AreLess old mid → new.last ≡ mid.last → ((n : ℕ) → key_at new n ≡ key_at mid n) → AreLess old new
+begun_less old mid new less last same = record {
+  last = last ∙ less.last;
+  there = λ n key at. less.there n key (sym (same n) ∙ at);
+}
+
+pub begun_keeps : (old mid new : Texts) (t : Tabled) → KeepsTexts old mid t → ((n : ℕ) → key_at new n ≡ key_at mid n) → KeepsTexts old new t
+begun_keeps old mid new t keeps same = record {
+  statements = λ c row number statement there at. same statement.prepared.key ∙ keeps.statements c row number statement there at;
+  works = λ c row work there at. same work.key ∙ keeps.works c row work there at;
+}
+
+pub begun_same : (old mid : Router) (texts : Texts) → mid ≡ record old { texts = mid.texts } → record mid { texts = texts } ≡ record old { texts = texts }
+begun_same old mid texts same = ap (λ (r : Router). record r { texts = texts }) same

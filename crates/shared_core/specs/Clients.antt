@@ -29,7 +29,7 @@ pub record HasSpoken (service : Service) (texts : Texts) (link : LinkId) (bytes 
   pub ours : All (IsOurs (rules_in service) texts c) choices
   pub word : IsPartingOurs parting
   pub so : SpeaksSo service.setup service.default_schema link bytes c ordinal choices halt parting links old new
-  pub ruled : AreRuled (ruling_of service (key_at texts)) choices halt service.setup service.default_schema c so.heard so.follows.turned so.follows.turns
+  pub ruled : AreRuled (ruling_of service texts.since (key_at texts)) choices halt service.setup service.default_schema c so.heard so.follows.turned so.follows.turns
 
 -- it goes on, and waits for an answer or isn't logged in
 pub record IsBusy (row : Client) : Type 0 where
@@ -64,4 +64,4 @@ pub record HasLeftGoing (service : Service) (texts : Texts) (link : LinkId) (c :
   pub ours : All (IsOurs (rules_in service) texts c) choices
   pub word : IsPartingOurs parting
   pub so : LeavesGoing service.setup service.default_schema link links ordinal choices halt parting c old new
-  pub ruled : AreRuled (ruling_of service (key_at texts)) choices halt service.setup service.default_schema c so.between so.follows.turned so.follows.turns
+  pub ruled : AreRuled (ruling_of service texts.since (key_at texts)) choices halt service.setup service.default_schema c so.between so.follows.turned so.follows.turns

@@ -76,7 +76,7 @@ pub record HasGone (service : Service) (texts : Texts) (c : ClientNo) (ends : Bo
   pub word : IsPartingOurs parting
   pub goes : CallerGoesOn service.setup service.default_schema
       (record { client = c; choices = choices; halt = halt; parting = parting }) old new
-  pub ruled : AreRuled (ruling_of service (key_at texts)) choices halt service.setup service.default_schema c old goes.turned goes.turns
+  pub ruled : AreRuled (ruling_of service texts.since (key_at texts)) choices halt service.setup service.default_schema c old goes.turned goes.turns
   pub ended : ends ≡ true → ends_by halt parting ≡ true
 
 -- How it was ended behind its turns.
@@ -113,7 +113,7 @@ pub record HasFollowed (service : Service) (texts : Texts) (c : ClientNo) (ends 
   pub ours : All (IsOurs (rules_in service) texts c) choices
   pub word : IsPartingOurs parting
   pub follows : FollowsSo service.setup service.default_schema c choices halt parting links old new
-  pub ruled : AreRuled (ruling_of service (key_at texts)) choices halt service.setup service.default_schema c old follows.turned follows.turns
+  pub ruled : AreRuled (ruling_of service texts.since (key_at texts)) choices halt service.setup service.default_schema c old follows.turned follows.turns
   pub ended : ends ≡ true → ends_by halt parting ≡ true
 
 -- Several clients did, one after the other.
@@ -123,7 +123,7 @@ pub record HaveFollowed (service : Service) (texts : Texts) (clients : List Clie
   pub named : map (λ (k : Caller). k.client) callers ≡ clients
   pub ours : All (IsCallerOurs (rules_in service) texts) callers
   pub calls : CallsSo service.setup service.default_schema callers links old new
-  pub ruled : AreRuledAll (ruling_of service (key_at texts)) callers service.setup service.default_schema old calls.turned calls.going
+  pub ruled : AreRuledAll (ruling_of service texts.since (key_at texts)) callers service.setup service.default_schema old calls.turned calls.going
 
 -- by what they were called
 pub record HaveGone (service : Service) (texts : Texts) (clients : List ClientNo) (old new : Tabled) : Type 0 where
@@ -131,7 +131,7 @@ pub record HaveGone (service : Service) (texts : Texts) (clients : List ClientNo
   pub named : map (λ (k : Caller). k.client) callers ≡ clients
   pub ours : All (IsCallerOurs (rules_in service) texts) callers
   pub going : AllGoOn callers service.setup service.default_schema old new
-  pub ruled : AreRuledAll (ruling_of service (key_at texts)) callers service.setup service.default_schema old new going
+  pub ruled : AreRuledAll (ruling_of service texts.since (key_at texts)) callers service.setup service.default_schema old new going
 
 -- The router answered a client's statement itself, by this failure.
 pub record HasAnswered (c : ClientNo) (why : Failure) (old new : Tabled) : Type 0 where
@@ -180,4 +180,4 @@ pub record HasCalled (service : Service) (texts : Texts) (name : Option SessionN
   pub called : IsCalled name told old (option_map (λ (g : Going). g.client) going)
   pub ours : AreGoingOurs (rules_in service) texts going
   pub goes : GoesSo going service.setup service.default_schema old new
-  pub ruled : IsRuledOn (ruling_of service (key_at texts)) going service.setup service.default_schema old new goes
+  pub ruled : IsRuledOn (ruling_of service texts.since (key_at texts)) going service.setup service.default_schema old new goes

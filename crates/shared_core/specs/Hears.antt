@@ -21,4 +21,4 @@ pub record HasHeard (service : Service) (link : LinkId) (bytes : List ℕ) (old 
   pub why : IsHeardFor link (tables old) given
   pub ours : AreGoingOurs (rules_in service) new.texts going
   pub so : HearsSo service.setup service.default_schema link bytes old.clock given going (tables old) (tables new)
-  pub ruled : IsRuledOn (ruling_of service (key_at new.texts)) going service.setup service.default_schema so.freed (tables new) so.goes
+  pub ruled : IsRuledOn (ruling_of service new.texts.since (key_at new.texts)) going service.setup service.default_schema so.freed (tables new) so.goes

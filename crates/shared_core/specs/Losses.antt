@@ -62,7 +62,7 @@ pub record HasLost (service : Service) (texts : Texts) (link : LinkId) (old new 
   pub why : IsLostFor link old given
   pub ours : AreGoingOurs (rules_in service) texts going
   pub so : LosesSo service.setup service.default_schema link given going old new
-  pub ruled : IsRuledOn (ruling_of service (key_at texts)) going service.setup service.default_schema so.lost new so.goes
+  pub ruled : IsRuledOn (ruling_of service texts.since (key_at texts)) going service.setup service.default_schema so.lost new so.goes
 
 -- Or a client was ended with it.
 pub record HasLostEnded (link : LinkId) (c : ClientNo) (old new : Tabled) : Type 0 where

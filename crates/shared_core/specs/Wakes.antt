@@ -58,7 +58,7 @@ pub record HasWoken (service : Service) (texts : Texts) (now_ms : ℕ) (came : B
   pub late : AreLate service.wait_ms now_ms came given
   pub ours : All (IsCallerOurs (rules_in service) texts) callers
   pub so : WakesSo service.setup service.default_schema given callers links (is_roomy roomy) old new
-  pub ruled : AreRuledAll (ruling_of service (key_at texts)) callers service.setup service.default_schema so.late so.calls.turned so.calls.going
+  pub ruled : AreRuledAll (ruling_of service texts.since (key_at texts)) callers service.setup service.default_schema so.late so.calls.turned so.calls.going
 
 -- One was given up, if one was, and its client went on.
 pub record HasFailed (service : Service) (texts : Texts) (old new : Tabled) : Type 0 where
@@ -69,4 +69,4 @@ pub record HasFailed (service : Service) (texts : Texts) (old new : Tabled) : Ty
   pub refused : AreRefused given
   pub ours : All (IsCallerOurs (rules_in service) texts) callers
   pub so : FailsSo service.setup service.default_schema given callers links old new
-  pub ruled : AreRuledAll (ruling_of service (key_at texts)) callers service.setup service.default_schema so.late so.calls.turned so.calls.going
+  pub ruled : AreRuledAll (ruling_of service texts.since (key_at texts)) callers service.setup service.default_schema so.late so.calls.turned so.calls.going

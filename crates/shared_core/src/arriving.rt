@@ -1,5 +1,6 @@
 // Clients come and speak.
 ghost use Rattle.std.specs.Prelude.{◌≡◌, OnOk, None, Some, false, true};
+ghost use Rattle.core_texts.specs.Texts.{HasBegun};
 ghost use Rattle.client_seat.specs.Seats.{is_ended};
 ghost use Rattle.core_tables.specs.declared.client.Client.{Client};
 ghost use Rattle.router_laws.specs.clients.Comes.{ComesSo, Served, TurnedAway};
@@ -95,6 +96,7 @@ impl Router {
         link: LinkId,
         bytes: &[u8],
     ) -> Result<(), OutOfMemory>
+        requires { HasBegun self.old.texts }
         ensures carries { OnOk result ((tables self.old).links link ≡ None → reads_on self.old.marked link ≡ true
             → Carries service.now (entry.Got link bytes.now) self.old self.new) }
         ensures moves { OnOk result (Moves self.old self.new) }

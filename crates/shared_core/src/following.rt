@@ -111,7 +111,7 @@ impl Router {
         service: &Service,
         client: ClientNo,
     ) -> Result<Option<Went>, OutOfMemory>
-        ensures is { IfOk result (λ went. HasGoneOn RuledTurns went (ruling_of service.now (key_at self.new.texts)) service.now.setup
+        ensures is { IfOk result (λ went. HasGoneOn RuledTurns went (ruling_of service.now self.new.texts.since (key_at self.new.texts)) service.now.setup
             service.now.default_schema client (tables self.old) (tables self.new)) }
         ensures keeps { OnOk result (Keeps self.old self.new) }
     {
@@ -122,7 +122,7 @@ impl Router {
 
     // An administrator is shown what the router tells of itself.
     fn takes_up(&mut self, service: &Service, client: ClientNo) -> Result<Option<Went>, OutOfMemory>
-        ensures is { IfOk result (λ went. HasGoneOn RuledTurns went (ruling_of service.now (key_at self.new.texts)) service.now.setup
+        ensures is { IfOk result (λ went. HasGoneOn RuledTurns went (ruling_of service.now self.new.texts.since (key_at self.new.texts)) service.now.setup
             service.now.default_schema client (tables self.old) (tables self.new)) }
         ensures keeps { OnOk result (Keeps self.old self.new) }
     {

@@ -1,5 +1,6 @@
 // Bytes come on links to servers.
 ghost use Rattle.std.specs.Prelude.{◌≡◌, IsSome, OnOk, true};
+ghost use Rattle.core_texts.specs.Texts.{HasBegun};
 ghost use Rattle.marked_tables.specs.Goes.{reads_on};
 ghost use Rattle.mx_base.specs.Fields.{AreBytes};
 ghost use Rattle.mx_wire.specs.declared.entry.Entry.TheVariants as entry;
@@ -19,6 +20,7 @@ impl Router {
         link: LinkId,
         bytes: &mut [u8],
     ) -> Result<(), OutOfMemory>
+        requires { HasBegun self.old.texts }
         ensures carries { OnOk result (IsSome ((tables self.old).links link) → reads_on self.old.marked link ≡ true
             → Carries service.now (entry.Got link bytes.old) self.old self.new) }
         ensures moves { OnOk result (Moves self.old self.new) }

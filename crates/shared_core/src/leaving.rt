@@ -1,5 +1,6 @@
 // Clients' links break.
 ghost use Rattle.std.specs.Prelude.{◌≡◌, OnOk, Some, true};
+ghost use Rattle.core_texts.specs.Texts.{HasBegun};
 ghost use Rattle.core_tables.specs.Tables.{Tabled};
 ghost use Rattle.core_tables.specs.declared.client.Client.{Client};
 ghost use Rattle.mx_base.specs.declared.names.ClientNo.{ClientNo};
@@ -51,6 +52,7 @@ impl Router {
         link: LinkId,
         client: ClientNo,
     ) -> Result<(), OutOfMemory>
+        requires { HasBegun self.old.texts }
         ensures loses { OnOk result ((tables self.old).numbers link ≡ Some client → Loses service.now link self.old self.new) }
         ensures moves { OnOk result (Moves self.old self.new) }
     {

@@ -1,5 +1,6 @@
 // Links break.
 ghost use Rattle.std.specs.Prelude.{◌≡◌, IfOk, IsSome, OnOk};
+ghost use Rattle.core_texts.specs.Texts.{HasBegun};
 ghost use Rattle.core_tables.specs.Parting.{lost_in};
 ghost use Rattle.core_tables.specs.Tables.{IsSame};
 ghost use Rattle.shared_core.specs.Follows.{Keeps};
@@ -25,6 +26,7 @@ fn is_given(given: Option<GiveUp>, client: ClientNo) -> bool
 impl Router {
     /// A read of a link ended, or a call on it failed.
     pub(crate) fn lost(&mut self, service: &Service, link: LinkId) -> Result<(), OutOfMemory>
+        requires { HasBegun self.old.texts }
         ensures loses { OnOk result (Loses service.now link self.old self.new) }
         ensures moves { OnOk result (Moves self.old self.new) }
     {
@@ -39,6 +41,7 @@ impl Router {
 
     // A link to a server is lost, and with it the present session that it carries: the statement there is given up, or its client ends.
     fn server_lost(&mut self, service: &Service, link: LinkId) -> Result<(), OutOfMemory>
+        requires { HasBegun self.old.texts }
         ensures loses { OnOk result (IsSome ((tables self.old).links link) → Loses service.now link self.old self.new) }
         ensures moves { OnOk result (Moves self.old self.new) }
     {

@@ -1,5 +1,6 @@
 // The core as a machine that the loop tells of events.
 ghost use Rattle.std.specs.Prelude.{◌≡◌, None, OnOk, false, is_some, true};
+ghost use Rattle.core_texts.specs.Texts.{HasBegun};
 ghost use Rattle.core_service.specs.declared.service.Service.{Service};
 ghost use Rattle.marked_tables.specs.Goes.{GoesOn, reads_on};
 ghost use Rattle.mx_wire.specs.declared.entry.Entry.TheVariants as entry;
@@ -20,6 +21,7 @@ const OTHER_LINKS: u32 = 10_018;
 
 impl Router {
     fn told(&mut self, service: &Service, event: Event, bytes: &mut [u8]) -> Result<(), OutOfMemory>
+        requires { HasBegun self.old.texts }
         ensures tells { OnOk result (Tells service.now event bytes.old self.old self.new) }
         ensures moves { OnOk result (Moves self.old self.new) }
     {
@@ -35,6 +37,7 @@ impl Router {
     }
 
     fn got(&mut self, service: &Service, link: LinkId, bytes: &mut [u8]) -> Result<(), OutOfMemory>
+        requires { HasBegun self.old.texts }
         ensures carries { OnOk result (reads_on self.old.marked link ≡ true → Carries service.now (entry.Got link bytes.old) self.old self.new) }
         ensures moves { OnOk result (Moves self.old self.new) }
     {
@@ -45,15 +48,15 @@ impl Router {
         }
     }
 
-    // The event goes through; and then what is chosen by it is done.
+    // It begins; the event goes through; and then what is chosen by it is done.
     fn take(&mut self, service: &Service, event: Event, bytes: &mut [u8]) -> Result<(), OutOfMemory>
         ensures tells { OnOk result (Tells service.now event bytes.old self.old self.new) }
         ensures moves { OnOk result (Moves self.old self.new) }
     {
         router_laws::wakes::settling_stands();
+        self.begins()?;
         self.told(service, event, bytes)?;
         self.settle(service)?;
-        self.forgets_texts()?;
         self.turns();
         Ok(())
     }

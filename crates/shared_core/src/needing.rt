@@ -8,7 +8,7 @@ ghost use Rattle.client_desk.specs.declared.work.Work.{Work};
 ghost use Rattle.core_tables.specs.Tables.{tables_of};
 ghost use Rattle.core_tables.specs.declared.client.Client.{Client};
 ghost use Rattle.core_tables.specs.declared.server.Server.{Server};
-ghost use Rattle.core_texts.specs.Texts.{AreLess, key_at};
+ghost use Rattle.core_texts.specs.Texts.{AreLess, HasBegun, key_at};
 ghost use Rattle.router_laws.specs.decisions.Held.{KeepsTexts};
 ghost use Rattle.shared_core.specs.Needed.{have_prepared, needs, works_on};
 ghost use Rattle.shared_core.specs.Rows.{IsToldPlace, work_at};
@@ -152,9 +152,9 @@ fn add_links(tables: &Tables, needed: &mut HashSet<u64>) -> Result<(), OutOfMemo
 }
 
 impl Router {
-    /// Texts that nobody needs are forgotten, once there are many: none of a client's statement in work, or of what it prepared.
+    // Texts that nobody needs are forgotten, once there are many: none of a client's statement in work, or of what it prepared.
     #[tactic(auto, using(crate::proofs::Needed::keeps_itself))]
-    pub(crate) fn forgets_texts(&mut self) -> Result<(), OutOfMemory>
+    fn forgets_texts(&mut self) -> Result<(), OutOfMemory>
         ensures less { OnOk result (AreLess self.old.texts self.new.texts) }
         ensures kept { OnOk result (KeepsTexts self.old.texts self.new.texts (tables self.old)) }
         ensures same { OnOk result (self.new ≡ record self.old { texts = self.new.texts }) }
@@ -166,5 +166,17 @@ impl Router {
         add_clients(&self.marked.tables, &mut needed)?;
         add_links(&self.marked.tables, &mut needed)?;
         self.texts.keep_only(&needed)
+    }
+
+    /// An event begins: texts that nobody needs are forgotten, and those that are left have come before it.
+    pub(crate) fn begins(&mut self) -> Result<(), OutOfMemory>
+        ensures less { OnOk result (AreLess self.old.texts self.new.texts) }
+        ensures kept { OnOk result (KeepsTexts self.old.texts self.new.texts (tables self.old)) }
+        ensures same { OnOk result (self.new ≡ record self.old { texts = self.new.texts }) }
+        ensures begun { OnOk result (HasBegun self.new.texts) }
+    {
+        self.forgets_texts()?;
+        self.texts.begin();
+        Ok(())
     }
 }

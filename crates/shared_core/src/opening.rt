@@ -1,5 +1,6 @@
 // Links to servers are opened, or can't be.
 ghost use Rattle.std.specs.Prelude.{◌≡◌, OnOk, Some};
+ghost use Rattle.core_texts.specs.Texts.{HasBegun};
 ghost use Rattle.core_policy.specs.declared.asks.Asked.{Asked};
 ghost use Rattle.mx_base.specs.declared.names.Address.{Address};
 ghost use Rattle.mx_wire.specs.declared.entry.Entry.TheVariants as entry;
@@ -57,6 +58,7 @@ impl Router {
         service: &Service,
         server: ServerId,
     ) -> Result<(), OutOfMemory>
+        requires { HasBegun self.old.texts }
         ensures carries { OnOk result ((address : Address) → Carries service.now (entry.OpenFailed server address) self.old self.new) }
         ensures moves { OnOk result (Moves self.old self.new) }
     {

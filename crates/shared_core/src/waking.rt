@@ -2,6 +2,7 @@
 ghost use Rattle.std.specs.Prelude.{◌≡◌, IfOk, OnOk, nat_eq, true, ℕ};
 ghost use Rattle.std.specs.BTreeSet.{keys};
 ghost use Rattle.std.specs.List.{list_any};
+ghost use Rattle.core_texts.specs.Texts.{HasBegun};
 ghost use Rattle.mx_base.specs.declared.names.ClientNo.{ClientNo};
 ghost use Rattle.mx_wire.specs.declared.entry.Entry.TheVariants as entry;
 ghost use Rattle.core_laws.specs.clients.Going.{is_going};
@@ -31,6 +32,7 @@ impl Router {
     /// The loop woke at this moment. Statements that waited too long are given up; then their clients go on, and those that have room again, one
     /// after the other as they came. Those end whom the policy names.
     pub(crate) fn woke(&mut self, service: &Service, now_ms: u64) -> Result<(), OutOfMemory>
+        requires { HasBegun self.old.texts }
         ensures carries { OnOk result ((until_ms : ℕ)
             → CarriesWhere (IsDrainedFor (tables self.old)) service.now (entry.Woke until_ms now_ms) self.old self.new) }
         ensures moves { OnOk result (Moves self.old self.new) }

@@ -85,7 +85,7 @@ fates_held rules texts c (choice ∷ others) halt first ordinal fate ours is =
 le_later : (from early late : ℕ) → early ≤ late → nat_le from early ≡ true → nat_le from late ≡ true
 le_later from early late less is = let first = leb-true from early is in le-leb from late (omega (arith, first, less))
 
-owned : (early late : ℕ) (answer : Option OwnAnswer) → early ≤ late
+pub owned : (early late : ℕ) (answer : Option OwnAnswer) → early ≤ late
     → is_some (option_and_then (λ (a : OwnAnswer). if nat_le a.from early then Some a.payloads else None) answer) ≡ true
     → is_some (option_and_then (λ (a : OwnAnswer). if nat_le a.from late then Some a.payloads else None) answer) ≡ true
 owned early late None less is = is

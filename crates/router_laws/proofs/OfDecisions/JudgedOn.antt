@@ -10,10 +10,11 @@ use Rattle.private_model.specs.View.{Setup}
 use Rattle.log_story.specs.Owed.{messages, name_of}
 use Rattle.log_story.specs.Plan.{Plan, Route}
 use Rattle.log_story.specs.Tale as tales
-use Rattle.log_story.specs.Tale.{Tale}
+use Rattle.log_story.specs.Tale.{Tale, view_of}
 use Rattle.core_tables.specs.Tables.{Tabled}
-use Rattle.core_stands.specs.Grounds.{Ground}
+use Rattle.core_stands.specs.Grounds.{Ground, view_on}
 use Rattle.core_stands.specs.Stands.{Stands}
+use Rattle.core_laws.proofs.OfClients.Finding.{turning_of}
 use Rattle.core_laws.specs.clients.Chosen.{IsTurning, PlanHas}
 use Rattle.core_laws.specs.clients.Found.{AreFoundAt, IsAmong, IsLastAmong}
 use Rattle.core_laws.specs.clients.Following.{IsFollowing, to_look}
@@ -26,7 +27,9 @@ use Rattle.router_laws.specs.clients.Continues.{IsContinued, is_read_on}
 use Rattle.router_promises.specs.Takings.{Taking, takings_at, takings_of}
 use Rattle.router_laws.proofs.OfDecisions.Covering.{follow_covers, found_covered}
 use Rattle.router_laws.proofs.OfDecisions.Judging.{judged_by}
+use Rattle.router_laws.proofs.OfDecisions.KeptOn.{AreKnownHeld, turning_kept}
 use Rattle.router_laws.specs.decisions.Judges.{HasKeys, JudgedFrom, all_keys}
+use Rattle.router_laws.specs.decisions.Held.{keys_since}
 
 -- What is judged by turns that are ruled, of a client before them, among takings that cover its own.
 abbrev pub TurnsJudge : Type 0
@@ -34,7 +37,8 @@ TurnsJudge =
     (ruling : Ruling) (service : Service) (default : List ℕ) (first client : tales.Client) (from : Tale) (g : Ground) (t now : Tabled)
     (choices : List Choice) (halt : Halt) (c : ClientNo) → client.number ≡ c → IsTurning service default first from g t client
     → PlanHas choices halt g.setup.keys g.plan g.tale.moment (name_of client (suc client.taken)) → (turns : Turns choices halt service default c t now)
-    → AreRuled ruling choices halt service default c t now turns → HasKeys ruling.keys g.setup → (takings : List Taking)
+    → AreRuled ruling choices halt service default c t now turns → AreKnownHeld (keys_since ruling.since ruling.keys) (view_on g) g.plan client
+    → HasKeys ruling.keys g.setup → (takings : List Taking)
     → Covers g.setup c (takings_of (length (messages g.plan client)) g.setup g.plan client g.tale) takings
     → JudgedFrom ruling.book g.setup g.plan client takings client.taken choices halt
 
@@ -46,7 +50,7 @@ FollowsJudge =
     → IsFollowing service default g e client freed choices halt parting → Stands service (to_look g fresh freed) mid
     → ((m : MessageName) (route : Route) → g.plan.routes m ≡ Some route → route.mirror ≡ None)
     → (turns : Turns choices halt service default c mid now) → AreRuled ruling choices halt service default c mid now turns
-    → HasKeys ruling.keys g.setup → JudgedFrom ruling.book g.setup g.plan client (takings_at g.setup g.plan g.tale e) client.taken choices halt
+    → AreKnownHeld (keys_since ruling.since ruling.keys) (view_of g.setup freed) g.plan client → HasKeys ruling.keys g.setup → JudgedFrom ruling.book g.setup g.plan client (takings_at g.setup g.plan g.tale e) client.taken choices halt
 
 -- By the laws of what turns took up.
 
@@ -60,11 +64,12 @@ TurnsFind =
     client.taken
 
 pub turns_judge : TurnsFind → TurnsJudge
-turns_judge find ruling service default first client from g t now choices halt c number turning has turns ruled keyed takings covers =
+turns_judge find ruling service default first client from g t now choices halt c number turning has turns ruled held keyed takings covers =
     judged_by ruling g.setup g.plan client keyed takings client.taken choices halt service default c number t now turns
     (found_covered g.setup g.plan c (takings_of (length (messages g.plan client)) g.setup g.plan client g.tale) takings covers choices halt service default t now turns
     (messages g.plan client) client.taken
     (find service default first client from g t now choices halt c number turning has turns (length (messages g.plan client)) (omega arith))) ruled
+    (turning_kept ruling service default first from g t client c number turning held)
 
 abbrev pub FollowsFind : Type 0
 FollowsFind =
@@ -76,12 +81,14 @@ FollowsFind =
     (messages g.plan client) client.taken
 
 pub follows_judge : FollowsFind → FollowsJudge
-follows_judge find ruling service default g mid now fresh e client freed choices halt parting c number following stands single turns ruled keyed =
+follows_judge find ruling service default g mid now fresh e client freed choices halt parting c number following stands single turns ruled held keyed =
     judged_by ruling g.setup g.plan client keyed (takings_at g.setup g.plan g.tale e) client.taken choices halt service default c number mid now turns
     (found_covered g.setup g.plan c (takings_of (length (messages g.plan client)) g.setup g.plan client freed) (takings_at g.setup g.plan g.tale e)
     (follow_covers service default g mid fresh e client freed choices halt parting following stands single c number) choices halt service default mid now turns
     (messages g.plan client) client.taken
     (find service default g mid now fresh e client freed choices halt parting c number following stands turns)) ruled
+    (turning_kept ruling service default client freed (to_look g fresh freed) mid client c number
+    (turning_of service default g mid fresh e client freed choices halt parting following stands) held)
 
 messages_same : (plan : Plan) (was now : tales.Client) → now.number ≡ was.number → now.port ≡ was.port → now.salt ≡ was.salt → now.read ≡ was.read
     → messages plan now ≡ messages plan was

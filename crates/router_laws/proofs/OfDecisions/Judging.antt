@@ -38,7 +38,7 @@ use Rattle.core_laws.specs.entry.Tells.{Fits, IsOf}
 use Rattle.core_promises.proofs.Takings.{taken_before, taken_now}
 use Rattle.core_promises.proofs.Knowing.{KnowsMore, routed_within, told_within}
 use Rattle.core_promises.specs.Judges.{AreJudged, book_for, IsJudged, IsRoutedFor, IsToldFor, Rulebook, Situation, situation_of}
-use Rattle.core_promises.specs.Ruled.{AreRuled, IsChoiceFor, IsRuled, Ruling, book_of, situation_at}
+use Rattle.core_promises.specs.Ruled.{AreKept, AreRuled, IsChoiceFor, IsRuled, Ruling, book_of, situation_at}
 use Rattle.router_promises.specs.Takings.{Taking, takings_at}
 use Rattle.shared_router.proofs.Furthering.{IsWithin, within_step}
 use Rattle.shared_router.proofs.Looked.{Each, each-all}
@@ -46,6 +46,7 @@ use Rattle.shared_router.proofs.Numbered.{AreNumbered}
 use Rattle.shared_router.proofs.Seated.{numbered_step}
 use Rattle.router_laws.proofs.OfClients.Continuing.{all_were}
 use Rattle.router_laws.proofs.OfDecisions.Fates.{HasFate, fate_there, false_true, none_some}
+use Rattle.router_laws.proofs.OfDecisions.Kept.{turn_kept, up_kept}
 use Rattle.router_laws.proofs.OfDecisions.Listing.{is_tale_of}
 use Rattle.router_laws.proofs.OfDecisions.Planning.{fate_so, own_so}
 use Rattle.router_laws.proofs.OfDecisions.Recording.{one_more}
@@ -55,6 +56,7 @@ use Rattle.router_laws.specs.decisions.Judges.{AreSent, HasKeys, IsJudgedAs, IsJ
 use Rattle.router_laws.specs.decisions.Deeds.{Counts, Deeds, Fate, Word, among, counts_with, decided_by, decided_with, fate_at, fate_in, fate_of, is_quitting, known_with, no_deeds, no_fate, parting, taken_by, taking}
 use Rattle.router_laws.specs.decisions.Force.{rules_then}
 use Rattle.router_laws.specs.decisions.Records.{AreCountsOf, IsRecorded}
+use Rattle.router_laws.specs.decisions.Rulings.{AreKeptIn}
 
 -- Of a client's messages that came up at its turns, where these are by the verdict.
 
@@ -72,16 +74,16 @@ choice_within book one other within keys setup has c payload (Answers payloads) 
     told_within book one other within c payload payloads for
 
 module _ (ruling : Ruling) (setup : Setup) (plan : Plan) (client : Client) (has : HasKeys ruling.keys setup) where
-  judged_as : (c : ClientNo) → client.number ≡ c → (desk : Desk) (up : Framed) (taking : Taking) → taking.client.number ≡ c → (found : Option Framed)
-      → IsFoundIn c desk up setup plan taking found → (message : Framed) → found ≡ Some message → (choice : Choice)
+  judged_as : (c : ClientNo) → client.number ≡ c → (desk : Desk) → AreKept ruling desk.seat.statements → (up : Framed) (taking : Taking)
+      → taking.client.number ≡ c → (found : Option Framed) → IsFoundIn c desk up setup plan taking found → (message : Framed) → found ≡ Some message → (choice : Choice)
       → IsChoiceFor choice ruling.book (situation_at ruling.keys desk) ruling.keys c up.payload
       → IsChoiceFor choice ruling.book (situation_of setup plan taking) (all_keys setup) client.number message.payload
-  judged_as c number desk up taking of found at message is choice ruled =
+  judged_as c number desk kept up taking of found at message is choice ruled =
       subst (λ (m : Framed). IsChoiceFor choice ruling.book (situation_of setup plan taking) (all_keys setup) client.number m.payload)
       (same_Some up message (sym at.message_is ∙ is))
       (subst (λ (x : ClientNo). IsChoiceFor choice ruling.book (situation_of setup plan taking) (all_keys setup) x up.payload) (sym number)
       (choice_within ruling.book (situation_at ruling.keys desk) (situation_of setup plan taking)
-      (situated setup plan taking ruling.keys has c of desk up found at) ruling.keys setup has c up.payload choice ruled))
+      (situated setup plan taking ruling.keys has c of desk up found at (λ k s some there. (kept k s some there).there)) ruling.keys setup has c up.payload choice ruled))
 
   its_name : (takings : List Taking) (c : ClientNo) → client.number ≡ c → (k : ℕ) (taking : Taking) → IsAmong takings (message_at c (suc k)) taking
       → IsAmong takings (name_of client (suc k)) taking
@@ -90,31 +92,35 @@ module _ (ruling : Ruling) (setup : Setup) (plan : Plan) (client : Client) (has 
   judged_one : (choice : Choice) (service : Serving) (default : List ℕ) (c : ClientNo) → client.number ≡ c → (old new : Tabled)
       (turn : IsTurn choice service default c old new) (takings : List Taking) (k : ℕ)
       → IsFound choice service default c old new turn setup plan takings (slice_get (messages plan client) k) k
-      → IsRuled ruling choice service default c old new turn → IsJudgedAs ruling.book setup plan client takings k choice
-  judged_one (Goes route keyed) service default c number old new turn takings k found ruled = record {
+      → IsRuled ruling choice service default c old new turn → AreKeptIn ruling (old.clients c) → IsJudgedAs ruling.book setup plan client takings k choice
+  judged_one (Goes route keyed) service default c number old new turn takings k found ruled kept = record {
     taking = found.taking;
     among = its_name takings c number k found.taking found.among;
     is = λ message at.
-        judged_as c number (desk_up service default turn.up.row) turn.up.message found.taking
-        (taken_of takings (message_at c (suc k)) found.taking found.among) (slice_get (messages plan client) k) found.at message at (Goes route keyed) ruled;
+        let up : AreKept ruling (desk_up service default turn.up.row).seat.statements = up_kept ruling service default c old turn.between turn.up kept in
+        judged_as c number (desk_up service default turn.up.row) up turn.up.message found.taking
+        (taken_of takings (message_at c (suc k)) found.taking found.among) (slice_get (messages plan client) k) found.at message at (Goes route keyed) (ruled up);
   }
-  judged_one (Answers payloads) service default c number old new turn takings k found ruled = record {
+  judged_one (Answers payloads) service default c number old new turn takings k found ruled kept = record {
     taking = found.taking;
     among = its_name takings c number k found.taking found.among;
     is = λ message at.
-        judged_as c number (desk_up service default turn.up.row) turn.up.message found.taking
-        (taken_of takings (message_at c (suc k)) found.taking found.among) (slice_get (messages plan client) k) found.at message at (Answers payloads) ruled;
+        let up : AreKept ruling (desk_up service default turn.up.row).seat.statements = up_kept ruling service default c old turn.between turn.up kept in
+        judged_as c number (desk_up service default turn.up.row) up turn.up.message found.taking
+        (taken_of takings (message_at c (suc k)) found.taking found.among) (slice_get (messages plan client) k) found.at message at (Answers payloads) (ruled up);
   }
 
   pub judged_by : (takings : List Taking) (k : ℕ) (choices : List Choice) (halt : Halt) (service : Serving) (default : List ℕ) (c : ClientNo)
       → client.number ≡ c → (old new : Tabled) (turns : Turns choices halt service default c old new)
       → AreFoundAt choices halt service default c old new turns setup plan takings (messages plan client) k
-      → AreRuled ruling choices halt service default c old new turns → JudgedFrom ruling.book setup plan client takings k choices halt
-  judged_by takings k [] halt service default c number old new turns found ruled =
+      → AreRuled ruling choices halt service default c old new turns → AreKeptIn ruling (old.clients c)
+      → JudgedFrom ruling.book setup plan client takings k choices halt
+  judged_by takings k [] halt service default c number old new turns found ruled kept =
       subst (λ (n : ClientNo). IsLastAmong halt takings (message_at n (suc k))) (sym number) found
-  judged_by takings k (choice ∷ others) halt service default c number old new turns found ruled = (
-    judged_one choice service default c number old turns.0 turns.1 takings k found.0 ruled.0,
-    judged_by takings (suc k) others halt service default c number turns.0 new turns.2 found.1 ruled.1,
+  judged_by takings k (choice ∷ others) halt service default c number old new turns found ruled kept = (
+    judged_one choice service default c number old turns.0 turns.1 takings k found.0 ruled.0 kept,
+    judged_by takings (suc k) others halt service default c number turns.0 new turns.2 found.1 ruled.1
+        (turn_kept ruling service default c choice old turns.0 turns.1 kept),
   )
 
 -- So what is decided of each is.

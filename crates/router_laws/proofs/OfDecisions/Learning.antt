@@ -2,7 +2,7 @@
 use Rattle.std.specs.Prelude.{◌≡◌, ◌⊎◌, ◌<◌, ◌≤◌, ℕ, Bool, length, List, Option, Some, None, ◌-◌, zero, suc, true, false, is_some, not, slice_index_or, if◌then◌else◌}
 use Rattle.std.specs.Option.{option_or, option_and_then, option_map}
 use Rattle.std.proofs.Common.{refl, sym, ap, ◌∙◌, subst, arith, inl, inr}
-use Rattle.std.proofs.lemmas.Bool.{true≢false}
+use Rattle.std.proofs.lemmas.Bool.{le-leb, true≢false}
 use Rattle.std.proofs.lemmas.Option.{none-some, same_Some}
 use Rattle.mx_wire.specs.Log.{Log}
 use Rattle.core_service.specs.declared.service.Service.{Service}
@@ -26,7 +26,7 @@ use Rattle.step_laws.proofs.Seating.{counted_seats}
 use Rattle.step_laws.specs.Seats.{IsSeated}
 use Rattle.tale_world.specs.Decided.{Decided}
 use Rattle.core_tables.specs.Tables.{Tabled}
-use Rattle.core_texts.specs.Texts.{AreLess, AreMore, key_at}
+use Rattle.core_texts.specs.Texts.{AreLess, AreMore, HasBegun, key_at}
 use Rattle.core_texts.specs.declared.texts.Texts.{Texts}
 use Rattle.client_session.specs.Setups.{Setup as Serving}
 use Rattle.core_stands.specs.Clients.{IsPhase, IsWorkingOr}
@@ -42,9 +42,9 @@ use Rattle.router_promises.specs.Terms.{plan_in, setup_in}
 use Rattle.router_laws.proofs.OfDecisions.Held.{HasRow, served}
 use Rattle.router_laws.proofs.OfDecisions.Listing.{is_tale_of}
 use Rattle.router_laws.proofs.OfDecisions.Recording.{or_stays}
-use Rattle.router_laws.specs.decisions.Held.{AreHeld, IsHeld, KeepsTexts}
+use Rattle.router_laws.specs.decisions.Held.{AreHeld, IsHeld, KeepsTexts, keys_since}
 use Rattle.router_laws.specs.decisions.Records.{IsRecorded}
-use Rattle.router_laws.specs.decisions.Routers.{AreKnown, IsRouter}
+use Rattle.router_laws.specs.decisions.Routers.{AreKnown, IsLearned, IsRouter}
 
 -- What is found is there, or nothing is.
 
@@ -130,6 +130,27 @@ held_more old new more d setup plan tale held = λ k dflt within on.
       asked = λ route routed some is. some_more old new more route.key (key_at old route.key) refl (was.asked route routed some is);
     }
 
+-- those that were kept as they began are so since
+module _ (old new : Texts) (begun : HasBegun old) (more : AreMore old new) where
+  some_since : (number : ℕ) (found : Option Key) → key_at old number ≡ found → is_some found ≡ true
+      → is_some (keys_since new.since (key_at new) number) ≡ true
+  some_since number None at is = absurd (true≢false (sym is))
+  some_since number (Some key) at is =
+      let within : number ≤ old.last = old.counted number key at in
+      let since : new.since ≡ old.since = more.since in
+      let all : old.since ≡ old.last = begun in
+      ap (λ (b : Bool). is_some (if b then key_at new number else None)) (le-leb number new.since (omega (arith, within, since, all)))
+      ∙ ap is_some (more.kept number key at)
+
+  held_since : (d : Decided) (setup : Setup) (plan : Plan) (tale : Tale) → AreHeld (key_at old) d setup plan tale
+      → AreHeld (keys_since new.since (key_at new)) d setup plan tale
+  held_since d setup plan tale held = λ k dflt within on.
+      let was = held k dflt within on in
+      record {
+        known = λ number made some is. some_since made.key (key_at old made.key) refl (was.known number made some is);
+        asked = λ route routed some is. some_since route.key (key_at old route.key) refl (was.asked route routed some is);
+      }
+
 module _ (service : Service) (old new : Texts) (log : Log) (t : Tabled) (roomy : ClientNo → Bool) (router : IsRouter service old log t roomy) where
   abbrev d : Decided
   d = router.core.decided
@@ -180,6 +201,14 @@ module _ (service : Service) (old new : Texts) (log : Log) (t : Tabled) (roomy :
     caused = λ setup codes plan of fits. router.caused setup codes plan (less plan of) (fit setup codes plan _ fits);
     held = λ setup codes plan of fits.
         held_more old new more d setup plan (tale_of setup plan log) (router.held setup codes plan (less plan of) (fit setup codes plan _ fits));
+  }
+
+  pub learned : HasBegun old → AreMore old new → IsLearned service new log t roomy
+  unfolding learns
+  learned begun more = record {
+    router = learns more;
+    since = λ setup codes plan of fits.
+        held_since old new begun more d setup plan (tale_of setup plan log) (router.held setup codes plan (less plan of) (fit setup codes plan _ fits));
   }
 
 -- What was decided stays so, and no text is forgotten that a client may still name.

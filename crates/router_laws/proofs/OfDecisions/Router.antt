@@ -124,7 +124,7 @@ module _ {texts : Texts} (service : Service) (log : Log) (e : Entry) (deeds : De
       judged_then service log e router.core.decided router.counts deeds router.recorded router.rules setup plan of (router.counted setup codes plan then fitted)
       (counts_now setup codes plan of fits) (router.judged setup codes plan then fitted) (judges setup codes plan of fits)
 
-  held_now : AreHeldBy texts service.default_schema new (with_entry log e)
+  held_now : AreHeldBy (key_at texts) service.default_schema new (with_entry log e)
   held_now setup codes plan of fits =
       let then : IsOf router.core.decided (length log) plan = of_then setup codes plan of fits in
       let fitted : Fits router.core.decided.keys setup codes plan service.default_schema (tale_of setup plan log) = fits_then setup codes plan of fits in

@@ -8,7 +8,7 @@ use Rattle.packet_frame.specs.Packets.{Framed}
 use Rattle.pin_classifier.specs.Classes.{class_of}
 use Rattle.private_model.specs.Names.{ClientNo, Hostgroup}
 use Rattle.private_model.specs.Story.{Key}
-use Rattle.private_model.specs.View.{Setup, View}
+use Rattle.private_model.specs.View.{Setup}
 use Rattle.log_story.specs.Executes as executes
 use Rattle.log_story.specs.Owed.{messages}
 use Rattle.log_story.specs.Plan.{Plan}
@@ -31,35 +31,38 @@ use Rattle.router_laws.specs.decisions.Judges.{HasKeys}
 none_is : {A B : Type 0} (a : A) → None ≡ Some a → B
 none_is a is = absurd (let no = is in cc)
 
-module _ (setup : Setup) (plan : Plan) (client : Client) (tale : Tale) (keys : (key : ℕ) → Option Key) (has : HasKeys keys setup) where
-  abbrev view : View
-  view = view_of setup tale
-
+-- What stands under a number is known there.
+module _ (setup : Setup) (plan : Plan) (client : Client) (tale : Tale) (number : ℕ) (s : Statement)
+    (is : IsNumbered (known_at setup plan tale) client (λ (key : ℕ). key) number (numbered s)) where
   abbrev sent : List Framed
   sent = messages plan client
 
+  abbrev pub known : executes.Prepared
+  known = record { key = s.prepared.key; params = s.prepared.params; ordinal = is.ordinal }
+
+  since : between (suc is.ordinal) (suc client.taken) sent ≡ drop is.ordinal (take client.taken sent)
+  since =
+      let first : suc is.ordinal - 1 ≡ is.ordinal = omega arith in
+      let last : suc client.taken - 1 ≡ client.taken = omega arith in
+      λ i. drop (first i) (take (last i) sent)
+
+  live : is_live plan client number (suc client.taken) known ≡ true
+  live =
+      ap (λ (ms : List Framed). not (list_any (λ (m : Framed). drops number m.payload) ms)) since
+      ∙ ap not is.live
+
+  pub stands : known_statement (view_of setup tale) plan client number (suc client.taken) ≡ Some known
+  stands =
+      ap (option_and_then (λ (p : executes.Prepared). if is_live plan client number (suc client.taken) p then Some p else None)) is.prepared
+      ∙ ap (λ (b : Bool). if b then Some known else None) live
+
+module _ (setup : Setup) (plan : Plan) (client : Client) (tale : Tale) (keys : (key : ℕ) → Option Key) (has : HasKeys keys setup) where
   module _ (number : ℕ) (s : Statement) (is : IsNumbered (known_at setup plan tale) client (λ (key : ℕ). key) number (numbered s)) where
-    abbrev known : executes.Prepared
-    known = record { key = s.prepared.key; params = s.prepared.params; ordinal = is.ordinal }
-
-    since : between (suc is.ordinal) (suc client.taken) sent ≡ drop is.ordinal (take client.taken sent)
-    since =
-        let first : suc is.ordinal - 1 ≡ is.ordinal = omega arith in
-        let last : suc client.taken - 1 ≡ client.taken = omega arith in
-        λ i. drop (first i) (take (last i) sent)
-
-    live : is_live plan client number (suc client.taken) known ≡ true
-    live =
-        ap (λ (ms : List Framed). not (list_any (λ (m : Framed). drops number m.payload) ms)) since
-        ∙ ap not is.live
-
-    stands : known_statement view plan client number (suc client.taken) ≡ Some known
-    stands =
-        ap (option_and_then (λ (p : executes.Prepared). if is_live plan client number (suc client.taken) p then Some p else None)) is.prepared
-        ∙ ap (λ (b : Bool). if b then Some known else None) live
+    abbrev its : executes.Prepared
+    its = known setup plan client tale number s is
 
     -- as it is known there
-    known_so : (key : Key) → keys s.prepared.key ≡ Some key → prepared_as setup plan client number known is.route ≡ known_as key s
+    known_so : (key : Key) → keys s.prepared.key ≡ Some key → prepared_as setup plan client number its is.route ≡ known_as key s
     known_so key at =
         let same : setup.keys s.prepared.key ≡ key = has s.prepared.key key at in
         λ i. record {
@@ -74,8 +77,8 @@ module _ (setup : Setup) (plan : Plan) (client : Client) (tale : Tale) (keys : (
 
     statement_so : (key : Key) → keys s.prepared.key ≡ Some key → statement_of setup plan client tale number ≡ Some (known_as key s)
     statement_so key at =
-        ap (option_and_then (prepared_on setup plan client number)) stands
-        ∙ ap (option_map (prepared_as setup plan client number known)) is.went
+        ap (option_and_then (prepared_on setup plan client number)) (stands setup plan client tale number s is)
+        ∙ ap (option_map (prepared_as setup plan client number its)) is.went
         ∙ ap (λ (p : Prepared). Some p) (known_so key at)
 
     by_key : (found : Option Key) → keys s.prepared.key ≡ found → (prepared : Prepared) → option_map (λ (key : Key). known_as key s) found ≡ Some prepared
@@ -92,17 +95,6 @@ module _ (setup : Setup) (plan : Plan) (taking : Taking) (keys : (key : ℕ) →
       by_key setup plan taking.client taking.tale keys has number s (at.prepared number (numbered s) (ap (option_map numbered) is)) (keys s.prepared.key) refl
       prepared same
 
-  pub situated : KnowsMore (situation_at keys desk) (situation_of setup plan taking)
-  situated = record {
-    port = at.port;
-    user = ap (λ (n : ClientNo). (setup.accounts n).user) number_is ∙ sym at.login;
-    place = ap (λ (n : ClientNo). (view_of setup taking.tale).places n) number_is ∙ at.place;
-    pins = ap (λ (n : ClientNo). λ (h : Hostgroup). (held_of setup taking.tale n h).pin) number_is ∙ (λ i. λ h. (at.held h i).pin);
-    homes = ap (λ (n : ClientNo). λ (h : Hostgroup). (held_of setup taking.tale n h).home) number_is ∙ (λ i. λ h. (at.held h i).home);
-    statements = λ number prepared is. statements_so number (statement_at desk.seat.statements number) refl prepared is;
-    given = λ number is. ap is_some (at.unused number (leb-false number desk.seat.statements.last is));
-  }
-
   -- and what its client knows stands there
 
   there_by : (number : ℕ) (found : Option executes.Prepared)
@@ -115,8 +107,39 @@ module _ (setup : Setup) (plan : Plan) (taking : Taking) (keys : (key : ℕ) →
   mapped_some None is = is
   mapped_some (Some s) is = refl
 
-  pub statement_there : (number : ℕ) → 0 < number → is_some (statement_of setup plan taking.client taking.tale number) ≡ true
+  statement_there : (number : ℕ) → 0 < number → is_some (statement_of setup plan taking.client taking.tale number) ≡ true
       → is_some (statement_at desk.seat.statements number) ≡ true
   statement_there number some there =
       mapped_some (statement_at desk.seat.statements number)
       (there_by number (known_statement (view_of setup taking.tale) plan taking.client number (suc taking.client.taken)) refl some there)
+
+  module _ (kept : (number : ℕ) (s : Statement) → 0 < number → statement_at desk.seat.statements number ≡ Some s
+      → is_some (keys s.prepared.key) ≡ true) where
+    known_back : (number : ℕ) (s : Statement) → statement_at desk.seat.statements number ≡ Some s → (found : Option Key)
+        → keys s.prepared.key ≡ found → is_some found ≡ true → (prepared : Prepared)
+        → statement_of setup plan taking.client taking.tale number ≡ Some prepared → known_by keys s ≡ Some prepared
+    known_back number s is None key some prepared there = absurd (let never : false ≡ true = some in cc)
+    known_back number s is (Some key) at_key some prepared there =
+        let so : known_by keys s ≡ Some (known_as key s) = ap (option_map (λ (k : Key). known_as k s)) at_key in
+        so ∙ (sym (statements_so number (Some s) is (known_as key s) so) ∙ there)
+
+    statement_back : (number : ℕ) → 0 < number → (found : Option Statement) → statement_at desk.seat.statements number ≡ found
+        → is_some found ≡ true → (prepared : Prepared) → statement_of setup plan taking.client taking.tale number ≡ Some prepared
+        → option_and_then (known_by keys) found ≡ Some prepared
+    statement_back number some None is there prepared stated = absurd (let never : false ≡ true = there in cc)
+    statement_back number some (Some s) is there prepared stated =
+        known_back number s is (keys s.prepared.key) refl (kept number s some is) prepared stated
+
+    pub situated : KnowsMore (situation_at keys desk) (situation_of setup plan taking)
+    situated = record {
+      port = at.port;
+      user = ap (λ (n : ClientNo). (setup.accounts n).user) number_is ∙ sym at.login;
+      place = ap (λ (n : ClientNo). (view_of setup taking.tale).places n) number_is ∙ at.place;
+      pins = ap (λ (n : ClientNo). λ (h : Hostgroup). (held_of setup taking.tale n h).pin) number_is ∙ (λ i. λ h. (at.held h i).pin);
+      homes = ap (λ (n : ClientNo). λ (h : Hostgroup). (held_of setup taking.tale n h).home) number_is ∙ (λ i. λ h. (at.held h i).home);
+      statements = λ number prepared is. statements_so number (statement_at desk.seat.statements number) refl prepared is;
+      back = λ number prepared some is.
+          statement_back number some (statement_at desk.seat.statements number) refl
+          (statement_there number some (ap is_some is)) prepared is;
+      given = λ number is. ap is_some (at.unused number (leb-false number desk.seat.statements.last is));
+    }

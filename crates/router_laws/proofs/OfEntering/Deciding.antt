@@ -59,6 +59,7 @@ use Rattle.router_laws.specs.decisions.Deeds.{AreAlone, Deeds, Word, counts_with
 use Rattle.router_laws.specs.decisions.Goings.{end_of}
 use Rattle.router_laws.specs.decisions.Plans.{HasDeeds, PlansSo}
 use Rattle.router_laws.specs.decisions.Routers.{AreOpenJust, GoesSo, IsBefore, IsRouter, WaitsThen}
+use Rattle.router_laws.specs.decisions.Rulings.{AreKeptIn}
 use Rattle.core_texts.specs.Texts.{key_at}
 use Rattle.router_laws.proofs.OfDecisions.Speaking.{known_keys}
 
@@ -327,10 +328,11 @@ module _ {texts : Texts} (service : Service) (log : Log) (e : Entry) (t now : Ta
   -- and what it takes up is ruled
 
   module _ (ordinal : ℕ) (mid turned : Tabled) (turns : Turns choices halt service.setup service.default_schema c mid turned)
-      (ruled : AreRuled (ruling_of service (key_at texts)) choices halt service.setup service.default_schema c mid turned turns) where
+      (ruled : AreRuled (ruling_of service texts.since (key_at texts)) choices halt service.setup service.default_schema c mid turned turns) where
     pub record Finds (setup : Setup) (codes : Codes) (plan : Plan) : Type 0 where
       pub so : GoesFinding service.setup service.default_schema setup codes plan log e d new t now roomy room c ordinal choices halt mid turned turns
       pub next : ordinal ≡ suc (router.counts.taken c)
+      pub kept : AreKeptIn (ruling_of service texts.since (key_at texts)) (mid.clients c)
 
     abbrev pub FindsBy : Type 0
     FindsBy =
@@ -349,7 +351,7 @@ module _ {texts : Texts} (service : Service) (log : Log) (e : Entry) (t now : Ta
           → (client : tales.Client) → IsSeated (tale_of setup plan (with_entry log e)) client → client.number ≡ c
           → JudgedFrom (book_of service) setup plan client (takings_at setup plan (tale_of setup plan log) e) (router.counts.taken c) choices halt
       judged setup codes plan of fits client seated number =
-          judged_by (ruling_of service (key_at texts)) setup plan client (known_keys texts d.keys router.known setup fits.keyed) (takings_at setup plan (tale_of setup plan log) e) (router.counts.taken c) choices halt service.setup
+          judged_by (ruling_of service texts.since (key_at texts)) setup plan client (known_keys texts d.keys router.known setup fits.keyed) (takings_at setup plan (tale_of setup plan log) e) (router.counts.taken c) choices halt service.setup
           service.default_schema c number mid turned turns
           ((finds setup codes plan of fits).so.finds (before setup codes plan of fits).rests (router.counts.taken c) (finds setup codes plan of fits).next
-          client seated number) ruled
+          client seated number) ruled (finds setup codes plan of fits).kept

@@ -45,6 +45,9 @@ use Rattle.router_laws.specs.clients.Counted.{GoesTaking}
 use Rattle.router_laws.specs.clients.Finds.{GoesFinding}
 use Rattle.router_laws.specs.clients.Leaves.{IsLossOf, LeavesAgain, LeavesAtOnce, LeavesGoing}
 use Rattle.router_laws.specs.clients.Plans.{FitsThen, IsDecided, PlansEnd, PlansTurns, nobody, over_by}
+use Rattle.router_laws.proofs.OfDecisions.Kept.{anew_kept}
+use Rattle.router_laws.proofs.OfDecisions.KeptOn.{before_kept}
+use Rattle.router_laws.specs.decisions.Held.{AreHeldSince}
 use Rattle.router_laws.proofs.OfEntering.Deciding as deciding
 use Rattle.router_laws.proofs.OfEntering.Deciding.{Told}
 use Rattle.router_laws.proofs.OfEntering.Opening.{again_keeps, at_once_keeps, going_keeps, loss_opens, opens_kept}
@@ -124,13 +127,13 @@ at_once_routed law service texts log e t now roomy room link c links router may 
 
 pub going_routed : Going → Told → (service : Service) (texts : Texts) (log : Log) (e : Entry) (t now : Tabled) (roomy room : ClientNo → Bool) (link : LinkId)
     (c : ClientNo) (links : List LinkId) (ordinal : ℕ) (choices : List Choice) (halt : Halt) (parting : Parting)
-    → IsRouter service texts log t roomy → MayFollow log e → IsLossOf link e
+    → (router : IsRouter service texts log t roomy) → MayFollow log e → IsLossOf link e
     → (so : LeavesGoing service.setup service.default_schema link links ordinal choices halt parting c t now)
     → All (IsOurs (rules_in service) texts c) choices → IsPartingOurs parting
     → OthersLack c roomy room
-    → AreRuled (ruling_of service (key_at texts)) choices halt service.setup service.default_schema c so.between so.follows.turned so.follows.turns
-    → IsRouter service texts (with_entry log e) now room
-going_routed law told service texts log e t now roomy room link c links ordinal choices halt parting router may lost so ours told_ours others ruled =
+    → AreRuled (ruling_of service texts.since (key_at texts)) choices halt service.setup service.default_schema c so.between so.follows.turned so.follows.turns
+    → AreHeldSince texts service.default_schema router.core.decided log → IsRouter service texts (with_entry log e) now room
+going_routed law told service texts log e t now roomy room link c links ordinal choices halt parting router may lost so ours told_ours others ruled since =
     deciding.finds_router service log e t now roomy room router may c choices halt (end_of parting) ours (end_ours parting told_ours) ordinal so.between
     so.follows.turned so.follows.turns ruled (loss_waits service log e link router.core.decided lost)
     (λ setup codes plan of fits.
@@ -151,6 +154,9 @@ going_routed law told service texts log e t now roomy room link c links ordinal 
           still ordinal parting (so.next ∙ ap suc arrived) refl so.follows.once told) so others;
       next = so.next ∙ ap suc (arrived ∙ deciding.counted_so service log e t now roomy room router may c choices halt (end_of parting) ours
           (end_ours parting told_ours) setup codes plan of fits client is.seated is.number still);
+      kept = anew_kept (ruling_of service texts.since (key_at texts)) links c so.row t so.between so.leaves so.its.there
+          (before_kept (ruling_of service texts.since (key_at texts)) service.setup setup codes plan router.core.decided log t client c is.number
+          was.rests.stands is.seated going (since setup codes plan was.of was.fits));
     })
     ((loss_of link e lost).none_comes) (loss_begins link e lost _)
     (opens_kept log e t now (loss_opens link e lost)

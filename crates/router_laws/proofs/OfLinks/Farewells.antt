@@ -29,6 +29,7 @@ use Rattle.router_laws.specs.quiet.Quiet.{is_quiet}
 use Rattle.ready_loop.specs.Machine.{IsFarewell, IsPartOf}
 use Rattle.router_laws.proofs.OfLinks.Saying.{closes_lost, closes_then, wrote_before}
 use Rattle.router_laws.specs.decisions.Causes.{IsLostFor}
+use Rattle.router_laws.specs.decisions.Held.{AreHeldFor}
 use Rattle.router_laws.specs.links.Closes.{ClosesSo, IsLentThere, MayClose, MaySayFarewell}
 use Rattle.router_laws.specs.links.Loses.{Break, LosesSo, WriteFails, entry_by}
 use Rattle.router_laws.specs.links.Writes.{WritesSo}
@@ -45,9 +46,10 @@ pub record Laws : Type 0 where
       → IsRouter service texts log t roomy → MayFollow log (entry.Wrote l offer.tag (take count offer.bytes)) → WritesSo l offer count t now
       → IsRouter service texts (with_entry log (entry.Wrote l offer.tag (take count offer.bytes))) now roomy
   pub loses : (service : Service) (texts : Texts) (log : Log) (t now : Tabled) (roomy : ClientNo → Bool) (l : LinkId) (how : Break)
-      (given : Option GivenUp) (going : Option Going) → IsRouter service texts log t roomy → MayFollow log (entry_by how l)
+      (given : Option GivenUp) (going : Option Going) → (router : IsRouter service texts log t roomy) → MayFollow log (entry_by how l)
       → AreGivenOurs given → AreGoingOurs (rules_in service) texts going → (so : LosesSo service.setup service.default_schema l given going t now)
-      → IsRuledOn (ruling_of service (key_at texts)) going service.setup service.default_schema so.lost now so.goes → IsLostFor l t given
+      → IsRuledOn (ruling_of service texts.since (key_at texts)) going service.setup service.default_schema so.lost now so.goes → IsLostFor l t given
+      → AreHeldFor going texts service.default_schema router.core.decided log
       → IsRouter service texts (with_entry log (entry_by how l)) now roomy
   pub closes : (service : Service) (texts : Texts) (log : Log) (t now : Tabled) (roomy room : ClientNo → Bool) (l : LinkId)
       → IsRouter service texts log t roomy → MayFollow log (entry.Closed l) → ((c : ClientNo) → room c ≡ false → roomy c ≡ false)
@@ -148,7 +150,7 @@ module _ {texts : Texts} (laws : Laws) (service : Service) (log marks : Log) (t 
         loses = given_nobody x;
         called = none_called (name_in says.server.row.link.state.carries) refl;
         goes = same_itself x;
-      }) tt tt)
+      }) tt tt tt)
       (closes_lost l room t x may (same_itself x))
 
   part_of : (to : LinkId) (tag : Tag) (bytes : List ℕ) → to ≡ l → IsPartOf lent tag bytes → Goes (entry.Wrote to tag bytes)

@@ -35,6 +35,8 @@ use Rattle.router_laws.specs.decisions.Routers.{IsBefore, IsRouter}
 use Rattle.router_laws.specs.decisions.Rulings.{IsRuledOn}
 use Rattle.router_laws.proofs.OfDecisions.Causing.{loss_why}
 use Rattle.router_laws.proofs.OfDecisions.JudgedOn.{FollowsJudge}
+use Rattle.router_laws.proofs.OfDecisions.KeptOn.{follow_held}
+use Rattle.router_laws.specs.decisions.Held.{AreHeldFor, AreHeldSince, keys_since}
 use Rattle.router_laws.specs.decisions.Causes.{IsLostFor}
 use Rattle.router_laws.proofs.OfReading.Judged.{one_judged}
 use Rattle.router_laws.specs.reading.Hearing.{TellsSo}
@@ -59,11 +61,12 @@ module _ {texts : Texts} (laws : Laws) (judges : FollowsJudge) (carried : Carrie
   book = book_of service
 
   abbrev ruling : Ruling
-  ruling = ruling_of service (key_at texts)
+  ruling = ruling_of service texts.since (key_at texts)
 
   module _ (it : Going) (so : LosesSo service.setup service.default_schema l given (Some it) t now)
       (ours : AreGoingOurs (rules_in service) texts (Some it)) (tells : TellsSo (Some it) service.setup)
-      (ruled : IsRuledOn ruling (Some it) service.setup service.default_schema so.lost now so.goes) (setup : Setup) (codes : Codes) (plan : Plan)
+      (ruled : IsRuledOn ruling (Some it) service.setup service.default_schema so.lost now so.goes)
+      (since : AreHeldSince texts service.default_schema router.core.decided log) (setup : Setup) (codes : Codes) (plan : Plan)
       (of : IsOf (decided_with (deeds_of given (Some it)) router.counts log e router.core.decided) (length (with_entry log e)) plan)
       (fits : Fits (decided_with (deeds_of given (Some it)) router.counts log e router.core.decided).keys setup codes plan service.default_schema (tale_of setup plan (with_entry log e))) where
     abbrev g : Ground
@@ -94,7 +97,15 @@ module _ {texts : Texts} (laws : Laws) (judges : FollowsJudge) (carried : Carrie
         it.choices it.halt it.parting it.client number
         (somebody.following laws.losses service.setup service.default_schema g log t now roomy l how given it before.rests is so)
         (losses.lost_stands laws.losses service.setup service.default_schema g log t now roomy l how given (Some it) before.rests is so)
-        fits.single so.goes.turns ruled (known_keys texts router.core.decided.keys router.known setup fits.keyed)
+        fits.single so.goes.turns ruled
+        (follow_held (keys_since texts.since (key_at texts)) service.setup service.default_schema setup codes plan router.core.decided log t so.lost g.fresh e x
+        (losses.later laws.losses service.setup service.default_schema g log t now roomy l how given (Some it) before.rests is so)
+        it.choices it.halt it.parting
+        (somebody.following laws.losses service.setup service.default_schema g log t now roomy l how given it before.rests is so)
+        (losses.lost_stands laws.losses service.setup service.default_schema g log t now roomy l how given (Some it) before.rests is so)
+        before.rests.stands (somebody.seated laws.losses service.setup service.default_schema g log t now roomy l how given it before.rests is so)
+        (since setup codes plan before.of before.fits))
+        (known_keys texts router.core.decided.keys router.known setup fits.keyed)
 
     plain : IsPlain g.tale e
     plain = lost_plain g.tale how l
@@ -120,15 +131,15 @@ module _ {texts : Texts} (laws : Laws) (judges : FollowsJudge) (carried : Carrie
   pub loses_judge : (going : Option Going) (so : LosesSo service.setup service.default_schema l given going t now)
       → AreGoingOurs (rules_in service) texts going → TellsSo going service.setup
       → IsRuledOn ruling going service.setup service.default_schema so.lost now so.goes → IsLostFor l t given
-      → JudgesThen service log e router.core.decided router.counts (deeds_of given going)
-  loses_judge None so ours tells ruled why = λ setup codes plan of fits. record {
+      → AreHeldFor going texts service.default_schema router.core.decided log → JudgesThen service log e router.core.decided router.counts (deeds_of given going)
+  loses_judge None so ours tells ruled why since = λ setup codes plan of fits. record {
     takes = λ y seated. tt;
     gives = onward.sent laws service log t now roomy l how given None router follow so ours tells setup codes plan of fits;
     why = loss_why carried service.wait_ms setup codes plan router.core.decided log t l so.server so.there
         ((onward.before laws service log t now roomy l how given None router follow so ours tells setup codes plan of fits).rests.stands.servers l) how given why;
   }
-  loses_judge (Some it) so ours tells ruled why = λ setup codes plan of fits. record {
-    takes = λ y seated. one_judges it so ours tells ruled setup codes plan of fits y seated;
+  loses_judge (Some it) so ours tells ruled why since = λ setup codes plan of fits. record {
+    takes = λ y seated. one_judges it so ours tells ruled since setup codes plan of fits y seated;
     gives = onward.sent laws service log t now roomy l how given (Some it) router follow so ours tells setup codes plan of fits;
     why = loss_why carried service.wait_ms setup codes plan router.core.decided log t l so.server so.there
         ((onward.before laws service log t now roomy l how given (Some it) router follow so ours tells setup codes plan of fits).rests.stands.servers l) how given why;

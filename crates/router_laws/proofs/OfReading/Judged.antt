@@ -40,6 +40,8 @@ use Rattle.router_laws.specs.decisions.Routers.{IsBefore, IsRouter}
 use Rattle.router_laws.specs.decisions.Rulings.{IsRuledOn}
 use Rattle.router_laws.proofs.OfDecisions.Causing.{heard_why}
 use Rattle.router_laws.proofs.OfDecisions.JudgedOn.{FollowsJudge, judged_on}
+use Rattle.router_laws.proofs.OfDecisions.KeptOn.{follow_held}
+use Rattle.router_laws.specs.decisions.Held.{AreHeldSince, keys_since}
 use Rattle.router_laws.specs.decisions.Causes.{IsHeardFor}
 use Rattle.router_laws.proofs.OfReading.Hearing as hearing
 use Rattle.router_laws.proofs.OfReading.Onward as onward
@@ -84,7 +86,7 @@ module _ (book : Rulebook) (setup : Setup) (plan : Plan) (tale : Tale) (e : Entr
 
 module _ {texts : Texts} (laws : Laws) (judges : FollowsJudge) (carried : CarriedLaw) (service : Service) (log : Log) (t now : Tabled) (roomy : ClientNo → Bool) (l : LinkId) (bytes : List ℕ)
     (clock : ℕ) (given : Option GivenUp) (router : IsRouter service texts log t roomy) (follow : MayFollow log (entry.Got l bytes))
-    (bytes_are : AreBytes bytes) where
+    (bytes_are : AreBytes bytes) (since : AreHeldSince texts service.default_schema router.core.decided log) where
   abbrev e : Entry
   e = entry.Got l bytes
 
@@ -92,7 +94,7 @@ module _ {texts : Texts} (laws : Laws) (judges : FollowsJudge) (carried : Carrie
   book = book_of service
 
   abbrev ruling : Ruling
-  ruling = ruling_of service (key_at texts)
+  ruling = ruling_of service texts.since (key_at texts)
 
   module _ (it : Going) (so : HearsSo service.setup service.default_schema l bytes clock given (Some it) t now)
       (ours : AreGoingOurs (rules_in service) texts (Some it))
@@ -127,7 +129,15 @@ module _ {texts : Texts} (laws : Laws) (judges : FollowsJudge) (carried : Carrie
         it.choices it.halt it.parting it.client number
         (somebody.following laws.reads service.setup service.default_schema g log t now roomy l bytes clock given it before.rests is so)
         (hearing.freed_stands laws.reads service.setup service.default_schema g log t now roomy l bytes clock given (Some it) before.rests is so)
-        fits.single so.goes.turns ruled (known_keys texts router.core.decided.keys router.known setup fits.keyed)
+        fits.single so.goes.turns ruled
+        (follow_held (keys_since texts.since (key_at texts)) service.setup service.default_schema setup codes plan router.core.decided log t so.freed g.fresh e x
+        (hearing.freed laws.reads service.setup service.default_schema g log t now roomy l bytes clock given (Some it) before.rests is so)
+        it.choices it.halt it.parting
+        (somebody.following laws.reads service.setup service.default_schema g log t now roomy l bytes clock given it before.rests is so)
+        (hearing.freed_stands laws.reads service.setup service.default_schema g log t now roomy l bytes clock given (Some it) before.rests is so)
+        before.rests.stands (somebody.seated laws.reads service.setup service.default_schema g log t now roomy l bytes clock given it before.rests is so)
+        (since setup codes plan before.of before.fits))
+        (known_keys texts router.core.decided.keys router.known setup fits.keyed)
 
     by_was : (y : tales.Client) → WasThere plan g.tale e y ⊎ HasCome g.tale e y
         → JudgedFrom book setup plan y takings (router.counts.taken y.number) ((deeds_of given (Some it)).calls y.number)

@@ -54,6 +54,8 @@ use Rattle.router_laws.specs.clients.Behind.{IsDueBehind, IsOffServers}
 use Rattle.router_laws.specs.clients.Continues.{HasCome, IsContinued, WasThere, is_read_on}
 use Rattle.router_laws.specs.clients.Plans.{over_by}
 use Rattle.router_laws.proofs.OfDecisions.JudgedOn.{TurnsJudge, judged_on}
+use Rattle.router_laws.proofs.OfDecisions.KeptOn.{held_before}
+use Rattle.router_laws.specs.decisions.Held.{AreHeldSince, keys_since}
 use Rattle.router_laws.proofs.OfDecisions.Gathering.{all_kept, all_silent, over_then}
 use Rattle.router_laws.proofs.OfDecisions.Keeping.{recorded_then}
 use Rattle.router_laws.proofs.OfDecisions.Listing.{open_with}
@@ -166,7 +168,8 @@ module _ {texts : Texts} (service : Service) (knows : Knows service.setup) (log 
     (so_calls : CallsSo service.setup service.default_schema callers links mid now) (given_ours : All IsGivenOurs given)
     (ours : All (IsCallerOurs (rules_in service) texts) callers) (waits : WaitsThen service log e router.core.decided) (judges : TurnsJudge)
     (caused : (setup : Setup) (plan : Plan) (c : ClientNo) (payload : List ℕ) → payload_in given c ≡ Some payload → IsCause service.wait_ms setup plan log e c payload)
-    (ruled : AreRuledAll (ruling_of service (key_at texts)) callers service.setup service.default_schema mid so_calls.turned so_calls.going)
+    (ruled : AreRuledAll (ruling_of service texts.since (key_at texts)) callers service.setup service.default_schema mid so_calls.turned so_calls.going)
+    (since : AreHeldSince texts service.default_schema router.core.decided log)
     (tells : All (λ (k : Caller). TellsFor k.parting service.setup k.client) callers)
     (called_so : (g : Ground) → Rests service.setup g t roomy → PlansSo g log e (calls_deeds given callers) → AreCalled g e (is_called callers) roomy room) where
   abbrev made : Deeds
@@ -450,8 +453,10 @@ module _ {texts : Texts} (service : Service) (knows : Knows service.setup) (log 
     judged_by : (y : tales.Client) → WasThere plan g.tale e y → (b : Bool) → called y.number ≡ b → IsJudgedBy y (found_in callers y.number)
     judged_by y was true its =
         let at =
-        judged_of knows.laws knows.frees judges (ruling_of service (key_at texts)) service.setup service.default_schema g t mid now roomy room over e callers links stood.rests calling
-        stands_mid rested so_calls ruled (known_keys texts d.keys router.known setup fits.keyed) y.number its in
+        judged_of knows.laws knows.frees judges (ruling_of service texts.since (key_at texts)) service.setup service.default_schema g t mid now roomy room over e callers links stood.rests calling
+        stands_mid rested so_calls ruled (known_keys texts d.keys router.known setup fits.keyed)
+        (λ x seated going. (held_before (keys_since texts.since (key_at texts)) d setup plan g.tale x (since setup codes plan stood.of stood.fits) seated going).known)
+        y.number its in
         let same : at.x ≡ was.was =
         one_seated at.x was.was (seats g.tale was.was.number) (sym at.seated ∙ ap (seats g.tale) (at.number ∙ was.continued.number)) was.seated in
         subst (IsJudgedBy y) (sym at.found)

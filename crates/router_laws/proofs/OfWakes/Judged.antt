@@ -12,7 +12,7 @@ use Rattle.log_story.specs.Owed.{messages}
 use Rattle.log_story.specs.Plan.{Route}
 use Rattle.log_story.specs.Servers.{links_are_freed}
 use Rattle.log_story.specs.Tale as tales
-use Rattle.log_story.specs.Tale.{Tale, counted}
+use Rattle.log_story.specs.Tale.{Tale, counted, view_of}
 use Rattle.row_laws.specs.Readied.{AreClasses}
 use Rattle.step_laws.proofs.Giving.{none_in}
 use Rattle.step_laws.proofs.Leaving.{leave_spares}
@@ -34,6 +34,8 @@ use Rattle.router_promises.specs.Takings.{Taking, takings_at, takings_of}
 use Rattle.router_laws.specs.decisions.Judges.{HasKeys, JudgedFrom}
 use Rattle.router_laws.specs.decisions.Rulings.{AreRuledAll}
 use Rattle.router_laws.proofs.OfDecisions.JudgedOn.{TurnsJudge}
+use Rattle.router_laws.proofs.OfDecisions.KeptOn.{AreKnownHeld, held_alike}
+use Rattle.router_laws.specs.decisions.Held.{keys_since}
 use Rattle.router_laws.proofs.OfWakes.Called as called
 use Rattle.router_laws.proofs.OfWakes.Called.{Frees, IsCalling}
 use Rattle.router_laws.proofs.OfWakes.Callers as callers
@@ -47,7 +49,9 @@ module _ (laws : Laws) (judges : TurnsJudge) (ruling : Ruling) (service : Servic
     (classes : AreClasses g.setup.reads) (single : (whose : ClientNo → Bool) → AreSingle g.plan whose) (heard : Tale) (whose : ClientNo → Bool)
     (keyed : HasKeys ruling.keys g.setup) (takings : List Taking)
     (covers : (x : tales.Client) → IsSeated heard x → whose x.number ≡ true → g.over x.number ≡ false
-    → Covers g.setup x.number (takings_of (length (messages g.plan x)) g.setup g.plan x heard) takings) where
+    → Covers g.setup x.number (takings_of (length (messages g.plan x)) g.setup g.plan x heard) takings)
+    (held : (x : tales.Client) → IsSeated heard x → g.over x.number ≡ false
+    → AreKnownHeld (keys_since ruling.since ruling.keys) (view_of g.setup heard) g.plan x) where
   abbrev At : List ClientNo → (early late : Tale) → (ClientNo → Bool) → Tabled → Type 0
   At cs early late over t = IsAt laws service default g looked classes single cs early late over t
 
@@ -108,7 +112,10 @@ module _ (laws : Laws) (judges : TurnsJudge) (ruling : Ruling) (service : Servic
         (going.turning laws service default h looked early t goes.turned now x caller may at.stands
         (subst (λ (c : ClientNo). Turns caller.choices caller.halt service default c t goes.turned) (sym is.number) goes.turns)
         (subst (λ (c : ClientNo). PartsSo caller.parting c goes.turned now) (sym is.number) goes.parts))
-        may.chosen goes.turns ruled keyed takings (subst (λ (c : ClientNo). Covers g.setup c (its_takings early) takings) is.number covered)
+        may.chosen goes.turns ruled
+        (held_alike (view_of g.setup heard) (view_of g.setup early) (sym seen_early.replies) g.plan x (keys_since ruling.since ruling.keys)
+        (held x there.seated is.going))
+        keyed takings (subst (λ (c : ClientNo). Covers g.setup c (its_takings early) takings) is.number covered)
 
   abbrev pub AreJudgedAll : List Caller → List tales.Client → Type 0
   AreJudgedAll [] xs = Unit {0}
@@ -190,7 +197,9 @@ module _ (laws : Laws) (frees : Frees) (judges : TurnsJudge) (ruling : Ruling) (
     (roomy room over : ClientNo → Bool) (e : Entry) (ks : List Caller) (links : List LinkId) (rests : Rests service g t roomy)
     (is : IsCalling service default g e ks over roomy room) (stands : Stands service (on g (counted g.tale)) mid)
     (rested : NoneDone g.setup g.plan (counted g.tale)) (so : CallsSo service default ks links mid now)
-    (ruled : AreRuledAll ruling ks service default mid so.turned so.going) (keyed : HasKeys ruling.keys g.setup) where
+    (ruled : AreRuledAll ruling ks service default mid so.turned so.going) (keyed : HasKeys ruling.keys g.setup)
+    (held : (x : tales.Client) → IsSeated g.tale x → g.over x.number ≡ false
+    → AreKnownHeld (keys_since ruling.since ruling.keys) (view_on g) g.plan x) where
   abbrev heard : Tale
   heard = counted g.tale
 
@@ -214,7 +223,7 @@ module _ (laws : Laws) (frees : Frees) (judges : TurnsJudge) (ruling : Ruling) (
       → is_called_by g.plan (suc g.tale.moment) (view_on g) e y ≡ true) heard x seated is.calls going its)
 
   abbrev IsHeardThere : tales.Client → Type 0
-  IsHeardThere = IsHeard laws judges ruling service default g rests.looked is.classes is.single heard (is_called ks) keyed takings covers heard
+  IsHeardThere = IsHeard laws judges ruling service default g rests.looked is.classes is.single heard (is_called ks) keyed takings covers held heard
 
   heard_there : All IsHeardThere xs
   heard_there =
@@ -225,9 +234,9 @@ module _ (laws : Laws) (frees : Frees) (judges : TurnsJudge) (ruling : Ruling) (
         filter_passes (λ (y : tales.Client). is_called ks y.number) heard.clients k d within,
       ))
 
-  judged : AreJudgedAll laws judges ruling service default g rests.looked is.classes is.single heard (is_called ks) keyed takings covers ks xs
+  judged : AreJudgedAll laws judges ruling service default g rests.looked is.classes is.single heard (is_called ks) keyed takings covers held ks xs
   judged =
-      all_judged laws judges ruling service default g rests.looked is.classes is.single heard (is_called ks) keyed takings covers ks xs
+      all_judged laws judges ruling service default g rests.looked is.classes is.single heard (is_called ks) keyed takings covers held ks xs
       (called.are laws frees service default g t mid now roomy room over e ks links rests is stands rested so) [] heard heard g.over mid so.turned
       (called.kept_apart (is_called ks) 1 heard.clients
       (called.numbered laws frees service default g t mid now roomy room over e ks links rests is stands rested so))
@@ -235,8 +244,8 @@ module _ (laws : Laws) (frees : Frees) (judges : TurnsJudge) (ruling : Ruling) (
       (called.first laws frees service default g t mid now roomy room over e ks links rests is stands rested so) so.going ruled
 
   pub judged_of : (c : ClientNo) → is_called ks c ≡ true
-      → IsJudgedIn laws judges ruling service default g rests.looked is.classes is.single heard (is_called ks) keyed takings covers ks heard c
+      → IsJudgedIn laws judges ruling service default g rests.looked is.classes is.single heard (is_called ks) keyed takings covers held ks heard c
   judged_of c there =
-      judged_in laws judges ruling service default g rests.looked is.classes is.single heard (is_called ks) keyed takings covers heard c ks xs
+      judged_in laws judges ruling service default g rests.looked is.classes is.single heard (is_called ks) keyed takings covers held heard c ks xs
       (called.are laws frees service default g t mid now roomy room over e ks links rests is stands rested so)
       (called.seated_xs laws frees service default g t mid now roomy room over e ks links rests is stands rested so) judged there

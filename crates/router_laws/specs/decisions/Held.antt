@@ -1,5 +1,5 @@
 -- That the texts are kept which clients may still name.
-use Rattle.std.specs.Prelude.{◌≡◌, ◌<◌, ℕ, suc, false, true, All, is_some, length, List, Option, Some}
+use Rattle.std.specs.Prelude.{◌≡◌, ◌<◌, ℕ, suc, false, true, All, if◌then◌else◌, is_some, length, nat_le, List, Option, None, Some}
 use Rattle.mx_wire.specs.Log.{Log}
 use Rattle.private_model.specs.Names.{ClientNo}
 use Rattle.private_model.specs.Story.{Key}
@@ -20,6 +20,7 @@ use Rattle.stmt_map.specs.Client.{statement_at}
 use Rattle.stmt_map.specs.declared.statement.Statement.{Statement}
 use Rattle.core_tables.specs.Tables.{Tabled}
 use Rattle.core_tables.specs.declared.client.Client.{Client as Row}
+use Rattle.core_laws.specs.clients.Going.{Going}
 use Rattle.core_laws.specs.entry.Tells.{Fits, IsOf}
 
 -- The text of each statement that a client knows is kept, and so is that of what is being prepared for it.
@@ -35,10 +36,23 @@ AreHeld keys d setup plan tale =
     All (λ (client : Client). is_some (d.ends client.number) ≡ false → IsHeld keys setup plan tale client) tale.clients
 
 -- by each plan that has what was decided
-abbrev pub AreHeldBy : Texts → (default : List ℕ) → Decided → Log → Type 0
-AreHeldBy texts default d log =
+abbrev pub AreHeldBy : (keys : (number : ℕ) → Option Key) → (default : List ℕ) → Decided → Log → Type 0
+AreHeldBy keys default d log =
     (setup : Setup) (codes : Codes) (plan : Plan) → IsOf d (length log) plan → Fits d.keys setup codes plan default (tale_of setup plan log)
-    → AreHeld (key_at texts) d setup plan (tale_of setup plan log)
+    → AreHeld keys d setup plan (tale_of setup plan log)
+
+-- those of numbers that were given before an entry
+abbrev pub keys_since : (since : ℕ) → (keys : (number : ℕ) → Option Key) → (number : ℕ) → Option Key
+keys_since since keys number = if nat_le number since then keys number else None
+
+-- they were kept as the entry began
+abbrev pub AreHeldSince : Texts → (default : List ℕ) → Decided → Log → Type 0
+AreHeldSince texts default d log = AreHeldBy (keys_since texts.since (key_at texts)) default d log
+
+-- where a client goes on
+abbrev pub AreHeldFor : Option Going → Texts → (default : List ℕ) → Decided → Log → Type 0
+AreHeldFor None texts default d log = Unit {0}
+AreHeldFor (Some going) texts default d log = AreHeldSince texts default d log
 
 -- What is forgotten is no row's text: of what its client prepared, and of its statement in work.
 pub record KeepsTexts (old new : Texts) (t : Tabled) : Type 0 where

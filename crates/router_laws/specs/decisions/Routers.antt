@@ -29,7 +29,7 @@ use Rattle.core_promises.specs.Causes.{CausedBy}
 use Rattle.core_promises.specs.Judges.{JudgesBy}
 use Rattle.core_promises.specs.Ruled.{book_of}
 use Rattle.router_laws.specs.decisions.Force.{AreInForce}
-use Rattle.router_laws.specs.decisions.Held.{AreHeldBy}
+use Rattle.router_laws.specs.decisions.Held.{AreHeldBy, AreHeldSince}
 use Rattle.router_laws.specs.decisions.Speaks.{DecidesOwn}
 use Rattle.router_laws.specs.decisions.Plans.{AreUngiven, PlansSo}
 use Rattle.router_laws.specs.decisions.Records.{AreCountsBy, AreCountsOf, IsRecorded}
@@ -56,8 +56,13 @@ pub record IsRouter (service : Service) (texts : Texts) (log : Log) (t : Tabled)
   pub spoken : DecidesOwn rules core.decided
   pub waited : AreDoneBy service.default_schema core.decided log
   pub judged : JudgesBy (book_of service) rules service.default_schema core.decided log
-  pub held : AreHeldBy texts service.default_schema core.decided log
+  pub held : AreHeldBy (key_at texts) service.default_schema core.decided log
   pub caused : CausedBy service.wait_ms service.default_schema core.decided log
+
+-- as an entry goes on, by which texts came: those that clients may still name were kept before
+pub record IsLearned (service : Service) (texts : Texts) (log : Log) (t : Tabled) (roomy : ClientNo → Bool) : Type 0 where
+  pub router : IsRouter service texts log t roomy
+  pub since : AreHeldSince texts service.default_schema router.core.decided log
 
 -- where the entry is a wait, all is done
 abbrev pub WaitsThen : Service → Log → Entry → Decided → Type 0

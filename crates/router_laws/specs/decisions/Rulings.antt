@@ -1,10 +1,15 @@
 -- That the turns are ruled of all who go on at an entry: what becomes of what came up is what the verdict says.
-use Rattle.std.specs.Prelude.{ℕ, List, [], ◌∷◌, Option, Some, None}
+use Rattle.std.specs.Prelude.{◌≡◌, ℕ, List, [], ◌∷◌, Option, Some, None}
 use Rattle.client_session.specs.Setups.{Setup as Service}
 use Rattle.core_tables.specs.Tables.{Tabled}
+use Rattle.core_tables.specs.declared.client.Client.{Client}
 use Rattle.core_laws.specs.clients.Going.{GoesSo, Going}
-use Rattle.core_promises.specs.Ruled.{AreRuled, Ruling}
+use Rattle.core_promises.specs.Ruled.{AreKept, AreRuled, Ruling}
 use Rattle.router_laws.specs.wakes.Calling.{AllGoOn, Caller}
+
+-- the texts of what a client has prepared are kept, if it is there
+abbrev pub AreKeptIn : Ruling → Option Client → Type 0
+AreKeptIn ruling found = (row : Client) → found ≡ Some row → AreKept ruling row.desk.seat.statements
 
 -- of the one client, if any, that goes on
 abbrev pub IsRuledOn : Ruling → (going : Option Going) → (service : Service) → (default : List ℕ) → (old new : Tabled)

@@ -15,6 +15,7 @@ ghost use Rattle.core_laws.specs.clients.Follows.{Parting};
 ghost use Rattle.core_laws.specs.clients.Turns.{Choice, Halt};
 ghost use Rattle.router_laws.specs.clients.Leaves.{IsLossOf, LeavesAgain, LeavesAtOnce, LeavesGoing};
 ghost use Rattle.core_promises.specs.Ruled.{AreRuled, ruling_of};
+ghost use Rattle.router_laws.specs.decisions.Held.{AreHeldSince};
 ghost use Rattle.router_laws.specs.decisions.Speaks.{IsOurs, IsPartingOurs};
 ghost use Rattle.router_laws.specs.decisions.Routers.{IsRouter};
 ghost use Rattle.router_laws.specs.entering.Rooms.{OthersLack};
@@ -41,10 +42,11 @@ pub fn leaves_at_once_router()
 pub fn leaves_going_router()
     ensures { (service : Service) (texts : Texts) (log : Log) (e : Entry) (t now : Tabled) (roomy room : ClientNo → Bool) (link : LinkId)
         (c : ClientNo) (links : List LinkId) (ordinal : ℕ) (choices : List Choice) (halt : Halt) (parting : Parting)
-        → IsRouter service texts log t roomy → MayFollow log e → IsLossOf link e
+        → (router : IsRouter service texts log t roomy) → MayFollow log e → IsLossOf link e
         → (so : LeavesGoing service.setup service.default_schema link links ordinal choices halt parting c t now)
         → All (IsOurs (rules_in service) texts c) choices → IsPartingOurs parting → OthersLack c roomy room
-        → AreRuled (ruling_of service (key_at texts)) choices halt service.setup service.default_schema c so.between so.follows.turned so.follows.turns
+        → AreRuled (ruling_of service texts.since (key_at texts)) choices halt service.setup service.default_schema c so.between so.follows.turned so.follows.turns
+        → AreHeldSince texts service.default_schema router.core.decided log
         → IsRouter service texts (with_entry log e) now room }
 {
     crate::clients::leaves_going();

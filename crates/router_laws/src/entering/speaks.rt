@@ -15,6 +15,7 @@ ghost use Rattle.core_laws.specs.clients.Follows.{Parting};
 ghost use Rattle.core_laws.specs.clients.Turns.{Choice, Halt};
 ghost use Rattle.router_laws.specs.clients.Speaks.{SpeaksSo};
 ghost use Rattle.core_promises.specs.Ruled.{AreRuled, ruling_of};
+ghost use Rattle.router_laws.specs.decisions.Held.{AreHeldSince};
 ghost use Rattle.router_laws.specs.decisions.Speaks.{IsOurs, IsPartingOurs};
 ghost use Rattle.router_laws.specs.decisions.Routers.{IsRouter};
 ghost use Rattle.router_laws.specs.entering.Rooms.{OthersLack};
@@ -23,11 +24,12 @@ ghost use Rattle.router_laws.specs.entering.Rooms.{OthersLack};
 pub fn speaks_router()
     ensures { (service : Service) (texts : Texts) (log : Log) (t now : Tabled) (roomy room : ClientNo → Bool) (link : LinkId) (bytes : List ℕ)
         (c : ClientNo) (ordinal : ℕ) (choices : List Choice) (halt : Halt) (parting : Parting) (links : List LinkId)
-        → IsRouter service texts log t roomy → MayFollow log (Got link bytes)
+        → (router : IsRouter service texts log t roomy) → MayFollow log (Got link bytes)
         → (so : SpeaksSo service.setup service.default_schema link bytes c ordinal choices halt parting links t now)
         → All (IsOurs (rules_in service) texts c) choices → IsPartingOurs parting
         → OthersLack c roomy room
-        → AreRuled (ruling_of service (key_at texts)) choices halt service.setup service.default_schema c so.heard so.follows.turned so.follows.turns
+        → AreRuled (ruling_of service texts.since (key_at texts)) choices halt service.setup service.default_schema c so.heard so.follows.turned so.follows.turns
+        → AreHeldSince texts service.default_schema router.core.decided log
         → IsRouter service texts (with_entry log (Got link bytes)) now room }
 {
     crate::clients::speaks_go();

@@ -22,6 +22,7 @@ ghost use Rattle.core_laws.specs.clients.Going.{Going};
 ghost use Rattle.core_promises.specs.Ruled.{ruling_of};
 ghost use Rattle.router_laws.specs.decisions.Speaks.{AreGivenOurs, AreGoingOurs};
 ghost use Rattle.router_laws.specs.decisions.Causes.{IsLostFor};
+ghost use Rattle.router_laws.specs.decisions.Held.{AreHeldFor};
 ghost use Rattle.router_laws.specs.decisions.Judges.{JudgesThen};
 ghost use Rattle.router_laws.specs.decisions.Goings.{deeds_of};
 ghost use Rattle.router_laws.specs.decisions.Rulings.{IsRuledOn};
@@ -40,7 +41,8 @@ pub fn loses_judge()
     ensures { (service : Service) (texts : Texts) (log : Log) (t now : Tabled) (roomy : ClientNo → Bool) (l : LinkId) (how : Break)
         (given : Option GivenUp) (going : Option Going) → (router : IsRouter service texts log t roomy) → MayFollow log (entry_by how l)
         → (so : LosesSo service.setup service.default_schema l given going t now) → AreGoingOurs (rules_in service) texts going
-        → IsRuledOn (ruling_of service (key_at texts)) going service.setup service.default_schema so.lost now so.goes → IsLostFor l t given
+        → IsRuledOn (ruling_of service texts.since (key_at texts)) going service.setup service.default_schema so.lost now so.goes → IsLostFor l t given
+        → AreHeldFor going texts service.default_schema router.core.decided log
         → JudgesThen service log (entry_by how l) router.core.decided router.counts (deeds_of given going) }
 {
     core_laws::parting::carried_homes();
@@ -61,9 +63,10 @@ pub fn loses_judge()
 /// A link to a server is lost, and whoever is called goes on.
 pub fn loses_router()
     ensures { (service : Service) (texts : Texts) (log : Log) (t now : Tabled) (roomy : ClientNo → Bool) (l : LinkId) (how : Break)
-        (given : Option GivenUp) (going : Option Going) → IsRouter service texts log t roomy → MayFollow log (entry_by how l)
+        (given : Option GivenUp) (going : Option Going) → (router : IsRouter service texts log t roomy) → MayFollow log (entry_by how l)
         → AreGivenOurs given → AreGoingOurs (rules_in service) texts going → (so : LosesSo service.setup service.default_schema l given going t now)
-        → IsRuledOn (ruling_of service (key_at texts)) going service.setup service.default_schema so.lost now so.goes → IsLostFor l t given
+        → IsRuledOn (ruling_of service texts.since (key_at texts)) going service.setup service.default_schema so.lost now so.goes → IsLostFor l t given
+        → AreHeldFor going texts service.default_schema router.core.decided log
         → IsRouter service texts (with_entry log (entry_by how l)) now roomy }
 {
     loses_judge();

@@ -21,6 +21,7 @@ ghost use Rattle.core_laws.specs.entry.Cores.{with_entry};
 ghost use Rattle.core_laws.specs.clients.Going.{GivenUp, GoesSo, Going, IsCalled, is_going, told_to};
 ghost use Rattle.core_laws.specs.clients.Keeps.{KeepsRows};
 ghost use Rattle.router_laws.specs.decisions.Causes.{IsHeardFor};
+ghost use Rattle.router_laws.specs.decisions.Held.{AreHeldSince};
 ghost use Rattle.router_laws.specs.decisions.Judges.{JudgesThen};
 ghost use Rattle.router_laws.specs.decisions.Goings.{deeds_of};
 ghost use Rattle.router_laws.specs.decisions.Rulings.{IsRuledOn};
@@ -65,7 +66,8 @@ pub fn hears_judge()
         (clock : ℕ) (given : Option GivenUp) (going : Option Going) → (router : IsRouter service texts log t roomy) → MayFollow log (Got l bytes)
         → AreBytes bytes → (so : HearsSo service.setup service.default_schema l bytes clock given going t now)
         → AreGoingOurs (rules_in service) texts going
-        → IsRuledOn (ruling_of service (key_at texts)) going service.setup service.default_schema so.freed now so.goes → IsHeardFor l t given
+        → IsRuledOn (ruling_of service texts.since (key_at texts)) going service.setup service.default_schema so.freed now so.goes → IsHeardFor l t given
+        → AreHeldSince texts service.default_schema router.core.decided log
         → JudgesThen service log (Got l bytes) router.core.decided router.counts (deeds_of given going) }
 {
     core_laws::hearing::bytes_are_heard();
@@ -88,10 +90,11 @@ pub fn hears_judge()
 /// So a router does.
 pub fn hears_router()
     ensures { (service : Service) (texts : Texts) (log : Log) (t now : Tabled) (roomy : ClientNo → Bool) (l : LinkId) (bytes : List ℕ)
-        (clock : ℕ) (given : Option GivenUp) (going : Option Going) → IsRouter service texts log t roomy → MayFollow log (Got l bytes)
+        (clock : ℕ) (given : Option GivenUp) (going : Option Going) → (router : IsRouter service texts log t roomy) → MayFollow log (Got l bytes)
         → AreBytes bytes → (so : HearsSo service.setup service.default_schema l bytes clock given going t now) → AreGivenOurs given
         → AreGoingOurs (rules_in service) texts going
-        → IsRuledOn (ruling_of service (key_at texts)) going service.setup service.default_schema so.freed now so.goes → IsHeardFor l t given
+        → IsRuledOn (ruling_of service texts.since (key_at texts)) going service.setup service.default_schema so.freed now so.goes → IsHeardFor l t given
+        → AreHeldSince texts service.default_schema router.core.decided log
         → IsRouter service texts (with_entry log (Got l bytes)) now roomy }
 {
     hears_judge();

@@ -11,7 +11,7 @@ use Rattle.message_judge.specs.Judging.{Judged, judged}
 use Rattle.message_judge.specs.declared.caller.Prepared.{Prepared}
 use Rattle.query_rules.specs.declared.rule.Rule.{Rule}
 use Rattle.core_service.specs.Serves.{rules_in}
-use Rattle.core_turns.proofs.Named.{named-known, next-fresh}
+use Rattle.core_turns.proofs.Named.{known-named, named-known, next-fresh}
 use Rattle.core_turns.proofs.judged.drafted.Goals as goal
 
 pub returns-clause-known : goal.returns-clause-known
@@ -28,6 +28,7 @@ returns-clause-known c = IfOk-weaker c.judge.result _ _
       next_is = c.next_number.ensures;
       flag = c.in_ok-caller.ensures.flag;
       named = λ one known. named-known texts c.args.desk.now.seat.statements c.args.payload.now c.args.named.now named one known;
+      known = λ number one at some known. known-named texts c.args.desk.now.seat.statements c.args.payload.now c.args.named.now named number one at known;
       number = λ n next. next-fresh c.args.desk.now.seat.statements n next;
       is = subst (λ (p : Option Prepared). draft_of c.in_ok-caller.caller p found.draft
           ≡ (judged router_reads (rules_in c.args.service.now) c.in_ok-caller.caller (record { transaction = c.transaction.result; next_number = c.next_number.result }) p c.args.payload.now).draft)

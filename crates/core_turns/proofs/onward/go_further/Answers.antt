@@ -9,13 +9,13 @@ use Rattle.core_turns.proofs.onward.go_further.Goals as goal
 
 pub returns-in-Answered-clause-is : goal.returns-in-Answered-clause-is
 returns-in-Answered-clause-is c =
-    answered-choice (ruling_of c.args.service.now (key_at c.take_there.new.texts)) c.args.service.now.setup c.args.service.now.default_schema c.args.client (tables_of c.args.marked.now.tables) (tables_of c.take_there.new.marked.tables)
-    (subst (λ (t : Turn). IsTurned t (ruling_of c.args.service.now (key_at c.take_there.new.texts)) c.args.service.now.setup c.args.service.now.default_schema c.args.client (tables_of c.args.marked.now.tables)
+    answered-choice (ruling_of c.args.service.now c.take_there.new.texts.since (key_at c.take_there.new.texts)) c.args.service.now.setup c.args.service.now.default_schema c.args.client (tables_of c.args.marked.now.tables) (tables_of c.take_there.new.marked.tables)
+    (subst (λ (t : Turn). IsTurned t (ruling_of c.args.service.now c.take_there.new.texts.since (key_at c.take_there.new.texts)) c.args.service.now.setup c.args.service.now.default_schema c.args.client (tables_of c.args.marked.now.tables)
     (tables_of c.take_there.new.marked.tables)) c.in-Answered.is c.in_ok-stop.ensures.is)
 
 pub returns-in-Due-clause-is : goal.returns-in-Due-clause-is
 returns-in-Due-clause-is c =
-    due-choice (ruling_of c.args.service.now (key_at c.take_there.new.texts)) c.args.service.now.setup c.args.service.now.default_schema c.args.client (tables_of c.args.marked.now.tables)
+    due-choice (ruling_of c.args.service.now c.take_there.new.texts.since (key_at c.take_there.new.texts)) c.args.service.now.setup c.args.service.now.default_schema c.args.client (tables_of c.args.marked.now.tables)
     (tables_of c.take_there.new.marked.tables) c.in-Due.hostgroup
-    (subst (λ (t : Turn). IsTurned t (ruling_of c.args.service.now (key_at c.take_there.new.texts)) c.args.service.now.setup c.args.service.now.default_schema c.args.client (tables_of c.args.marked.now.tables)
+    (subst (λ (t : Turn). IsTurned t (ruling_of c.args.service.now c.take_there.new.texts.since (key_at c.take_there.new.texts)) c.args.service.now.setup c.args.service.now.default_schema c.args.client (tables_of c.args.marked.now.tables)
     (tables_of c.take_there.new.marked.tables)) c.in-Due.is c.in_ok-stop.ensures.is)

@@ -10,7 +10,6 @@ use Rattle.core_texts.specs.Texts.{key_at}
 use Rattle.core_turns.specs.Judged.{IsAsPromised, IsOwnVerdict, IsVerdictOn}
 use Rattle.core_turns.specs.Preparing.{named_in}
 use Rattle.core_turns.specs.declared.judged.Verdict.{Verdict}
-use Rattle.core_turns.proofs.Keys.{keys_of}
 use Rattle.core_turns.proofs.Prepared.{due_prepared}
 use Rattle.core_turns.proofs.Ran.{due_run}
 use Rattle.core_turns.proofs.Named.{runs-classed}
@@ -19,7 +18,7 @@ use Rattle.core_turns.proofs.sending.serve.Goals as goal
 
 pub returns-in_ok-answer-in-Answers-clause-is : goal.returns-in_ok-answer-in-Answers-clause-is
 returns-in_ok-answer-in-Answers-clause-is c = λ row there message found.
-    c.in_ok-answer-in-Answers.ensures.is (ruling_of c.args.service.now (key_at c.args.texts.now))
+    c.in_ok-answer-in-Answers.ensures.is (ruling_of c.args.service.now c.args.texts.now.since (key_at c.args.texts.now))
     (subst (λ (v : Verdict). IsOwnVerdict (rules_in c.args.service.now) v) c.in-Answers.is (c.in_ok-flag.ensures.own row there message found))
     row there message found
     (subst (λ (port : Port). IsToldAt port (book_of c.args.service.now) (situation_at (key_at c.args.texts.now) row.desk) c.args.client message.payload
@@ -29,7 +28,7 @@ returns-in_ok-answer-in-Answers-clause-is c = λ row there message found.
 
 pub returns-in_ok-becomes_due-in-Sends-clause-is : goal.returns-in_ok-becomes_due-in-Sends-clause-is
 returns-in_ok-becomes_due-in-Sends-clause-is c = λ row there message found.
-    c.in_ok-becomes_due-in-Sends.ensures.is (ruling_of c.args.service.now (key_at c.args.texts.now)) row there message found
+    c.in_ok-becomes_due-in-Sends.ensures.is (ruling_of c.args.service.now c.args.texts.now.since (key_at c.args.texts.now)) row there message found
     (c.requires.port row there message found)
     (subst (λ (v : Verdict). IsAsPromised (book_of c.args.service.now) (situation_at (key_at c.args.texts.now) row.desk) (next_number row.desk.seat.statements) c.args.client message.payload v)
     c.in-Sends.is (c.in_ok-flag.ensures.promised row there message found))
@@ -44,7 +43,7 @@ becomes_prepared-requires-clause-class c =
 
 pub returns-in_ok-becomes_prepared-in-Prepares-clause-is : goal.returns-in_ok-becomes_prepared-in-Prepares-clause-is
 returns-in_ok-becomes_prepared-in-Prepares-clause-is c = λ row there message found.
-    due_prepared (book_of c.args.service.now) c.args.texts.now c.becomes_prepared.new.texts (keys_of c.args.texts.now c.becomes_prepared.new.texts c.in_ok-becomes_prepared-in-Prepares.ensures.more)
+    due_prepared (book_of c.args.service.now) c.args.texts.now c.becomes_prepared.new.texts c.in_ok-becomes_prepared-in-Prepares.ensures.more
     c.args.ordinal c.in_ok-flag.field-0.flag c.args.clock c.in-Prepares.hostgroup c.in-Prepares.text c.in-Prepares.multiplex c.in-Prepares.class c.args.client (tables_of c.args.marked.now.tables)
     (tables_of c.becomes_prepared.new.marked.tables)
     (λ r at m up. subst (λ (v : Verdict). IsVerdictOn (named_in c.args.texts.now r.desk.seat.statements m.payload) m.payload v) c.in-Prepares.is (c.in_ok-flag.ensures.is r at m up))
@@ -63,7 +62,7 @@ becomes_run-requires-clause-class c =
 
 pub returns-in_ok-becomes_run-in-Runs-clause-is : goal.returns-in_ok-becomes_run-in-Runs-clause-is
 returns-in_ok-becomes_run-in-Runs-clause-is c = λ row there message found.
-    due_run (book_of c.args.service.now) c.args.texts.now c.becomes_run.new.texts (keys_of c.args.texts.now c.becomes_run.new.texts c.in_ok-becomes_run-in-Runs.ensures.more)
+    due_run (book_of c.args.service.now) c.args.texts.now c.becomes_run.new.texts c.in_ok-becomes_run-in-Runs.ensures.more
     c.args.ordinal c.in_ok-flag.field-0.flag c.args.clock c.in-Runs.hostgroup c.in-Runs.multiplex c.in-Runs.named c.args.client (tables_of c.args.marked.now.tables)
     (tables_of c.becomes_run.new.marked.tables)
     (λ r at m up. subst (λ (v : Verdict). IsVerdictOn (named_in c.args.texts.now r.desk.seat.statements m.payload) m.payload v) c.in-Runs.is (c.in_ok-flag.ensures.is r at m up))

@@ -52,7 +52,7 @@ returns-in-Message-clause-is c =
     let up : IsUpIn (next.Message c.in-Message.ordinal) (between.clients c.args.client) =
     subst (λ (n : Next). IsUpIn n (between.clients c.args.client)) c.in-Message.is c.in_ok-look.ensures.up in
     IfOk-weaker c.take_up.result _ _
-    (λ turned taken. taken-next c.args.service.now.setup c.args.service.now.default_schema c.args.client old between at.0 at.1 same (ruling_of c.args.service.now (key_at c.take_up.new.texts)) c.in-Message.ordinal turned _
+    (λ turned taken. taken-next c.args.service.now.setup c.args.service.now.default_schema c.args.client old between at.0 at.1 same (ruling_of c.args.service.now c.take_up.new.texts.since (key_at c.take_up.new.texts)) c.in-Message.ordinal turned _
     able said up taken) c.take_up.ensures.is
 
 pub returns-in-Message-clause-goes : goal.returns-in-Message-clause-goes

@@ -6,6 +6,10 @@ use Rattle.log_story.specs.Tale as tales
 use Rattle.core_stands.specs.Grounds.{Ground}
 use Rattle.core_stands.specs.Stands.{IsKnown}
 use Rattle.core_laws.specs.entry.Tells.{ground}
+use Rattle.core_promises.specs.Ruled.{ruling_of}
+use Rattle.core_texts.specs.Texts.{key_at}
+use Rattle.router_laws.proofs.OfDecisions.Kept.{spoke_kept}
+use Rattle.router_laws.proofs.OfDecisions.KeptOn.{before_kept}
 use Rattle.router_laws.proofs.OfClients.Linking.{client_there, is_client_row, known}
 use Rattle.router_laws.proofs.OfClients.Saying.{arrived_there, goes_there}
 use Rattle.router_laws.specs.decisions.Goings.{end_of}
@@ -14,7 +18,7 @@ use Rattle.router_laws.proofs.OfEntering.Opening.{opens_kept, speaks_keep}
 use Rattle.router_laws.proofs.entering.speaks.speaks_router.Goals as goal
 
 pub returns : goal.returns
-returns law = λ service texts log t now roomy room link bytes c ordinal choices halt parting links router may so ours told_ours others ruled.
+returns law = λ service texts log t now roomy room link bytes c ordinal choices halt parting links router may so ours told_ours others ruled since.
     deciding.finds_router service log (Got link bytes) t now roomy room router may c choices halt (end_of parting) ours (end_ours parting told_ours) ordinal
     so.heard so.follows.turned so.follows.turns ruled (λ terms codes of fits. tt)
     (λ setup codes plan of fits.
@@ -34,6 +38,9 @@ returns law = λ service texts log t now roomy room link bytes c ordinal choices
           still ordinal parting (so.next ∙ ap suc arrived) refl so.follows.once law.told_stands.ensures) so others;
       next = so.next ∙ ap suc (arrived ∙ deciding.counted_so service log (Got link bytes) t now roomy room router may c choices halt (end_of parting) ours
           (end_ours parting told_ours) setup codes plan of fits client is.seated is.number still);
+      kept = spoke_kept (ruling_of service texts.since (key_at texts)) c bytes t so.heard so.hears
+          (before_kept (ruling_of service texts.since (key_at texts)) service.setup setup codes plan router.core.decided log t client c is.number
+          was.rests.stands is.seated going (since setup codes plan was.of was.fits));
     })
     (λ tale x come. come) (λ setup tale. tt)
     (opens_kept log (Got link bytes) t now (λ was. refl)

@@ -42,7 +42,7 @@ returns-in-AtOnce-clause-moves c =
 pub returns-in-GoingOn-clause-loses : goal.returns-in-GoingOn-clause-loses
 returns-in-GoingOn-clause-loses c =
     on_both c.leaves_going.result
-    (λ so keeps numbered. going_loses c.args.service.now c.args.link c.args.client c.args.self.now c.leaves_going.new.self keeps c.leaves_going_router.ensures
+    (λ so keeps numbered. going_loses c.args.service.now c.args.link c.args.client c.args.self.now c.leaves_going.new.self keeps c.leaves_going_router.ensures c.requires
     (so c.args.link numbered)) c.leaves_going.ensures.leaves c.leaves_going.ensures.keeps
 
 pub returns-in-GoingOn-clause-moves : goal.returns-in-GoingOn-clause-moves

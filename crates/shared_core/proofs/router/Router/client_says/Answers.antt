@@ -8,7 +8,7 @@ pub returns-in-Some-clause-carries : goal.returns-in-Some-clause-carries
 returns-in-Some-clause-carries c =
     on_both c.speaks.result
     (λ spoken keeps aside reads. speaks_carry c.args.service.now c.args.link c.args.bytes.now c.in-Some.client c.args.self.now c.speaks.new.self c.speaks_router.ensures
-    aside (sym c.in-Some.ensures) keeps spoken reads) c.speaks.ensures.spoken c.speaks.ensures.keeps
+    aside (sym c.in-Some.ensures) keeps c.requires spoken reads) c.speaks.ensures.spoken c.speaks.ensures.keeps
 
 pub returns-in-Some-clause-moves : goal.returns-in-Some-clause-moves
 returns-in-Some-clause-moves c =

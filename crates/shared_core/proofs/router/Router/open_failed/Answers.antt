@@ -7,7 +7,7 @@ pub returns-clause-carries : goal.returns-clause-carries
 returns-clause-carries c =
     on_both c.fails.result
     (λ failed keeps address. fails_carries c.fails_router.ensures c.args.service.now c.args.server c.args.self.now c.fails.new.self failed keeps.roomy
-    keeps.came keeps.texts address) c.fails.ensures.fails c.fails.ensures.keeps
+    keeps.came keeps.texts c.requires address) c.fails.ensures.fails c.fails.ensures.keeps
 
 pub returns-clause-moves : goal.returns-clause-moves
 returns-clause-moves c =

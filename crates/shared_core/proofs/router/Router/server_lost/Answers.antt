@@ -23,7 +23,7 @@ pub returns-in-None-clause-loses : goal.returns-in-None-clause-loses
 returns-in-None-clause-loses c =
     on_both c.loses_going.result
     (λ loses keeps there. lost_loses c.args.service.now c.args.link c.args.self.now c.loses_going.new.self c.loses_router.ensures
-    (chosen_by c.args.self.now c.loses_going.new.self c.loses.new.self keeps)
+    (chosen_by c.args.self.now c.loses_going.new.self c.loses.new.self keeps) c.requires
     (loses (may_lose c.args.link c.carried-name.result c.may_give_with-given.result _ (tables c.args.self.now) c.carried-name.ensures
     c.may_give_with-given.ensures c.in-None.is c.in_ok-ended.ensures there))) c.loses_going.ensures.loses c.loses_going.ensures.keeps
 

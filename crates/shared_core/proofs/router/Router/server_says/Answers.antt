@@ -8,7 +8,7 @@ pub returns-clause-carries : goal.returns-clause-carries
 returns-clause-carries c =
     on_both c.hears.result
     (λ hears keeps there reads. read_carries c.hears_router.ensures c.args.service.now c.args.link c.args.bytes.now c.args.self.now c.hears.new.self keeps
-    c.hears.ensures.bytes (hears there reads)) c.hears.ensures.hears c.hears.ensures.keeps
+    c.requires c.hears.ensures.bytes (hears there reads)) c.hears.ensures.hears c.hears.ensures.keeps
 
 pub returns-clause-moves : goal.returns-clause-moves
 returns-clause-moves c = on_ok_weaker c.hears.result (λ keeps. keeps_moves c.args.self.now c.hears.new.self keeps) c.hears.ensures.keeps

@@ -12,7 +12,7 @@ returns-clause-carries c =
     on_both c.wakes.result
     (λ woken keeps until_ms. wakes_carries c.wakes_router.ensures c.args.service.now c.args.now_ms c.args.self.now c.wakes.new.self
     (subst (λ (r : Roomy). HasWoken c.args.service.now c.wakes.new.self.texts c.args.now_ms c.args.self.now.came.administrator r (tables c.args.self.now) (tables c.wakes.new.self)) c.replace-roomy.ensures.value woken) keeps.came
-    keeps.texts until_ms) c.wakes.ensures.wakes c.wakes.ensures.keeps
+    keeps.texts c.requires until_ms) c.wakes.ensures.wakes c.wakes.ensures.keeps
 
 pub returns-clause-moves : goal.returns-clause-moves
 returns-clause-moves c =
