@@ -1,4 +1,4 @@
--- Settings are the same where each of the thirty-three has the same value.
+-- Settings are the same where each slot has the same value.
 use Rattle.std.specs.Prelude.{◌≡◌, ℕ, zero, suc, Bool, true, ◌&&◌, length, slice_index_or, List, [], ◌∷◌}
 use Rattle.std.specs.List.{list_all}
 use Rattle.std.proofs.Common.{refl, sym, ap, ◌∙◌, arith}
@@ -35,4 +35,4 @@ each_same (suc count) (x ∷ xs) (y ∷ ys) long short =
 
 pub all_same : (a b : List SlotValue) → AreSettings a → AreSettings b
     → list_all (λ (slot : Slot). same_value (value_at a slot) (value_at b slot)) all_slots ≡ are_settings a b
-all_same a b long short = each_same 33 a b long short
+all_same a b long short = each_same 67 a b long short

@@ -8,7 +8,7 @@ use Rattle.session_vars.specs.declared.change.SlotValue.{SlotValue}
 use Rattle.session_vars.specs.declared.change.SlotValue.TheVariants.{Default}
 use Rattle.session_vars.specs.Slots.{place_of}
 use Rattle.session_vars.specs.declared.slot.Slot.{Slot}
-use Rattle.session_vars.specs.declared.slot.Slot.TheVariants.{Names, CharacterSetResults, Autocommit, SqlMode, TimeZone, TransactionIsolation, TransactionReadOnly, SqlSafeUpdates, ForeignKeyChecks, UniqueChecks, SqlSelectLimit, GroupConcatMaxLen, LcTimeNames, LcMessages, WaitTimeout, NetReadTimeout, NetWriteTimeout, InnodbLockWaitTimeout, LockWaitTimeout, MaxExecutionTime, SqlAutoIsNull, CharacterSetServer, SqlBigSelects, SqlNotes, SqlQuoteShowCreate, DefaultStorageEngine, InteractiveTimeout, MaxStatementTime, SessionTrackSchema, SessionTrackStateChange, SessionTrackSystemVariables, SessionTrackTransactionInfo, SessionTrackGtids}
+use Rattle.session_vars.specs.declared.slot.Slot.TheVariants.{Names, CharacterSetResults, CollationConnection, Autocommit, SqlMode, TimeZone, TransactionIsolation, TransactionReadOnly, SqlSafeUpdates, ForeignKeyChecks, UniqueChecks, SqlSelectLimit, GroupConcatMaxLen, LcTimeNames, LcMessages, WaitTimeout, NetReadTimeout, NetWriteTimeout, InnodbLockWaitTimeout, LockWaitTimeout, MaxExecutionTime, SqlAutoIsNull, CharacterSetServer, SqlBigSelects, SqlNotes, SqlQuoteShowCreate, DefaultStorageEngine, InteractiveTimeout, MaxStatementTime, SessionTrackSchema, SessionTrackStateChange, SessionTrackSystemVariables, SessionTrackTransactionInfo, SessionTrackGtids, TmpTableSize, MaxHeapTableSize, SortBufferSize, JoinBufferSize, ReadBufferSize, ReadRndBufferSize, BulkInsertBufferSize, MaxSortLength, MaxErrorCount, BigTables, LowPriorityUpdates, SqlWarnings, AutoIncrementIncrement, AutoIncrementOffset, DivPrecisionIncrement, DefaultWeekFormat, DefaultTmpStorageEngine, InnodbStrictMode, InnodbTableLocks, EqRangeIndexDiveLimit, OptimizerSearchDepth, OptimizerPruneLevel, LongQueryTime, UpdatableViewsWithLimit, CteMaxRecursionDepth, InformationSchemaStatsExpiry, BlockEncryptionMode, GroupReplicationConsistency, WsrepSyncWait, IdleTransactionTimeout, IdleReadonlyTransactionTimeout, IdleWriteTransactionTimeout, CheckConstraintChecks}
 use Rattle.session_state.specs.Classes.{Effect, Tracked, effect_of, is_autocommit, settings_by, sets_autocommit}
 use Rattle.session_state.specs.Endings.{is_ok}
 use Rattle.pin_classifier.specs.Classes.{class_of}
@@ -60,9 +60,10 @@ settings_are s changes = let k = kept s changes in k.settings ∙ ap (λ ok. set
 
 -- Autocommit stays where it isn't set.
 
-elsewhere : (slot : Slot) → is_autocommit slot ≡ false → 2 ≢ place_of slot
+elsewhere : (slot : Slot) → is_autocommit slot ≡ false → 3 ≢ place_of slot
 elsewhere Names isnt = λ e. omega arith
 elsewhere CharacterSetResults isnt = λ e. omega arith
+elsewhere CollationConnection isnt = λ e. omega arith
 elsewhere Autocommit isnt = absurd (cc)
 elsewhere SqlMode isnt = λ e. omega arith
 elsewhere TimeZone isnt = λ e. omega arith
@@ -94,9 +95,42 @@ elsewhere SessionTrackStateChange isnt = λ e. omega arith
 elsewhere SessionTrackSystemVariables isnt = λ e. omega arith
 elsewhere SessionTrackTransactionInfo isnt = λ e. omega arith
 elsewhere SessionTrackGtids isnt = λ e. omega arith
+elsewhere TmpTableSize isnt = λ e. omega arith
+elsewhere MaxHeapTableSize isnt = λ e. omega arith
+elsewhere SortBufferSize isnt = λ e. omega arith
+elsewhere JoinBufferSize isnt = λ e. omega arith
+elsewhere ReadBufferSize isnt = λ e. omega arith
+elsewhere ReadRndBufferSize isnt = λ e. omega arith
+elsewhere BulkInsertBufferSize isnt = λ e. omega arith
+elsewhere MaxSortLength isnt = λ e. omega arith
+elsewhere MaxErrorCount isnt = λ e. omega arith
+elsewhere BigTables isnt = λ e. omega arith
+elsewhere LowPriorityUpdates isnt = λ e. omega arith
+elsewhere SqlWarnings isnt = λ e. omega arith
+elsewhere AutoIncrementIncrement isnt = λ e. omega arith
+elsewhere AutoIncrementOffset isnt = λ e. omega arith
+elsewhere DivPrecisionIncrement isnt = λ e. omega arith
+elsewhere DefaultWeekFormat isnt = λ e. omega arith
+elsewhere DefaultTmpStorageEngine isnt = λ e. omega arith
+elsewhere InnodbStrictMode isnt = λ e. omega arith
+elsewhere InnodbTableLocks isnt = λ e. omega arith
+elsewhere EqRangeIndexDiveLimit isnt = λ e. omega arith
+elsewhere OptimizerSearchDepth isnt = λ e. omega arith
+elsewhere OptimizerPruneLevel isnt = λ e. omega arith
+elsewhere LongQueryTime isnt = λ e. omega arith
+elsewhere UpdatableViewsWithLimit isnt = λ e. omega arith
+elsewhere CteMaxRecursionDepth isnt = λ e. omega arith
+elsewhere InformationSchemaStatsExpiry isnt = λ e. omega arith
+elsewhere BlockEncryptionMode isnt = λ e. omega arith
+elsewhere GroupReplicationConsistency isnt = λ e. omega arith
+elsewhere WsrepSyncWait isnt = λ e. omega arith
+elsewhere IdleTransactionTimeout isnt = λ e. omega arith
+elsewhere IdleReadonlyTransactionTimeout isnt = λ e. omega arith
+elsewhere IdleWriteTransactionTimeout isnt = λ e. omega arith
+elsewhere CheckConstraintChecks isnt = λ e. omega arith
 
 other_stays : (values : List SlotValue) (change : Change) → is_autocommit change.slot ≡ false → value_at (changed values change) Autocommit ≡ value_at values Autocommit
-other_stays values change isnt = get_or-set_other values (place_of change.slot) 2 (value_after (value_at values change.slot) change) Default (elsewhere change.slot isnt)
+other_stays values change isnt = get_or-set_other values (place_of change.slot) 3 (value_after (value_at values change.slot) change) Default (elsewhere change.slot isnt)
 
 parts : (a b : Bool) → (a || b) ≡ false → (a ≡ false) × (b ≡ false)
 parts true b isnt = absurd (cc)

@@ -13,11 +13,11 @@ use Rattle.sql_tokens.specs.declared.token.TokenKind.TheVariants as kinds
 use Rattle.session_vars.proofs.Dispatch.{no_mode}
 use Rattle.session_vars.proofs.First.{no_symbol}
 use Rattle.session_vars.proofs.Parts.{none_assigned}
-use Rattle.session_vars.proofs.Unnamed.{one_part as assigned_part}
-use Rattle.session_vars.specs.Assignments.{assigned, assignment, part_changes, assignments}
+use Rattle.session_vars.proofs.Unnamed.{one_part as assigned_part, unnamed_change, word_plain}
+use Rattle.session_vars.specs.Assignments.{assignment, part_changes, assignments, slot_of_name}
 use Rattle.session_vars.specs.Scopes.{before_comma, deeper, divides, names_server, server_scopes, sets_server}
 use Rattle.session_vars.specs.Shapes.{set_shape, shape_behind, shape_by, tracked_or_other}
-use Rattle.session_vars.specs.Slots.{assigned_slots, name_of, slot_named}
+use Rattle.session_vars.specs.Slots.{assigned_slots, is_named, slot_named}
 use Rattle.session_vars.specs.Statement.{is_session_word, without_end}
 use Rattle.session_vars.specs.Transactions.{mode_changes}
 use Rattle.session_vars.specs.declared.change.Change.{Change}
@@ -81,11 +81,11 @@ no_server _ bytes piece none is = absurd (cc)
 
 unnamed : (named : Option (List ℕ)) → is_word named (codes "last_insert_id") ≡ true → option_and_then slot_named named ≡ None
 unnamed None is = refl
-unnamed (Some name) is = ap (λ lower. find (λ slot. bytes_eq lower (map to_ascii_lowercase (name_of slot))) assigned_slots) ((bytes_decides (map to_ascii_lowercase name) (map to_ascii_lowercase (codes "last_insert_id"))).0 is)
+unnamed (Some name) is = ap (λ lower. find (is_named lower) assigned_slots) ((bytes_decides (map to_ascii_lowercase name) (map to_ascii_lowercase (codes "last_insert_id"))).0 is)
 
 -- what stands behind SET
 behind_set : (text : List ℕ) (scope name equals value : Token) → says text scope (codes "SESSION") ≡ true → says text name (codes "last_insert_id") ≡ true → AreWhole text (scope ∷ name ∷ equals ∷ value ∷ []) → shape_behind text (scope ∷ name ∷ equals ∷ value ∷ []) ≡ Other
-unfolding shape_behind assignment assigned
+unfolding shape_behind assignment
 behind_set text scope name equals value is_scope is_name whole =
     let tokens = scope ∷ name ∷ equals ∷ value ∷ [] in
     let session : is_session_word text scope ≡ true = or_left _ _ is_scope in
@@ -94,7 +94,8 @@ behind_set text scope name equals value is_scope is_name whole =
     none_assigned text tokens
     (ap (part_changes text) (one_part text 0 tokens whole)
     ∙ assigned_part text tokens (said_as (word_of text scope) (codes "SESSION") is_scope (codes "NAMES"))
-    ∙ ap (option_map (λ (change : Change). change ∷ [])) (cond-true (is_session_word text scope) _ _ session ∙ ap (λ slot. assigned text slot (equals ∷ value ∷ [])) (unnamed (word_of text name) is_name))) in
+    ∙ ap (option_map (λ (change : Change). change ∷ [])) (cond-true (is_session_word text scope) _ _ session
+    ∙ unnamed_change text (slot_of_name text name) name (equals ∷ value ∷ []) (word_plain name.kind (bytes_of text name) (codes "last_insert_id") is_name) (unnamed (word_of text name) is_name))) in
     cond-false (sets_server text 0 true tokens) _ _ (or_from _ _ (no_server scope.kind (bytes_of text scope) (codes "SESSION") refl is_scope) rest)
     ∙ cond-false (says text scope (codes "TRANSACTION")) _ _ (said_as (word_of text scope) (codes "SESSION") is_scope (codes "TRANSACTION"))
     ∙ ap tracked_or_other

@@ -5,8 +5,8 @@ use Rattle.sql_tokens.specs.Words.{is_word, says, word_of}
 use Rattle.pin_classifier.specs.Passing.{callee, is_quoted_call, is_release, is_variable, seen_of, seen_behind, with_next}
 use Rattle.pin_classifier.specs.WordLists.{is_any}
 use Rattle.pin_classifier.specs.declared.word_list.WordList.TheVariants as lists
-use Rattle.pin_classifier.specs.Functions.{calls_any, has_call_of, names_session_function}
-use Rattle.pin_classifier.specs.Statement.{calls, calls_quoted, has_call, has_variable, has_word, is_from, is_part, is_unread, is_variable_behind, is_wide_name, releases, variable_of}
+use Rattle.pin_classifier.specs.Functions.{calls_quoted, calls_any, has_call_of, names_session_function}
+use Rattle.pin_classifier.specs.Statement.{calls, has_call, has_variable, has_word, is_from, is_part, is_unread, is_variable_behind, is_wide_name, releases, variable_of}
 use Rattle.pin_classifier.specs.declared.seen.Seen.{Seen}
 use Rattle.pin_classifier.proofs.Anywhere.{seen_token, seen_pair, callee_is, callee_passes}
 use Rattle.pin_classifier.proofs.Firsts.{opening_seen}

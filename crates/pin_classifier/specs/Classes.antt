@@ -4,16 +4,16 @@ use Rattle.std.specs.List.{list_any}
 use Rattle.session_vars.specs.Shapes.{set_shape}
 use Rattle.sql_tokens.specs.Words.{is_word}
 use Rattle.session_vars.specs.declared.shape.SetShape.{SetShape}
-use Rattle.session_vars.specs.declared.shape.SetShape.TheVariants.{Global, NextTransaction, Other}
+use Rattle.session_vars.specs.declared.shape.SetShape.TheVariants.{Tracked, Global, NextTransaction, Other}
 use Rattle.pin_classifier.specs.WordLists.{is_any}
 use Rattle.pin_classifier.specs.declared.word_list.WordList.TheVariants as lists
 use Rattle.pin_classifier.specs.Diagnostics.{has_any}
-use Rattle.pin_classifier.specs.Functions.{has_call_of, names_session_function}
+use Rattle.pin_classifier.specs.Functions.{has_call_of, has_quoted_call, names_session_function}
 use Rattle.pin_classifier.specs.Judged.{judged}
 use Rattle.pin_classifier.specs.Marks.{is_other_blank, stands}
 use Rattle.pin_classifier.specs.Shapes.{is_end, shape_of}
 use Rattle.pin_classifier.specs.Starts.{begins_unknown, analyzes_other, changes_schema, explains, flushes_other, gives_rows, goes_back, returns_rows, shows_connection, starts_other, writes_tables, locks_tables, unlocks_tables, locks_other, ends_transaction, is_savepoint, makes_id, names_accounts, shows_diagnostics, stores, subject}
-use Rattle.pin_classifier.specs.Statement.{statement, first_word, next_word, has_from, has_word, has_call, has_release, has_variable, has_wide_variable, has_unread, has_quoted_call, has_user_variable}
+use Rattle.pin_classifier.specs.Statement.{statement, first_word, next_word, has_from, has_word, has_call, has_release, has_variable, has_wide_variable, has_unread, has_user_variable}
 use Rattle.pin_classifier.specs.declared.class.Class.{Class}
 use Rattle.pin_classifier.specs.declared.class.Locking.{Locking}
 use Rattle.pin_classifier.specs.declared.class.Locking.TheVariants.{None as Neither, Takes, Frees}
@@ -34,6 +34,10 @@ is_next_transaction _ = false
 abbrev pub is_other : SetShape → Bool
 is_other Other = true
 is_other _ = false
+
+abbrev pub is_tracked : SetShape → Bool
+is_tracked (Tracked changes) = true
+is_tracked _ = false
 
 abbrev pub is_connection_id : Shape → Bool
 is_connection_id ConnectionId = true
@@ -72,10 +76,14 @@ uses_other text = is_word (first text) (codes "USE") && not (is_use (shape_of te
 unfoldable pub gives_id : (text : List ℕ) → Bool
 gives_id text = has_call text (statement text) (codes "LAST_INSERT_ID") && stands text GivenId
 
--- a server may read it as another statement: it has an executed comment, what isn't closed, half of a system variable, a NUL byte,
--- or a word or a variable's name with a byte A0 or FF
+-- A server may read it as another statement: it has an executed comment, what isn't closed, half of a system variable, a NUL byte,
+-- an escaped `"` within a text in `"`, such a text that may be the name of a function that matters, or a word or a variable's name with a
+-- byte A0 or FF. Of a tracked SET each token is read, and its comments are names.
 unfoldable pub is_unread_text : (text : List ℕ) → Bool
-is_unread_text text = has_unread text (statement text) || (list_any is_other_blank text && stands text BlankInWord)
+is_unread_text text =
+    (has_unread text (statement text) && not (is_tracked (set_shape text)))
+    || has_quoted_call text (statement text)
+    || (list_any is_other_blank text && stands text BlankInWord)
 
 -- No user variable lives there: an `@` is part of an account, or stands in what isn't run yet. The times of an event are worked
 -- out at once.

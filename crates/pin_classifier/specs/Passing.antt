@@ -4,8 +4,8 @@ use Rattle.sql_tokens.specs.Words.{word_of, is_word, says, is_symbol}
 use Rattle.sql_tokens.specs.declared.token.Token.{Token}
 use Rattle.pin_classifier.specs.WordLists.{is_any}
 use Rattle.pin_classifier.specs.declared.word_list.WordList.TheVariants as lists
-use Rattle.pin_classifier.specs.Functions.{has_call_of, names_session_function}
-use Rattle.pin_classifier.specs.Statement.{calls_quoted, has_quoted_call, has_user_variable, has_word, has_call, has_release, has_variable, has_wide_variable, has_unread, has_from, is_from, is_unread, is_part, is_variable_behind, is_wide_name, variable_of}
+use Rattle.pin_classifier.specs.Functions.{calls_quoted, has_call_of, has_quoted_call, names_session_function}
+use Rattle.pin_classifier.specs.Statement.{has_user_variable, has_word, has_call, has_release, has_variable, has_wide_variable, has_unread, has_from, is_from, is_unread, is_part, is_variable_behind, is_wide_name, variable_of}
 use Rattle.pin_classifier.specs.declared.calls.Calls.{Calls}
 use Rattle.pin_classifier.specs.declared.opening.Opening.{Opening}
 use Rattle.pin_classifier.specs.declared.seen.Seen.{Seen}
@@ -36,7 +36,7 @@ abbrev pub is_release : (text : List ℕ) → (before : Option Token) → (word 
 is_release text None word = false
 is_release text (Some before) word = is_word word (codes "RELEASE") && not (says text before (codes "NO"))
 
--- a `(` behind a quoted text in `"`
+-- a `(` behind such a quoted text in `"`
 abbrev pub is_quoted_call : (text : List ℕ) → (before : Option Token) → Token → Bool
 is_quoted_call text None token = false
 is_quoted_call text (Some before) token = calls_quoted text (before, token)

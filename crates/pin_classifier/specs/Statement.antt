@@ -43,12 +43,14 @@ abbrev pub is_double_quoted : TokenKind → List ℕ → Bool
 is_double_quoted Quoted bytes = nat_eq (slice_index_or bytes 0 0) 34
 is_double_quoted _ bytes = false
 
--- a quoted text in `"` with `(` behind it, which is the name of a function where `"` quotes names
-abbrev pub calls_quoted : (text : List ℕ) → Token × Token → Bool
-calls_quoted text pair = is_double_quoted pair.0.kind (bytes_of text pair.0) && is_symbol text pair.1 40
+-- it has a `\` and a `"` behind it
+unfoldable pub has_escaped : List ℕ → Bool
+has_escaped [] = false
+has_escaped (b ∷ bytes) = (nat_eq b 92 && nat_eq (slice_index_or bytes 0 0) 34) || has_escaped bytes
 
-abbrev pub has_quoted_call : (text : List ℕ) → List Token → Bool
-has_quoted_call text tokens = list_any (calls_quoted text) (neighbours tokens)
+-- a text in `"` that ends elsewhere where `"` quotes names, in which nothing is escaped
+abbrev pub is_escaped : TokenKind → List ℕ → Bool
+is_escaped kind bytes = is_double_quoted kind bytes && has_escaped bytes
 
 -- a word RELEASE that doesn't follow NO, behind a first word
 abbrev pub releases : (text : List ℕ) → Token × Token → Bool
@@ -126,14 +128,16 @@ is_half SysVar bytes = list_any (same_text (drop 2 bytes)) variable_scopes || na
 is_half UserVar bytes = nat_eq (length bytes) 1
 is_half _ bytes = false
 
--- what isn't read as a server does: an executed comment, what isn't closed, half of a system variable, and a NUL byte
+-- what isn't read as a server does: an executed comment, what isn't closed, half of a system variable, a NUL byte, and an escaped `"`
+-- within a text in `"`
 abbrev pub is_unread_kind : TokenKind → Bool
 is_unread_kind Executed = true
 is_unread_kind Unclosed = true
 is_unread_kind _ = false
 
 abbrev pub is_unread : (text : List ℕ) → Token → Bool
-is_unread text token = is_unread_kind token.kind || (is_half token.kind (bytes_of text token) || is_symbol text token 0)
+is_unread text token =
+    is_unread_kind token.kind || (is_half token.kind (bytes_of text token) || (is_symbol text token 0 || is_escaped token.kind (bytes_of text token)))
 
 abbrev pub has_unread : (text : List ℕ) → List Token → Bool
 has_unread text tokens = list_any (is_unread text) tokens

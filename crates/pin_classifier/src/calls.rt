@@ -14,7 +14,7 @@ fn begins_with(name: &[u8], prefix: &[u8]) -> bool
 
 // Locks of a session and of plugins (MySQL Reference Manual, "Locking Functions", "The Locking Service", "Version
 // Tokens").
-fn is_session_function(name: &[u8]) -> bool
+pub(crate) fn is_session_function(name: &[u8]) -> bool
     ensures { result ≡ is_session_function name.now }
 {
     same_text(name, b"GET_LOCK")

@@ -1,7 +1,7 @@
 // The class of a statement, whose first word is called its verb.
 ghost use Rattle.std.specs.Prelude.{◌≡◌, IfOk, codes, option_copied};
 ghost use Rattle.sql_tokens.specs.Words.{is_word};
-ghost use Rattle.pin_classifier.specs.Classes.{begins_other, class_by_itself, class_of, ends_transaction_of, first, gives_id, hides_diagnostics, is_connection_id, is_deep, is_deep_inside, is_deep_start, is_global, is_next_transaction, is_other, is_unread_text, is_use, keeps_diagnostics, keeps_found, locking_of, may_last, names_connection, outlasts, reads_diagnostics, reads_found, reads_id, reads_last, refusal_of, second, sets_id, spares_variables, uses_table};
+ghost use Rattle.pin_classifier.specs.Classes.{begins_other, class_by_itself, class_of, ends_transaction_of, first, gives_id, hides_diagnostics, is_connection_id, is_deep, is_deep_inside, is_deep_start, is_global, is_next_transaction, is_other, is_tracked, is_unread_text, is_use, keeps_diagnostics, keeps_found, locking_of, may_last, names_connection, outlasts, reads_diagnostics, reads_found, reads_id, reads_last, refusal_of, second, sets_id, spares_variables, uses_table};
 ghost use Rattle.pin_classifier.specs.Opened.{opened_text, opens};
 ghost use Rattle.pin_classifier.specs.Passing.{seen_of};
 ghost use Rattle.pin_classifier.specs.Shapes.{set_in, shape_of};
@@ -45,6 +45,12 @@ fn is_other(shape: &Shape) -> bool
     matches!(shape, Shape::Set(SetShape::Other))
 }
 
+fn is_tracked(shape: &Shape) -> bool
+    ensures { result ≡ is_tracked (set_in shape.now) }
+{
+    matches!(shape, Shape::Set(SetShape::Tracked(_)))
+}
+
 fn is_connection_id(shape: &Shape) -> bool
     ensures { result ≡ is_connection_id shape.now }
 {
@@ -81,12 +87,15 @@ fn gives_id(text: &[u8], seen: &Seen) -> bool
 }
 
 // Whether a server may read a statement as another one.
-#[tactic(auto, unfolding(crate::specs::Classes::is_unread_text))]
-fn is_unread_text(text: &[u8], seen: &Seen) -> bool
-    requires { seen.now ≡ seen_of text.now (statement text.now) }
+#[tactic(auto, using(crate::proofs::Sets::shape_of_set), unfolding(crate::specs::Classes::is_unread_text))]
+fn is_unread_text(text: &[u8], seen: &Seen, shape: &Shape) -> bool
+    requires seen { seen.now ≡ seen_of text.now (statement text.now) }
+    requires shape { shape.now ≡ shape_of text.now }
     ensures { result ≡ is_unread_text text.now }
 {
-    seen.unread || (has_blank_byte(text) && stands(text, Mark::BlankInWord))
+    (seen.unread && !is_tracked(shape))
+        || seen.quoted_call
+        || (has_blank_byte(text) && stands(text, Mark::BlankInWord))
 }
 
 // Whether each `@` is part of an account, or stands in what isn't run yet.
@@ -376,7 +385,7 @@ fn class_by(text: &[u8], seen: &Seen, shape: Shape) -> Class
     let verb = first_word(text, seen.opening.first);
     let next = next_word(text, seen.opening.second);
     let selects = is_word(verb, b"SELECT");
-    let unread = is_unread_text(text, seen);
+    let unread = is_unread_text(text, seen, &shape);
     let gives = gives_id(text, seen);
     let deep = is_deep(text, seen, &shape, verb, unread, gives);
     let outlasts_reset = deep && may_last(text, seen, &shape, verb, unread);

@@ -14,6 +14,8 @@ pub(crate) enum WordList {
     LastFunctions,
     // Functions whose arguments may have FROM.
     FromFunctions,
+    // Functions that read the session's number, its insert id and what the last statement left.
+    OwnFunctions,
     // Words by which a statement may read diagnostics.
     Diagnostics,
     // And by which it may read such a last value.
@@ -44,6 +46,14 @@ static FROM_FUNCTIONS: [&[u8]; 6] = [
     b"SUBSTR",
     b"MID",
     b"NTH_VALUE",
+];
+
+// MySQL Reference Manual, "Information Functions".
+static OWN_FUNCTIONS: [&[u8]; 4] = [
+    b"CONNECTION_ID",
+    b"LAST_INSERT_ID",
+    b"ROW_COUNT",
+    b"FOUND_ROWS",
 ];
 
 // MySQL Reference Manual, "Information Functions", "SHOW WARNINGS Statement", "GET DIAGNOSTICS Statement".
@@ -109,6 +119,7 @@ pub(crate) fn lists(words: WordList, word: &[u8]) -> bool
         WordList::ThreadFunctions => is_one_of(word, &THREAD_FUNCTIONS),
         WordList::LastFunctions => is_one_of(word, &LAST_FUNCTIONS),
         WordList::FromFunctions => is_one_of(word, &FROM_FUNCTIONS),
+        WordList::OwnFunctions => is_one_of(word, &OWN_FUNCTIONS),
         WordList::Diagnostics => is_one_of(word, &DIAGNOSTICS),
         WordList::LastValues => is_one_of(word, &LAST_VALUES),
         WordList::Lasting => is_one_of(word, &LASTING),

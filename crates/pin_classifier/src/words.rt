@@ -2,12 +2,16 @@
 ghost use Rattle.std.specs.Prelude.{◌≡◌, ◌-◌, ◌&&◌, nat_eq, nat_lt, codes, length, slice_index_or, option_copied};
 ghost use Rattle.std.specs.List.{list_all, list_any, slice_split};
 ghost use Rattle.sql_tokens.specs.Words.{is_word, same_text};
+ghost use Rattle.pin_classifier.specs.Functions.{matters};
 ghost use Rattle.pin_classifier.specs.Passing.{callee, is_quoted_call, is_release, is_variable};
 ghost use Rattle.pin_classifier.specs.Shapes.{is_there, is_byte};
-ghost use Rattle.pin_classifier.specs.Statement.{first_word, next_word, opening_word, has_part, is_part, is_double_quoted, is_half, is_plain_word, is_quoted, is_user_variable, is_unread, is_unread_kind, is_wide, is_wide_name, releases, variable_of};
+ghost use Rattle.pin_classifier.specs.Statement.{first_word, next_word, opening_word, has_part, is_part, has_escaped, is_double_quoted, is_escaped, is_half, is_plain_word, is_quoted, is_user_variable, is_unread, is_unread_kind, is_wide, is_wide_name, releases, variable_of};
 
+use crate::calls::is_session_function;
+use crate::word_list::{WordList, lists};
 use sql_tokens::{
-    Token, TokenKind, behind, bytes_of, is_one_of, is_symbol, is_word, same_text, says, word_of,
+    Token, TokenKind, behind, bytes_of, inside, is_one_of, is_symbol, is_word, same_text, says,
+    word_of,
 };
 
 // Whether a token that is there says this word.
@@ -83,13 +87,26 @@ fn is_double_quoted(kind: TokenKind, bytes: &[u8]) -> bool
     }
 }
 
-// Whether this token is a `(` behind a quoted text in `"`, which is the name of a function where `"` quotes names.
+// A function that is refused, or reads or changes what a session keeps; or one that may be read so.
+fn matters(name: &[u8]) -> bool
+    ensures { result ≡ matters name.now }
+{
+    is_session_function(name)
+        || lists(WordList::ThreadFunctions, name)
+        || lists(WordList::LastFunctions, name)
+        || lists(WordList::OwnFunctions, name)
+        || is_wide(name)
+}
+
+// Whether this token is a `(` behind a quoted text in `"`, which is the name of a function that matters where `"` quotes names.
 pub(crate) fn is_quoted_call(text: &[u8], before: Option<Token>, token: &Token) -> bool
     ensures { result ≡ is_quoted_call text.now before token.now }
 {
     match before {
         Some(before) => {
-            is_double_quoted(before.kind, bytes_of(text, &before)) && is_symbol(text, token, b'(')
+            is_double_quoted(before.kind, bytes_of(text, &before))
+                && is_symbol(text, token, b'(')
+                && matters(inside(bytes_of(text, &before)))
         }
         None => false,
     }
@@ -136,6 +153,34 @@ fn is_unread_kind(kind: TokenKind) -> bool
     }
 }
 
+fn begins_with_quote(bytes: &[u8]) -> bool
+    ensures { result ≡ nat_eq (slice_index_or bytes.now 0 0) 34 }
+{
+    !bytes.is_empty() && bytes[0] == b'"'
+}
+
+// Whether a `\` stands there, and a `"` behind it.
+#[tactic(auto, unfolding(crate::specs::Statement::has_escaped))]
+fn has_escaped(bytes: &[u8]) -> bool
+    ensures { result ≡ has_escaped bytes.now }
+{
+    let mut left = bytes;
+    while let [byte, rest @ ..] = left {
+        if *byte == b'\\' && begins_with_quote(rest) {
+            return true;
+        }
+        left = rest;
+    }
+    false
+}
+
+// Whether a token is a text in `"` with such a place.
+fn is_escaped(kind: TokenKind, bytes: &[u8]) -> bool
+    ensures { result ≡ is_escaped kind bytes.now }
+{
+    is_double_quoted(kind, bytes) && has_escaped(bytes)
+}
+
 // Whether a token isn't read as a server does.
 pub(crate) fn is_unread(text: &[u8], token: &Token) -> bool
     ensures { result ≡ is_unread text.now token.now }
@@ -143,6 +188,7 @@ pub(crate) fn is_unread(text: &[u8], token: &Token) -> bool
     is_unread_kind(token.kind)
         || is_half(token.kind, bytes_of(text, token))
         || is_symbol(text, token, b'\0')
+        || is_escaped(token.kind, bytes_of(text, token))
 }
 
 fn is_user_variable(kind: TokenKind) -> bool

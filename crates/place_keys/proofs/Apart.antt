@@ -1,7 +1,7 @@
 -- Different places have different keys.
-use Rattle.std.proofs.Common.{◌≡◌, ◌<◌, ◌≤◌, ℕ, suc, true, false, List, [], ◌∷◌, ◌++◌, drop, refl, sym, ap, ◌∙◌, inl, inr, arith}
+use Rattle.std.proofs.Common.{◌≡◌, ◌<◌, ◌≤◌, ℕ, suc, Bool, true, false, ◌&&◌, nat_eq, List, [], ◌∷◌, ◌++◌, drop, refl, sym, ap, ◌∙◌, inl, inr, arith}
 use Rattle.std.specs.Prelude.{nat_le, slice_index_or}
-use Rattle.std.proofs.lemmas.Bool.{cases_Bool, cases_eq, leb-true, leb-false}
+use Rattle.std.proofs.lemmas.Bool.{cases_Bool, cases_eq, and_parts, eqb-true, leb-true, leb-false}
 use Rattle.std.proofs.lemmas.List.{ext_get_or}
 use Rattle.session_vars.specs.declared.change.SlotValue.{SlotValue}
 use Rattle.session_vars.specs.declared.change.SlotValue.TheVariants.{Default, Text}
@@ -72,11 +72,11 @@ values_apart (Text a) (Text b) r s e = let same = texts_apart a b r s e in (ap T
 
 -- these slots stand at the places from one on to the last
 IsRun : (place : ℕ) → List Slot → Type 0
-IsRun place [] = place ≡ 33
+IsRun place [] = place ≡ 67
 IsRun place (slot ∷ slots) = (place_of slot ≡ place) × IsRun (suc place) slots
 
 agree : (a b : List SlotValue) (place : ℕ) (slots : List Slot) → IsRun place slots → values_key a slots ≡ values_key b slots → (i : ℕ)
-    → place ≤ i → i < 33 → slice_index_or a i Default ≡ slice_index_or b i Default
+    → place ≤ i → i < 67 → slice_index_or a i Default ≡ slice_index_or b i Default
 unfolding IsRun
 agree a b place [] run e i above below = absurd (omega (arith, run))
 agree a b place (slot ∷ slots) run e i above below =
@@ -86,9 +86,21 @@ agree a b place (slot ∷ slots) run e i above below =
       | inr later ↦ agree a b (suc place) slots run.1 both.1 i (omega (arith, later)) below
     ]
 
+-- the same as a test that computes
+stands_from : (place : ℕ) → List Slot → Bool
+stands_from place [] = nat_eq place 67
+stands_from place (slot ∷ slots) = nat_eq (place_of slot) place && stands_from (suc place) slots
+
+run_from : (place : ℕ) (slots : List Slot) → stands_from place slots ≡ true → IsRun place slots
+unfolding IsRun stands_from
+run_from place [] is = eqb-true place 67 is
+run_from place (slot ∷ slots) is =
+    let both = and_parts (nat_eq (place_of slot) place) (stands_from (suc place) slots) is in
+    (eqb-true (place_of slot) place both.0, run_from (suc place) slots both.1)
+
 all_run : IsRun 0 all_slots
-unfolding IsRun
-all_run = (refl, (refl, (refl, (refl, (refl, (refl, (refl, (refl, (refl, (refl, (refl, (refl, (refl, (refl, (refl, (refl, (refl, (refl, (refl, (refl, (refl, (refl, (refl, (refl, (refl, (refl, (refl, (refl, (refl, (refl, (refl, (refl, (refl, refl)))))))))))))))))))))))))))))))))
+unfolding stands_from
+all_run = run_from 0 all_slots refl
 
 pub places : (schema other : List ℕ) (a b : List SlotValue) → AreSettings a → AreSettings b → place_key schema a ≡ place_key other b
     → (schema ≡ other) × (a ≡ b)

@@ -11,7 +11,7 @@ use Rattle.session_vars.specs.declared.change.Change.{Change}
 use Rattle.session_vars.specs.declared.change.SlotValue.{SlotValue}
 use Rattle.session_vars.specs.declared.change.SlotValue.TheVariants.{Default, Text}
 use Rattle.session_vars.specs.declared.slot.Slot.{Slot}
-use Rattle.session_vars.specs.declared.slot.Slot.TheVariants.{Names, CharacterSetResults}
+use Rattle.session_vars.specs.declared.slot.Slot.TheVariants.{Names, CharacterSetResults, CollationConnection}
 use Rattle.session_state.specs.declared.place.Place.{Place}
 use Rattle.session_state.specs.declared.place.Told.{Told}
 use Rattle.private_model.specs.Commands.{Command, InitDb, Query}
@@ -50,15 +50,17 @@ never_both false = refl
 
 names_stay : (s : List SlotValue) → names_differ s s ≡ false
 unfolding names_differ
-names_stay s = or_from _ _ (differs_not s Names) (never_both (is_text (value_at s CharacterSetResults)))
+names_stay s =
+    or_from _ _ (differs_not s Names) (or_from _ _ (never_both (is_text (value_at s CharacterSetResults))) (never_both (is_text (value_at s CollationConnection))))
 
-results_stay : (s : List SlotValue) → results_differ s s ≡ false
+results_stay : (s : List SlotValue) (slot : Slot) → results_differ s s slot ≡ false
 unfolding results_differ
-results_stay s = or_from _ _ (differs_not s CharacterSetResults) (ap (λ (b : Bool). b && is_text (value_at s CharacterSetResults)) (names_stay s))
+results_stay s slot = or_from _ _ (differs_not s slot) (ap (λ (b : Bool). b && is_text (value_at s slot)) (names_stay s))
 
 stays : (s : List SlotValue) (slot : Slot) → has_to_change s s slot ≡ false
 stays s Names = names_stay s
-stays s CharacterSetResults = results_stay s
+stays s CharacterSetResults = results_stay s CharacterSetResults
+stays s CollationConnection = results_stay s CollationConnection
 stays s slot = differs_not s slot
 
 nothing_changes : (s : List SlotValue) (slots : List Slot) → changes_of s s slots ≡ []

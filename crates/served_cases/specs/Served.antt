@@ -20,7 +20,7 @@ use Rattle.session_vars.specs.Settings.{collation_settings}
 use Rattle.session_vars.specs.declared.change.Change.{Change}
 use Rattle.session_vars.specs.declared.change.SlotValue.TheVariants.{Default}
 use Rattle.session_vars.specs.declared.shape.SetShape.TheVariants as sets
-use Rattle.session_vars.specs.declared.slot.Slot.TheVariants.{CharacterSetResults}
+use Rattle.session_vars.specs.declared.slot.Slot.TheVariants.{CharacterSetResults, CollationConnection}
 use Rattle.log_story.specs.Plan.{Asks, Plan, Route, StepText}
 use Rattle.router_promises.specs.Router.{Router}
 use Rattle.router_promises.specs.Terms.{Decided, Terms}
@@ -36,12 +36,15 @@ text = codes "INSERT INTO t VALUES (1)"
 abbrev pub insert_class : Class
 insert_class = record plain_class { marks_id = true; keeps_diag = false }
 
--- SET NAMES takes character_set_results back
+-- SET NAMES takes character_set_results and collation_connection back
 abbrev pub results : Change
 results = record { slot = CharacterSetResults; value = Default; adds = false }
 
+abbrev pub collation : Change
+collation = record { slot = CollationConnection; value = Default; adds = false }
+
 abbrev pub names_class : Class
-names_class = record plain_class { shape = shape.Set (sets.Tracked (names ∷ results ∷ [])) }
+names_class = record plain_class { shape = shape.Set (sets.Tracked (names ∷ results ∷ collation ∷ [])) }
 
 abbrev pub class_read : List ℕ → Class
 class_read other =

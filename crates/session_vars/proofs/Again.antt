@@ -10,7 +10,6 @@ use Rattle.sql_tokens.specs.declared.token.TokenKind.TheVariants.{Word}
 use Rattle.session_vars.specs.Assignments.{assignments}
 use Rattle.session_vars.specs.Scopes.{sets_server}
 use Rattle.session_vars.specs.Shapes.{sets_mode_once, tracked_or_other, shape_behind, shape_by, set_shape}
-use Rattle.session_vars.specs.Slots.{name_of}
 use Rattle.session_vars.specs.Statement.{is_comment, without_comments, without_end, statement_of}
 use Rattle.session_vars.specs.Transactions.{mode_changes}
 use Rattle.session_vars.specs.declared.change.Change.{Change}
@@ -64,10 +63,6 @@ assignable_once : (changes : List Change) → AreAssignable changes → sets_mod
 unfolding sets_mode_once
 assignable_once changes assignable = or_right _ _ (not_from_false _ (none_adds changes assignable))
 
-name_no_transaction : (slot : Slot) → same_text (name_of slot) (codes "TRANSACTION") ≡ false
-name_no_transaction Names = refl
-name_no_transaction _ = refl
-
 -- SET SESSION and assignments
 pub session_again : (text : List ℕ) (change : Change) (changes : List Change) → text ≡ codes "SET SESSION " ++ (assignment_text change ++ flat_map with_comma changes) → AreAssignable (change ∷ changes) → set_shape text ≡ Tracked (change ∷ changes)
 session_again text change changes is assignable =
@@ -78,22 +73,21 @@ session_again text change changes is assignable =
     let at_session : At text 4 (codes "SESSION " ++ there) = behind_blank text 3 (codes "SESSION " ++ there) at_blank in
     let at_gap : At text 11 (32 ∷ there) = behind text 4 (codes "SESSION") (32 ∷ there) at_session in
     let at_name : At text 12 there = behind_blank text 11 there at_gap in
-    let n : IsNamed text 12 change = named text 12 change rest assignable.0.1 at_name (stops_before changes) in
-    let first = scoped text 4 change rest assignable.0.0 at_session n in
+    let n : IsNamed text 12 change = named text 12 change rest assignable.0.0 assignable.0.1 at_name (stops_before changes) in
+    let first = scoped text 4 change rest at_session n in
     let session = token_of Word 4 (codes "SESSION") in
-    let name = token_of Word 12 (name_of change.slot) in
-    let read = list_read text 4 (8 + length (assignment_text change)) change (session ∷ name ∷ n.equals ∷ n.values) changes first assignable.1 (ap (λ n. drop n text) (omega arith) ∙ behind text 12 (assignment_text change) rest at_name) in
+    let read = list_read text 4 (8 + length (assignment_text change)) change (session ∷ n.first ∷ n.next ∷ n.others) changes first assignable.1 (ap (λ n. drop n text) (omega arith) ∙ behind text 12 (assignment_text change) rest at_name) in
     let set = token_of Word 0 (codes "SET") in
     let set_is : bytes_of text set ≡ codes "SET" = said text 0 Word (codes "SET") (32 ∷ (codes "SESSION " ++ there)) at_set in
     let session_is : bytes_of text session ≡ codes "SESSION" = said text 4 Word (codes "SESSION") (32 ∷ there) at_session in
-    let scan : tokens_of text ≡ set ∷ session ∷ name ∷ n.equals ∷ n.values ++ read.0 =
+    let scan : tokens_of text ≡ set ∷ session ∷ n.first ∷ n.next ∷ n.others ++ read.0 =
     scanned text 0 Word (codes "SET") (32 ∷ (codes "SESSION " ++ there)) at_set (word_piece (codes "SET") (32 ∷ (codes "SESSION " ++ there)) (refl, refl) (inl refl))
     ∙ ap (λ (tokens : List Token). set ∷ tokens) (past_blank text 3 (codes "SESSION " ++ there) at_blank ∙ read.1.scan) in
-    assignments_shape text set session name (n.equals ∷ n.values ++ read.0) (change ∷ changes)
-    (statement_is text (set ∷ session ∷ name ∷ n.equals ∷ n.values ++ read.0) scan read.1.counting)
+    assignments_shape text set session n.first (n.next ∷ n.others ++ read.0) (change ∷ changes)
+    (statement_is text (set ∷ session ∷ n.first ∷ n.next ∷ n.others ++ read.0) scan read.1.counting)
     (ap (λ word. same_text word (codes "SET")) set_is)
     (ap (λ word. same_text word (codes "TRANSACTION")) session_is)
-    (ap (λ word. same_text word (codes "TRANSACTION")) n.name ∙ name_no_transaction change.slot)
+    n.no_transaction
     read.1.unscoped
     read.1.gives
     (assignable_once (change ∷ changes) assignable)

@@ -8,20 +8,21 @@ use Rattle.sql_tokens.specs.Tokens.{tokens_behind}
 use Rattle.sql_tokens.specs.Words.{bytes_of, inside, is_symbol_kind, is_symbol, is_word, same_text, says, word_by}
 use Rattle.sql_tokens.specs.declared.token.Token.{Token}
 use Rattle.sql_tokens.specs.declared.token.TokenKind.{TokenKind}
-use Rattle.sql_tokens.specs.declared.token.TokenKind.TheVariants.{Word, Quoted, Number, SysVar, Symbol}
-use Rattle.session_vars.specs.Assignments.{change_to, written, assigned, assignment, assignments, part_changes, with_changes}
+use Rattle.sql_tokens.specs.declared.token.TokenKind.TheVariants.{Word, Quoted, Number, SysVar, Symbol, Executed}
+use Rattle.session_vars.specs.Assignments.{change_to, written, assigned, named_change, slot_by, slot_of_name, assignment, assignments, part_changes, with_changes}
 use Rattle.session_vars.specs.Modes.{base_of, ends_with_comma, is_added_list, is_base_list, is_front, is_lone_comma, is_mode_list, is_opening, is_quoted, joined, joined_at, joined_change, joined_text, joined_with, list_of, lists_behind, lists_joined, may_join, own_mode, takes_modes}
 use Rattle.session_vars.specs.Scopes.{before_comma, behind_comma, is_server_scope, names_server, deeper, divides, sets_server}
-use Rattle.session_vars.specs.Slots.{name_of, slot_named}
+use Rattle.session_vars.specs.Slots.{slot_named, slot_of_comments}
 use Rattle.session_vars.specs.Statement.{is_comment, is_session_word}
-use Rattle.session_vars.specs.Texts.{is_names, value_text, assignment_text}
+use Rattle.session_vars.specs.Texts.{is_names, value_text, written_name, assignment_text}
 use Rattle.session_vars.specs.Tracked.{IsOneValue, IsNegative, IsBase, IsJoined, IsAssignable}
 use Rattle.session_vars.specs.Values.{has_reading_mode, is_plain_byte, value_of, negative_value}
 use Rattle.session_vars.specs.declared.change.Change.{Change}
 use Rattle.session_vars.specs.declared.change.SlotValue.{SlotValue}
 use Rattle.session_vars.specs.declared.change.SlotValue.TheVariants.{Text}
 use Rattle.session_vars.specs.declared.slot.Slot.{Slot}
-use Rattle.session_vars.specs.declared.slot.Slot.TheVariants.{Names, SqlMode}
+use Rattle.session_vars.specs.declared.slot.Slot.TheVariants.{SqlMode}
+use Rattle.session_vars.proofs.Comments.{AreComments, IsSpelt, spelling}
 use Rattle.session_vars.proofs.Joining.{with_comma}
 use Rattle.session_vars.proofs.OneToken.{IsValueKind, value_kind, value_piece, number_text}
 use Rattle.session_vars.proofs.Parts.{last_assigned, next_assigned}
@@ -306,62 +307,136 @@ value_read text place slot value rest (inl one) at stops = one_value text place 
 value_read text place slot value rest (inr (inl minus)) at stops = negative text place slot value rest minus at stops
 value_read text place slot value rest (inr (inr joined)) at stops = joined_read text place slot value rest joined at stops
 
--- names of settings
-name_word : (slot : Slot) → IsWordText (name_of slot)
-name_word Names = (refl, refl)
-name_word _ = (refl, refl)
+-- the tokens of ` = value` behind a name, to its end
+record IsGiven (text : List ℕ) (place : ℕ) (change : Change) : Type 0 where
+  equals : Token
+  values : List Token
+  scan : tokens_behind text place ≡ equals ∷ values ++ tokens_behind text (place + (3 + length (value_text change.value)))
+  gives : assigned text (Some change.slot) (equals ∷ values) ≡ Some change
+  calm : is_calm text 0 (equals ∷ values) ≡ true
 
-no_session : (slot : Slot) → same_text (name_of slot) (codes "SESSION") || same_text (name_of slot) (codes "LOCAL") ≡ false
-no_session Names = refl
-no_session _ = refl
-
-pub no_server : (slot : Slot) → is_server_scope (name_of slot) ≡ false
-no_server Names = refl
-no_server _ = refl
-
-named_again : (slot : Slot) → is_names slot ≡ false → slot_named (name_of slot) ≡ Some slot
-named_again Names other = absurd (cc)
-named_again _ other = refl
-
--- the tokens of `name = value`, to its end
-pub record IsNamed (text : List ℕ) (place : ℕ) (change : Change) : Type 0 where
-  pub equals : Token
-  pub values : List Token
-  pub name : bytes_of text (token_of Word place (name_of change.slot)) ≡ name_of change.slot
-  pub scan : tokens_behind text place ≡ token_of Word place (name_of change.slot) ∷ equals ∷ values ++ tokens_behind text (place + length (assignment_text change))
-  pub gives : assigned text (Some change.slot) (equals ∷ values) ≡ Some change
-  pub calm : is_calm text 0 (equals ∷ values) ≡ true
-
-pub named : (text : List ℕ) (place : ℕ) (change : Change) (rest : List ℕ) → IsAssignable change.slot change.value × (change.adds ≡ false) → At text place (assignment_text change ++ rest) → Stops rest → IsNamed text place change
+given : (text : List ℕ) (place : ℕ) (change : Change) (rest : List ℕ) → IsAssignable change.slot change.value × (change.adds ≡ false) → At text place (32 ∷ 61 ∷ 32 ∷ (value_text change.value ++ rest)) → Stops rest → IsGiven text place change
 unfolding assigned
-named text place change rest assignable at stops =
-    let name = name_of change.slot in
+given text place change rest assignable at stops =
     let value = value_text change.value in
-    let at_name : At text place (name ++ 32 ∷ 61 ∷ 32 ∷ (value ++ rest)) = at ∙ append_assoc (name ++ codes " = ") value rest ∙ append_assoc name (codes " = ") (value ++ rest) in
-    let behind_name = place + length name in
-    let at_blank : At text behind_name (32 ∷ 61 ∷ 32 ∷ (value ++ rest)) = behind text place name _ at_name in
-    let at_equals : At text (behind_name + 1) (61 ∷ 32 ∷ (value ++ rest)) = behind_blank text behind_name _ at_blank in
-    let behind_equals = behind_name + 1 + 1 in
-    let at_gap : At text behind_equals (32 ∷ (value ++ rest)) = behind text (behind_name + 1) (61 ∷ []) _ at_equals in
+    let at_equals : At text (place + 1) (61 ∷ 32 ∷ (value ++ rest)) = behind_blank text place _ at in
+    let behind_equals = place + 1 + 1 in
+    let at_gap : At text behind_equals (32 ∷ (value ++ rest)) = behind text (place + 1) (61 ∷ []) _ at_equals in
     let at_value : At text (behind_equals + 1) (value ++ rest) = behind_blank text behind_equals _ at_gap in
     let read = value_read text (behind_equals + 1) change.slot change.value rest assignable.0 at_value stops in
-    let equals = token_of Symbol (behind_name + 1) (61 ∷ []) in
-    let equals_is : bytes_of text equals ≡ 61 ∷ [] = said text (behind_name + 1) Symbol (61 ∷ []) (32 ∷ (value ++ rest)) at_equals in
-    let size : behind_equals + 1 + length value ≡ place + length (assignment_text change) = omega (arith, length-append (name ++ codes " = ") value, length-append name (codes " = ")) in
-    let first = token_of Word place name in
+    let equals = token_of Symbol (place + 1) (61 ∷ []) in
+    let equals_is : bytes_of text equals ≡ 61 ∷ [] = said text (place + 1) Symbol (61 ∷ []) (32 ∷ (value ++ rest)) at_equals in
+    let size : behind_equals + 1 + length value ≡ place + (3 + length value) = omega arith in
     record {
       equals = equals;
       values = read.tokens;
-      name = said text place Word name _ at_name;
       scan =
-          scanned text place Word name _ at_name (word_piece name _ (name_word change.slot) (inl refl))
-          ∙ ap (λ (tokens : List Token). first ∷ tokens)
-          (past_blank text behind_name _ at_blank
-          ∙ scanned text (behind_name + 1) Symbol (61 ∷ []) _ at_equals (equals_piece _)
-          ∙ ap (λ (tokens : List Token). equals ∷ tokens) (past_blank text behind_equals _ at_gap ∙ read.scan ∙ ap (λ n. read.tokens ++ tokens_behind text n) size));
+          past_blank text place _ at
+          ∙ scanned text (place + 1) Symbol (61 ∷ []) _ at_equals (equals_piece _)
+          ∙ ap (λ (tokens : List Token). equals ∷ tokens) (past_blank text behind_equals _ at_gap ∙ read.scan ∙ ap (λ n. read.tokens ++ tokens_behind text n) size);
       gives = cond-true (is_symbol text equals 61) _ _ (ap (λ bytes. bytes_eq bytes (61 ∷ [])) equals_is) ∙ read.gives ∙ ap (λ (adds : Bool). Some (record { slot = change.slot; value = change.value; adds = adds })) (sym assignable.1);
       calm = calm_onto text equals read.tokens (ap (quiet_by Symbol) equals_is) read.calm;
     }
+
+-- the tokens of `name = value`, to its end
+pub record IsNamed (text : List ℕ) (place : ℕ) (change : Change) : Type 0 where
+  pub first : Token
+  pub next : Token
+  pub others : List Token
+  pub scan : tokens_behind text place ≡ first ∷ next ∷ others ++ tokens_behind text (place + length (assignment_text change))
+  pub alone : named_change text (slot_by first.kind (bytes_of text first)) first (next ∷ others) ≡ Some change
+  pub in_session : named_change text (slot_of_name text first) first (next ∷ others) ≡ Some change
+  pub calm : is_calm text 0 (first ∷ next ∷ others) ≡ true
+  pub no_session : is_session_word text first ≡ false
+  pub no_server : names_server first.kind (bytes_of text first) ≡ false
+  pub no_transaction : says text first (codes "TRANSACTION") ≡ false
+
+-- where the name is a word
+word_named : (text : List ℕ) (place : ℕ) (change : Change) (rest : List ℕ) → IsSpelt change.slot change.value → IsAssignable change.slot change.value × (change.adds ≡ false) → At text place (assignment_text change ++ rest) → Stops rest → IsNamed text place change
+unfolding named_change
+word_named text place change rest spelt assignable at stops =
+    let name = spelt.name in
+    let written = written_name change.slot change.value in
+    let value = value_text change.value in
+    let tail = 32 ∷ 61 ∷ 32 ∷ (value ++ rest) in
+    let at_name : At text place (name ++ tail) =
+    at ∙ append_assoc (written ++ codes " = ") value rest ∙ append_assoc written (codes " = ") (value ++ rest) ∙ ap (λ (n : List ℕ). n ++ tail) spelt.is in
+    let g = given text (place + length name) change rest assignable (behind text place name tail at_name) stops in
+    let token = token_of Word place name in
+    let is : bytes_of text token ≡ name = said text place Word name tail at_name in
+    let size : place + length name + (3 + length value) ≡ place + length (assignment_text change) =
+    omega (arith, length-append (written ++ codes " = ") value, length-append written (codes " = "), ap (length {A = ℕ}) spelt.is) in
+    let gives : assigned text (slot_named (bytes_of text token)) (g.equals ∷ g.values) ≡ Some change =
+    ap (λ n. assigned text (slot_named n) (g.equals ∷ g.values)) is ∙ ap (λ slot. assigned text slot (g.equals ∷ g.values)) spelt.word.names ∙ g.gives in
+    record {
+      first = token;
+      next = g.equals;
+      others = g.values;
+      scan =
+          scanned text place Word name tail at_name (word_piece name tail spelt.word.word (inl refl))
+          ∙ ap (λ (tokens : List Token). token ∷ tokens) (g.scan ∙ ap (λ n. g.equals ∷ g.values ++ tokens_behind text n) size);
+      alone = gives;
+      in_session = gives;
+      calm = calm_onto text token (g.equals ∷ g.values) refl g.calm;
+      no_session = ap (λ n. same_text n (codes "SESSION") || same_text n (codes "LOCAL")) is ∙ spelt.word.no_session;
+      no_server = ap is_server_scope is ∙ spelt.word.no_server;
+      no_transaction = ap (λ n. same_text n (codes "TRANSACTION")) is ∙ spelt.word.no_transaction;
+    }
+
+-- where two comments stand in its place
+comments_named : (text : List ℕ) (place : ℕ) (change : Change) (rest : List ℕ) → AreComments change.slot change.value → IsAssignable change.slot change.value × (change.adds ≡ false) → At text place (assignment_text change ++ rest) → Stops rest → IsNamed text place change
+unfolding named_change
+comments_named text place change rest are assignable at stops =
+    let written = written_name change.slot change.value in
+    let value = value_text change.value in
+    let tail = 32 ∷ 61 ∷ 32 ∷ (value ++ rest) in
+    let p1 = place + length are.first in
+    let p2 = p1 + 1 in
+    let p3 = p2 + length are.second in
+    let at_first : At text place (are.first ++ 32 ∷ (are.second ++ tail)) =
+    at
+    ∙ append_assoc (written ++ codes " = ") value rest
+    ∙ append_assoc written (codes " = ") (value ++ rest)
+    ∙ ap (λ (n : List ℕ). n ++ tail) are.spelt
+    ∙ append_assoc are.first (32 ∷ are.second) tail in
+    let at_gap : At text p1 (32 ∷ (are.second ++ tail)) = behind text place are.first _ at_first in
+    let at_second : At text p2 (are.second ++ tail) = behind_blank text p1 _ at_gap in
+    let g = given text p3 change rest assignable (behind text p2 are.second tail at_second) stops in
+    let t1 = token_of Executed place are.first in
+    let t2 = token_of Executed p2 are.second in
+    let is1 : bytes_of text t1 ≡ are.first = said text place Executed are.first _ at_first in
+    let is2 : bytes_of text t2 ≡ are.second = said text p2 Executed are.second tail at_second in
+    let size : p3 + (3 + length value) ≡ place + length (assignment_text change) =
+    omega (arith, length-append (written ++ codes " = ") value, length-append written (codes " = "), ap (length {A = ℕ}) are.spelt, length-append are.first (32 ∷ are.second)) in
+    let gives : assigned text (slot_of_comments (bytes_of text t1) (bytes_of text t2)) (g.equals ∷ g.values) ≡ Some change =
+    ap (λ n. assigned text (slot_of_comments n (bytes_of text t2)) (g.equals ∷ g.values)) is1
+    ∙ ap (λ n. assigned text (slot_of_comments are.first n) (g.equals ∷ g.values)) is2
+    ∙ ap (λ slot. assigned text slot (g.equals ∷ g.values)) are.names
+    ∙ g.gives in
+    record {
+      first = t1;
+      next = t2;
+      others = g.equals ∷ g.values;
+      scan =
+          scanned text place Executed are.first _ at_first (are.is_first _)
+          ∙ ap (λ (tokens : List Token). t1 ∷ tokens)
+          (past_blank text p1 _ at_gap
+          ∙ scanned text p2 Executed are.second tail at_second (are.is_second tail)
+          ∙ ap (λ (tokens : List Token). t2 ∷ tokens) (g.scan ∙ ap (λ n. g.equals ∷ g.values ++ tokens_behind text n) size));
+      alone = gives;
+      in_session = gives;
+      calm = calm_onto text t1 (t2 ∷ g.equals ∷ g.values) refl (calm_onto text t2 (g.equals ∷ g.values) refl g.calm);
+      no_session = refl;
+      no_server = refl;
+      no_transaction = refl;
+    }
+
+pub named : (text : List ℕ) (place : ℕ) (change : Change) (rest : List ℕ) → is_names change.slot ≡ false → IsAssignable change.slot change.value × (change.adds ≡ false) → At text place (assignment_text change ++ rest) → Stops rest → IsNamed text place change
+named text place change rest other assignable at stops =
+    elim (spelling change.slot change.value other) [
+      | inl spelt ↦ word_named text place change rest spelt assignable at stops
+      | inr are ↦ comments_named text place change rest are assignable at stops
+    ]
 
 -- the first of these tokens names nothing of the server
 abbrev pub IsUnscoped : (text : List ℕ) → List Token → Type 0
@@ -404,25 +479,19 @@ behind_calm text depth (token ∷ tokens) more is =
     cond-false (divides text depth token) _ _ (inner_divides text depth token both.0) ∙ behind_calm text (deeper text token depth) tokens more both.1
 
 -- `name = value`
-bare : (text : List ℕ) (place : ℕ) (change : Change) → is_names change.slot ≡ false → (n : IsNamed text place change) → IsAssignmentRead text place (length (assignment_text change)) change (token_of Word place (name_of change.slot) ∷ n.equals ∷ n.values)
+bare : (text : List ℕ) (place : ℕ) (change : Change) → (n : IsNamed text place change) → IsAssignmentRead text place (length (assignment_text change)) change (n.first ∷ n.next ∷ n.others)
 unfolding assignment
-bare text place change other n =
-    let token = token_of Word place (name_of change.slot) in
-    record {
-      scan = n.scan;
-      gives =
-          cond-false (is_session_word text token) _ _ (ap (λ name. same_text name (codes "SESSION") || same_text name (codes "LOCAL")) n.name ∙ no_session change.slot)
-          ∙ ap (λ name. assigned text (slot_named name) (n.equals ∷ n.values)) n.name
-          ∙ ap (λ slot. assigned text slot (n.equals ∷ n.values)) (named_again change.slot other)
-          ∙ n.gives;
-      calm = calm_onto text token (n.equals ∷ n.values) refl n.calm;
-      unscoped = ap is_server_scope n.name ∙ no_server change.slot;
-    }
+bare text place change n = record {
+  scan = n.scan;
+  gives = cond-false (is_session_word text n.first) _ _ n.no_session ∙ n.alone;
+  calm = n.calm;
+  unscoped = n.no_server;
+}
 
 -- `SESSION name = value`
-pub scoped : (text : List ℕ) (place : ℕ) (change : Change) (rest : List ℕ) → is_names change.slot ≡ false → At text place (codes "SESSION " ++ (assignment_text change ++ rest)) → (n : IsNamed text (place + 7 + 1) change) → IsAssignmentRead text place (8 + length (assignment_text change)) change (token_of Word place (codes "SESSION") ∷ token_of Word (place + 7 + 1) (name_of change.slot) ∷ n.equals ∷ n.values)
+pub scoped : (text : List ℕ) (place : ℕ) (change : Change) (rest : List ℕ) → At text place (codes "SESSION " ++ (assignment_text change ++ rest)) → (n : IsNamed text (place + 7 + 1) change) → IsAssignmentRead text place (8 + length (assignment_text change)) change (token_of Word place (codes "SESSION") ∷ n.first ∷ n.next ∷ n.others)
 unfolding assignment
-scoped text place change rest other at n =
+scoped text place change rest at n =
     let session = token_of Word place (codes "SESSION") in
     let is : bytes_of text session ≡ codes "SESSION" = said text place Word (codes "SESSION") (32 ∷ (assignment_text change ++ rest)) at in
     let at_blank : At text (place + 7) (32 ∷ (assignment_text change ++ rest)) = behind text place (codes "SESSION") (32 ∷ (assignment_text change ++ rest)) at in
@@ -430,13 +499,9 @@ scoped text place change rest other at n =
     record {
       scan =
           scanned text place Word (codes "SESSION") (32 ∷ (assignment_text change ++ rest)) at (word_piece (codes "SESSION") (32 ∷ (assignment_text change ++ rest)) (refl, refl) (inl refl))
-          ∙ ap (λ (tokens : List Token). session ∷ tokens) (past_blank text (place + 7) _ at_blank ∙ n.scan ∙ ap (λ k. token_of Word (place + 7 + 1) (name_of change.slot) ∷ n.equals ∷ n.values ++ tokens_behind text k) size);
-      gives =
-          cond-true (is_session_word text session) _ _ (ap (λ word. same_text word (codes "SESSION") || same_text word (codes "LOCAL")) is)
-          ∙ ap (λ name. assigned text (slot_named name) (n.equals ∷ n.values)) n.name
-          ∙ ap (λ slot. assigned text slot (n.equals ∷ n.values)) (named_again change.slot other)
-          ∙ n.gives;
-      calm = calm_onto text session (token_of Word (place + 7 + 1) (name_of change.slot) ∷ n.equals ∷ n.values) refl (calm_onto text (token_of Word (place + 7 + 1) (name_of change.slot)) (n.equals ∷ n.values) refl n.calm);
+          ∙ ap (λ (tokens : List Token). session ∷ tokens) (past_blank text (place + 7) _ at_blank ∙ n.scan ∙ ap (λ k. n.first ∷ n.next ∷ n.others ++ tokens_behind text k) size);
+      gives = cond-true (is_session_word text session) _ _ (ap (λ word. same_text word (codes "SESSION") || same_text word (codes "LOCAL")) is) ∙ n.in_session;
+      calm = calm_onto text session (n.first ∷ n.next ∷ n.others) refl n.calm;
       unscoped = ap is_server_scope is;
     }
 
@@ -486,9 +551,9 @@ list_read text place size change tokens (next ∷ changes) first assignable at =
     let at_gap : At text (place + size + 1) (32 ∷ there) = behind text (place + size) (44 ∷ []) (32 ∷ there) at_comma in
     let start = place + size + 1 + 1 in
     let at_next : At text start there = behind_blank text (place + size + 1) there at_gap in
-    let n = named text start next rest assignable.0.1 at_next (stops_before changes) in
-    let following = list_read text start (length (assignment_text next)) next (token_of Word start (name_of next.slot) ∷ n.equals ∷ n.values) changes (bare text start next assignable.0.0 n) assignable.1 (behind text start (assignment_text next) rest at_next) in
-    let others = (token_of Word start (name_of next.slot) ∷ n.equals ∷ n.values) ++ following.0 in
+    let n = named text start next rest assignable.0.0 assignable.0.1 at_next (stops_before changes) in
+    let following = list_read text start (length (assignment_text next)) next (n.first ∷ n.next ∷ n.others) changes (bare text start next n) assignable.1 (behind text start (assignment_text next) rest at_next) in
+    let others = (n.first ∷ n.next ∷ n.others) ++ following.0 in
     let is_comma_here : divides text 0 comma ≡ true = ap (λ found. found && true) (ap (λ bytes. bytes_eq bytes (44 ∷ [])) comma_is) in
     let no_opening : is_symbol text comma 40 ≡ false = ap (λ bytes. bytes_eq bytes (40 ∷ [])) comma_is in
     let no_closing : is_symbol text comma 41 ≡ false = ap (λ bytes. bytes_eq bytes (41 ∷ [])) comma_is in

@@ -5,7 +5,7 @@ use Rattle.std.proofs.lemmas.Bool.{cond-true, cond-false, and_from, and_left, an
 use Rattle.std.proofs.lemmas.Result.{IfOk-weaker}
 use Rattle.sql_tokens.specs.Words.{bytes_of, is_symbol, is_symbol_kind, word_of, says}
 use Rattle.sql_tokens.specs.declared.token.Token.{Token}
-use Rattle.session_vars.specs.Assignments.{assigned, assignment, part_changes, assignments}
+use Rattle.session_vars.specs.Assignments.{assignment, part_changes, assignments, slot_of_name}
 use Rattle.session_vars.specs.Scopes.{before_comma, deeper, divides}
 use Rattle.session_vars.specs.Shapes.{own_changes}
 use Rattle.session_vars.specs.Statement.{says_first, is_session_word, begins_with_session}
@@ -13,7 +13,7 @@ use Rattle.session_vars.specs.Transactions.{mode_of, transaction_mode, mode_chan
 use Rattle.session_vars.specs.declared.change.Change.{Change}
 use Rattle.session_vars.proofs.First.{no_symbol}
 use Rattle.session_vars.proofs.Parts.{none_assigned}
-use Rattle.session_vars.proofs.Unnamed.{one_part, session_no_names, transaction_unnamed}
+use Rattle.session_vars.proofs.Unnamed.{one_part, session_no_names, transaction_unnamed, unnamed_change, word_plain}
 
 pub no_mode : (text : List ℕ) (scope token : Token) (tokens : List Token) → says text token (codes "TRANSACTION") ≡ false → transaction_mode text (scope ∷ token ∷ tokens) ≡ None
 unfolding transaction_mode
@@ -54,7 +54,7 @@ session_no_symbol text token is =
     ]
 
 transaction_unassigned : (text : List ℕ) (scope token : Token) (tokens : List Token) → is_session_word text scope ≡ true → says text token (codes "TRANSACTION") ≡ true → assignments text (scope ∷ token ∷ tokens) ≡ None
-unfolding assignment assigned
+unfolding assignment
 transaction_unassigned text scope token tokens is transaction =
     let inner = deeper text scope 0 in
     let rest = before_comma text (deeper text token inner) tokens in
@@ -65,7 +65,8 @@ transaction_unassigned text scope token tokens is transaction =
     (ap (part_changes text) front
     ∙ one_part text (scope ∷ token ∷ rest) (session_no_names text (scope ∷ token ∷ rest) is)
     ∙ ap (option_map (λ change. change ∷ []))
-    (cond-true (is_session_word text scope) _ _ is ∙ ap (λ slot. assigned text slot rest) (transaction_unnamed (word_of text token) transaction)))
+    (cond-true (is_session_word text scope) _ _ is
+    ∙ unnamed_change text (slot_of_name text token) token rest (word_plain token.kind (bytes_of text token) (codes "TRANSACTION") transaction) (transaction_unnamed (word_of text token) transaction)))
 
 mode_alone_by : (text : List ℕ) (scope token : Token) (tokens : List Token) → is_session_word text scope ≡ true → says text token (codes "TRANSACTION") ≡ true → own_changes text (scope ∷ token ∷ tokens) ≡ mode_changes (mode_of text tokens)
 unfolding transaction_mode

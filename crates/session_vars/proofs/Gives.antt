@@ -13,11 +13,11 @@ use Rattle.sql_tokens.proofs.OneList.{are_tokens}
 use Rattle.session_vars.specs.Statement.{is_comment, without_comments, without_end, statement_of}
 use Rattle.session_vars.specs.Texts.{is_names, value_text}
 use Rattle.session_vars.specs.Tracked.{IsOneToken, IsAssignable, IsTrackedValue}
-use Rattle.session_vars.specs.Values.{kept, is_plain_byte, is_default, plain_value, is_character_set, has_reading_mode, may_be, value_of, takes_numbers, negative_value}
+use Rattle.session_vars.specs.Values.{kept, is_plain_byte, is_default, plain_value, is_character_set, names_collation, has_reading_mode, may_be, value_of, takes_numbers, negative_value}
 use Rattle.session_vars.specs.declared.change.SlotValue.{SlotValue}
 use Rattle.session_vars.specs.declared.change.SlotValue.TheVariants.{Default, Text}
 use Rattle.session_vars.specs.declared.slot.Slot.{Slot}
-use Rattle.session_vars.specs.declared.slot.Slot.TheVariants.{Names, CharacterSetResults, SqlMode, SqlAutoIsNull}
+use Rattle.session_vars.specs.declared.slot.Slot.TheVariants.{Names, CharacterSetResults, CollationConnection, SqlMode, SqlAutoIsNull}
 use Rattle.session_vars.proofs.OneToken.{word_front, number_front, alone, some_if, kept_is, quoted_value}
 use Rattle.session_vars.proofs.Rules.{IsWordText, IsNumberText, in_quotes, inside_quotes, word_piece, number_piece, quoted_piece}
 
@@ -70,6 +70,8 @@ pub assignable_tracked : (slot : Slot) (value : SlotValue) → is_names slot ≡
 assignable_tracked Names value other assignable = absurd (cc)
 assignable_tracked CharacterSetResults Default other assignable = tt
 assignable_tracked CharacterSetResults (Text bytes) other assignable = assignable
+assignable_tracked CollationConnection Default other assignable = tt
+assignable_tracked CollationConnection (Text bytes) other assignable = assignable
 assignable_tracked _ value other assignable = assignable
 
 default_word : IsOneToken Word (codes "DEFAULT")
@@ -79,10 +81,12 @@ pub default_tracked : (slot : Slot) → is_names slot ≡ false → IsTrackedVal
 unfolding value_of plain_value
 default_tracked Names other = absurd (cc)
 default_tracked CharacterSetResults other = tt
+default_tracked CollationConnection other = tt
 default_tracked _ other = inl (record { kind = Word; token = default_word; gives = refl })
 
 abbrev may_be_inside : Slot → List ℕ → Bool
 may_be_inside CharacterSetResults text = is_character_set text
+may_be_inside CollationConnection text = names_collation text
 may_be_inside SqlMode text = not (has_reading_mode text)
 may_be_inside SqlAutoIsNull text = false
 may_be_inside _ text = true
@@ -93,6 +97,7 @@ quoted_by slot text = cond (may_be_inside slot text) (cond (list_all is_plain_by
 quoted_is : (slot : Slot) (bytes : List ℕ) → value_of slot Quoted bytes ≡ quoted_by slot (inside bytes)
 unfolding value_of plain_value
 quoted_is CharacterSetResults bytes = refl
+quoted_is CollationConnection bytes = refl
 quoted_is SqlMode bytes = refl
 quoted_is SqlAutoIsNull bytes = refl
 quoted_is _ bytes = refl

@@ -1,5 +1,5 @@
 -- Settings that SET statements change stay tracked.
-use Rattle.std.proofs.Common.{◌≡◌, ◌⊎◌, ◌≤◌, ◌<◌, ℕ, ◌+◌, Bool, true, false, not, ◌&&◌, cond, nat_eq, nat_lt, bytes_eq, List, [], ◌∷◌, ◌++◌, Option, Some, None, length, set, take, drop, codes, find, option_map, option_and_then, slice_set, refl, sym, subst, ◌∙◌, ap, inl, inr, arith}
+use Rattle.std.proofs.Common.{◌≡◌, ◌⊎◌, ◌≤◌, ◌<◌, ℕ, ◌+◌, Bool, true, false, not, ◌&&◌, cond, nat_eq, nat_lt, bytes_eq, List, [], ◌∷◌, ◌++◌, Option, Some, None, length, set, take, drop, codes, find, option_map, option_and_then, slice_set, map, refl, sym, subst, ◌∙◌, ap, inl, inr, arith}
 use Rattle.std.specs.Char.{to_ascii_lowercase, is_ascii_digit}
 use Rattle.std.specs.Option.{option_or}
 use Rattle.std.specs.List.{list_all, list_any, onto_first, slice_get}
@@ -12,13 +12,13 @@ use Rattle.sql_tokens.specs.Words.{bytes_of, inside, word_of, is_symbol, same_te
 use Rattle.sql_tokens.specs.declared.token.Token.{Token}
 use Rattle.sql_tokens.specs.declared.token.TokenKind.{TokenKind}
 use Rattle.sql_tokens.specs.declared.token.TokenKind.TheVariants.{Word, Quoted, Name, Number, SysVar}
-use Rattle.session_vars.specs.Assignments.{slot_of_variable, slot_of_name, slot_by, change_to, written, behind_colon, assigned, assignment, all_assigned, assignments, part_changes, with_changes}
+use Rattle.session_vars.specs.Assignments.{slot_of_variable, slot_of_name, slot_by, change_to, written, behind_colon, assigned, is_executed, named_change, assignment, all_assigned, assignments, part_changes, with_changes}
 use Rattle.session_vars.specs.Modes.{added_to, takes_modes}
 use Rattle.session_vars.specs.Names.{is_one_word_by, is_one_word, character_set, collation, lower_case, collated, names_value, names_changes}
 use Rattle.session_vars.specs.Scopes.{deeper, divides, parts_of, sets_server}
 use Rattle.session_vars.specs.Settings.{value_at, value_after, changed, applied}
 use Rattle.session_vars.specs.Shapes.{own_changes, own_shape, sets_mode_once, with_last_mode, tracked_or_other, shape_behind, shape_by, set_shape}
-use Rattle.session_vars.specs.Slots.{name_of, all_slots, assigned_slots, place_of, slot_named, unless_transaction}
+use Rattle.session_vars.specs.Slots.{all_slots, assigned_slots, is_named, mariadb_isolation, mariadb_read_only, mysql_isolation, mysql_read_only, place_of, slot_named, slot_of_comments, unless_transaction}
 use Rattle.session_vars.specs.Statement.{says_first, is_session_word, spoken_by, statement_of}
 use Rattle.session_vars.specs.Texts.{is_names}
 use Rattle.session_vars.specs.Tracked.{IsAssignable, IsCharacterSet, IsTrackedValue, AreTracked}
@@ -30,7 +30,7 @@ use Rattle.session_vars.specs.declared.change.SlotValue.TheVariants.{Default, Te
 use Rattle.session_vars.specs.declared.shape.SetShape.{SetShape}
 use Rattle.session_vars.specs.declared.shape.SetShape.TheVariants.{Tracked, Global, NextTransaction, NotSet}
 use Rattle.session_vars.specs.declared.slot.Slot.{Slot}
-use Rattle.session_vars.specs.declared.slot.Slot.TheVariants.{Names, CharacterSetResults, SqlMode, TransactionIsolation, TransactionReadOnly}
+use Rattle.session_vars.specs.declared.slot.Slot.TheVariants.{Names, CharacterSetResults, CollationConnection, SqlMode, TransactionIsolation, TransactionReadOnly}
 use Rattle.session_vars.specs.declared.transaction.Mode.{Mode}
 use Rattle.session_vars.specs.declared.transaction.Mode.TheVariants.{ReadUncommitted, ReadCommitted, RepeatableRead, Serializable, ReadOnly, ReadWrite}
 use Rattle.session_vars.proofs.Added.{AddsModes, IsReadChange, added_tracked, joined_tracked}
@@ -67,7 +67,7 @@ other_of Names other = absurd (cc)
 other_of _ other = refl
 
 named_other : (name : List ℕ) (slot : Slot) → slot_named name ≡ Some slot → is_names slot ≡ false
-named_other name slot is = other_of slot (find_passes (λ known. same_text name (name_of known)) is_other assigned_slots slot refl is)
+named_other name slot is = other_of slot (find_passes (is_named (map to_ascii_lowercase name)) is_other assigned_slots slot refl is)
 
 some_unless : (found : Option Slot) (slot : Slot) → option_and_then unless_transaction found ≡ Some slot → found ≡ Some slot
 some_unless None slot is = absurd (cc)
@@ -130,14 +130,37 @@ assigned_tracked text (Some slot) (equals ∷ tokens) change other are is =
       | inr e ↦ colon_tracked text slot equals tokens change (other slot refl) are.1 (some_if (is_symbol text equals 58) _ change (sym (cond-false (is_symbol text equals 61) _ _ e) ∙ is)).1
     ]
 
+other_some : (known slot : Slot) → is_names known ≡ false → Some known ≡ Some slot → is_names slot ≡ false
+other_some known slot other is = let same : known ≡ slot = cc in subst (λ (s : Slot). is_names s ≡ false) same other
+
+comments_other : (first second : List ℕ) (slot : Slot) → slot_of_comments first second ≡ Some slot → is_names slot ≡ false
+unfolding slot_of_comments
+comments_other first second slot is =
+    let IsOther : Option Slot → Type 0 = λ found. found ≡ Some slot → is_names slot ≡ false in
+    let read_only = bytes_eq first mariadb_read_only && bytes_eq second mysql_read_only in
+    cond_both (bytes_eq first mariadb_isolation && bytes_eq second mysql_isolation) (Some TransactionIsolation) (cond read_only (Some TransactionReadOnly) None) IsOther
+    (λ _ here. other_some TransactionIsolation slot refl here)
+    (λ _. cond_both read_only (Some TransactionReadOnly) None IsOther (λ _ here. other_some TransactionReadOnly slot refl here) (λ _ here. absurd (cc))) is
+
+named_tracked : (text : List ℕ) (found : Option Slot) (name : Token) (tokens : List Token) (change : Change) → ((slot : Slot) → found ≡ Some slot → is_names slot ≡ false) → AreFound text tokens → named_change text found name tokens ≡ Some change → IsTrackedChange change
+unfolding named_change
+named_tracked text found name [] change other are is = absurd (cc)
+named_tracked text found name (next ∷ tokens) change other are is =
+    elim (cases_Bool (is_executed name.kind)) [
+      | inl e ↦
+          let slot = slot_of_comments (bytes_of text name) (bytes_of text next) in
+          assigned_tracked text slot tokens change (comments_other (bytes_of text name) (bytes_of text next)) are.1 (sym (cond-true (is_executed name.kind) _ _ e) ∙ is)
+      | inr e ↦ assigned_tracked text found (next ∷ tokens) change other are (sym (cond-false (is_executed name.kind) _ _ e) ∙ is)
+    ]
+
 assignment_tracked : (text : List ℕ) (tokens : List Token) (change : Change) → AreFound text tokens → assignment text tokens ≡ Some change → IsTrackedChange change
 unfolding assignment
 assignment_tracked text [] change are is = absurd (cc)
 assignment_tracked text (scope ∷ []) change are is = absurd (cc)
 assignment_tracked text (scope ∷ name ∷ tokens) change are is =
     elim (cases_Bool (is_session_word text scope)) [
-      | inl e ↦ assigned_tracked text (slot_of_name text name) tokens change (some_named (word_of text name)) are.1.1 (sym (cond-true (is_session_word text scope) _ _ e) ∙ is)
-      | inr e ↦ assigned_tracked text (slot_by scope.kind (bytes_of text scope)) (name ∷ tokens) change (slot_other scope.kind (bytes_of text scope)) are.1 (sym (cond-false (is_session_word text scope) _ _ e) ∙ is)
+      | inl e ↦ named_tracked text (slot_of_name text name) name tokens change (some_named (word_of text name)) are.1.1 (sym (cond-true (is_session_word text scope) _ _ e) ∙ is)
+      | inr e ↦ named_tracked text (slot_by scope.kind (bytes_of text scope)) scope (name ∷ tokens) change (slot_other scope.kind (bytes_of text scope)) are.1 (sym (cond-false (is_session_word text scope) _ _ e) ∙ is)
     ]
 
 -- and so do assignments with commas between them
@@ -278,8 +301,8 @@ names_tracked text (names ∷ set ∷ collate ∷ name ∷ more ∷ tokens) valu
 names_changes_tracked : (value : Option (List ℕ)) (changes : List Change) → ((name : List ℕ) → value ≡ Some name → IsTrackedValue Names (Text name)) → names_changes value ≡ Some changes → AreTrackedChanges changes
 names_changes_tracked None changes tracked is = absurd (cc)
 names_changes_tracked (Some value) changes tracked is =
-    let same : record { slot = Names; value = Text value; adds = false } ∷ record { slot = CharacterSetResults; value = Default; adds = false } ∷ [] ≡ changes = cc in
-    subst AreTrackedChanges same (inl (refl, tracked value refl), (inl (refl, tt), tt))
+    let same : record { slot = Names; value = Text value; adds = false } ∷ record { slot = CharacterSetResults; value = Default; adds = false } ∷ record { slot = CollationConnection; value = Default; adds = false } ∷ [] ≡ changes = cc in
+    subst AreTrackedChanges same (inl (refl, tracked value refl), (inl (refl, tt), (inl (refl, tt), tt)))
 
 -- where there are changes, all are
 abbrev AllTracked : Option (List Change) → Type 0
@@ -355,7 +378,7 @@ at_place _ = refl
 one_slot : (a b : Slot) → place_of a ≡ place_of b → a ≡ b
 one_slot a b same = let both : Some a ≡ Some b = sym (at_place a) ∙ ap (slice_get all_slots) same ∙ at_place b in cc
 
-within : (slot : Slot) → place_of slot < 33
+within : (slot : Slot) → place_of slot < 67
 within Names = omega arith
 within _ = omega arith
 

@@ -5,6 +5,7 @@ pub mod Alike
 pub mod Assigned
 pub mod BothLead
 pub mod Collations
+pub mod Comments
 pub mod Dispatch
 pub mod First
 pub mod Gives

@@ -24,7 +24,7 @@ use Rattle.session_vars.specs.Assignments.{all_assigned, assignment, assignments
 use Rattle.session_vars.specs.Values.{character_sets, is_character_set}
 use Rattle.session_vars.specs.declared.change.Change.{Change}
 use Rattle.session_vars.specs.declared.change.SlotValue.TheVariants.{Default, Text}
-use Rattle.session_vars.specs.declared.slot.Slot.TheVariants.{Names, CharacterSetResults}
+use Rattle.session_vars.specs.declared.slot.Slot.TheVariants.{Names, CharacterSetResults, CollationConnection}
 use Rattle.session_vars.specs.declared.shape.SetShape.TheVariants.{Tracked}
 use Rattle.session_vars.proofs.Dispatch.{other_mode}
 use Rattle.session_vars.proofs.OneToken.{word_text}
@@ -106,7 +106,7 @@ names_read text rest is =
 
 -- the changes that SET NAMES makes
 abbrev pub changes_to : List ℕ → List Change
-changes_to value = record { slot = Names; value = Text value; adds = false } ∷ record { slot = CharacterSetResults; value = Default; adds = false } ∷ []
+changes_to value = record { slot = Names; value = Text value; adds = false } ∷ record { slot = CharacterSetResults; value = Default; adds = false } ∷ record { slot = CollationConnection; value = Default; adds = false } ∷ []
 
 -- a statement of which SET NAMES reads a value
 names_shape : (text rest value : List ℕ) (tokens : List Token) → IsNamesRead text rest → statement_of text ≡ token_of Word 0 (codes "SET") ∷ token_of Word 4 (codes "NAMES") ∷ tokens → sets_server text 0 false tokens ≡ false → parts_of text 0 (token_of Word 4 (codes "NAMES") ∷ tokens) ≡ (token_of Word 4 (codes "NAMES") ∷ tokens) ∷ [] → names_value text (token_of Word 4 (codes "NAMES") ∷ tokens) ≡ Some value → set_shape text ≡ Tracked (changes_to value)

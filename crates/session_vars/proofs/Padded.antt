@@ -26,22 +26,22 @@ at_padding (v ∷ values) n (suc place) = at_padding values n place
 pub padded_value : (values : List SlotValue) (place : ℕ) (otherwise : SlotValue) → otherwise ≡ Default
     → slice_index_or (padded values) place Default ≡ slice_index_or values place otherwise
 padded_value values place otherwise is =
-    at_padding values (33 - length values) place ∙ ap (λ (d : SlotValue). slice_index_or values place d) (sym is)
+    at_padding values (67 - length values) place ∙ ap (λ (d : SlotValue). slice_index_or values place d) (sym is)
 
-pub padded_length : (values : List SlotValue) → length values ≤ 33 → length (padded values) ≡ 33
+pub padded_length : (values : List SlotValue) → length values ≤ 67 → length (padded values) ≡ 67
 padded_length values few =
-    omega (arith, length-append values (replicate (33 - length values) Default), length-replicate (33 - length values) Default)
+    omega (arith, length-append values (replicate (67 - length values) Default), length-replicate (67 - length values) Default)
 
-pub padded_more : (values : List SlotValue) → length values < 33 → padded (values ++ Default ∷ []) ≡ padded values
+pub padded_more : (values : List SlotValue) → length values < 67 → padded (values ++ Default ∷ []) ≡ padded values
 padded_more values few =
     let more : length (values ++ Default ∷ []) ≡ suc (length values) = omega (arith, length-append values (Default ∷ [])) in
-    let left : 33 - length values ≡ suc (33 - suc (length values)) = omega arith in
-    ap (λ n. (values ++ Default ∷ []) ++ replicate (33 - n) Default) more
-    ∙ append_assoc values (Default ∷ []) (replicate (33 - suc (length values)) Default)
+    let left : 67 - length values ≡ suc (67 - suc (length values)) = omega arith in
+    ap (λ n. (values ++ Default ∷ []) ++ replicate (67 - n) Default) more
+    ∙ append_assoc values (Default ∷ []) (replicate (67 - suc (length values)) Default)
     ∙ ap (λ n. values ++ replicate n Default) (sym left)
 
 pub padded_set : (values : List SlotValue) (place : ℕ) (value : SlotValue) → place < length values
     → padded (slice_set values place value) ≡ slice_set (padded values) place value
 padded_set values place value inside =
-    ap (λ n. slice_set values place value ++ replicate (33 - n) Default) (length-set values place value)
-    ∙ sym (set-append_left values (replicate (33 - length values) Default) place value inside)
+    ap (λ n. slice_set values place value ++ replicate (67 - n) Default) (length-set values place value)
+    ∙ sym (set-append_left values (replicate (67 - length values) Default) place value inside)

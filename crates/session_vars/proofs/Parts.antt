@@ -1,18 +1,20 @@
 -- The parts of a SET statement, one after the other.
-use Rattle.std.proofs.Common.{◌≡◌, ◌≤◌, ℕ, Bool, true, false, ◌&&◌, nat_eq, nat_le, length, arith, List, [], ◌∷◌, ◌++◌, take, cond, Option, Some, None, option_map, refl, sym, ◌∙◌, ap, inl, inr, append_assoc}
+use Rattle.std.proofs.Common.{◌≡◌, ◌≤◌, ℕ, Bool, true, false, ◌&&◌, bytes_eq, nat_eq, nat_le, length, arith, List, [], ◌∷◌, ◌++◌, take, cond, Option, Some, None, option_map, refl, sym, ◌∙◌, ap, inl, inr, append_assoc}
 use Rattle.std.specs.List.{onto_first}
 use Rattle.std.specs.Option.{option_or}
-use Rattle.std.proofs.lemmas.Bool.{cond-true, cond-false, cases_Bool, cases_lt, and_right, lt-leb}
+use Rattle.std.proofs.lemmas.Bool.{cond-true, cond-false, cond_both, cases_Bool, cases_lt, and_left, and_right, lt-leb}
 use Rattle.std.proofs.lemmas.List.{append-nil, take_all, length-take-le}
 use Rattle.sql_tokens.specs.declared.token.Token.{Token}
 use Rattle.sql_tokens.specs.Words.{bytes_of, is_symbol}
-use Rattle.session_vars.specs.Assignments.{assigned, assignment, assignments, all_assigned, assigned_behind, behind_colon, part_changes, slot_by, slot_of_name, with_changes, written}
+use Rattle.session_vars.specs.Assignments.{assigned, assignment, assignments, all_assigned, assigned_behind, behind_colon, is_executed, named_change, part_changes, slot_by, slot_of_name, with_changes, written}
 use Rattle.session_vars.specs.Modes.{joined, takes_modes}
 use Rattle.session_vars.specs.Names.{names_value, names_changes}
 use Rattle.session_vars.specs.Scopes.{before_comma, behind_comma, deeper, divides, parts_of}
+use Rattle.session_vars.specs.Slots.{mariadb_isolation, mariadb_read_only, mysql_isolation, mysql_read_only, slot_of_comments}
 use Rattle.session_vars.specs.Statement.{is_session_word}
 use Rattle.session_vars.specs.declared.change.Change.{Change}
 use Rattle.session_vars.specs.declared.slot.Slot.{Slot}
+use Rattle.session_vars.specs.declared.slot.Slot.TheVariants.{TransactionIsolation, TransactionReadOnly}
 
 -- the parts behind a comma
 abbrev pub parts_behind : (text : List ℕ) → Option (List Token) → List (List Token)
@@ -116,14 +118,70 @@ long_assigned text (Some slot) (equals ∷ tokens) long =
           ]
     ]
 
+-- a setting that isn't the mode takes no more than two
+plain_written : (text : List ℕ) (slot : Slot) (tokens : List Token) → takes_modes slot ≡ false → 3 ≤ length tokens → written text slot tokens ≡ None
+unfolding written joined
+plain_written text slot [] plain long = absurd (omega arith)
+plain_written text slot (a ∷ []) plain long = absurd (omega arith)
+plain_written text slot (a ∷ b ∷ []) plain long = absurd (omega arith)
+plain_written text slot (a ∷ b ∷ c ∷ tokens) plain long = cond-false (takes_modes slot && nat_le (length (a ∷ b ∷ c ∷ tokens)) 60) _ _ (and_left _ _ plain)
+
+plain_colon : (text : List ℕ) (slot : Slot) (colon : Token) (tokens : List Token) → takes_modes slot ≡ false → 4 ≤ length tokens → behind_colon text slot colon tokens ≡ None
+unfolding behind_colon
+plain_colon text slot colon [] plain long = refl
+plain_colon text slot colon (equals ∷ tokens) plain long =
+    elim (cases_Bool (is_symbol text equals 61 && nat_eq colon.end equals.start)) [
+      | inl e ↦ cond-true _ _ _ e ∙ plain_written text slot tokens plain (omega arith)
+      | inr e ↦ cond-false _ _ _ e
+    ]
+
+plain_assigned : (text : List ℕ) (slot : Slot) (tokens : List Token) → takes_modes slot ≡ false → 5 ≤ length tokens → assigned text (Some slot) tokens ≡ None
+unfolding assigned
+plain_assigned text slot [] plain long = refl
+plain_assigned text slot (equals ∷ tokens) plain long =
+    elim (cases_Bool (is_symbol text equals 61)) [
+      | inl e ↦ cond-true (is_symbol text equals 61) _ _ e ∙ plain_written text slot tokens plain (omega arith)
+      | inr e ↦
+          cond-false (is_symbol text equals 61) _ _ e
+          ∙ elim (cases_Bool (is_symbol text equals 58)) [
+            | inl f ↦ cond-true (is_symbol text equals 58) _ _ f ∙ plain_colon text slot equals tokens plain (omega arith)
+            | inr f ↦ cond-false (is_symbol text equals 58) _ _ f
+          ]
+    ]
+
+none_assigned_to : (text : List ℕ) (tokens : List Token) → assigned text None tokens ≡ None
+unfolding assigned
+none_assigned_to text tokens = refl
+
+-- as those that comments name
+long_comments : (text first second : List ℕ) (tokens : List Token) → 62 ≤ length tokens → assigned text (slot_of_comments first second) tokens ≡ None
+unfolding slot_of_comments
+long_comments text first second tokens long =
+    let IsNone : Option Slot → Type 0 = λ found. assigned text found tokens ≡ None in
+    let read_only = bytes_eq first mariadb_read_only && bytes_eq second mysql_read_only in
+    cond_both (bytes_eq first mariadb_isolation && bytes_eq second mysql_isolation) (Some TransactionIsolation) (cond read_only (Some TransactionReadOnly) None) IsNone
+    (λ _. plain_assigned text TransactionIsolation tokens refl (omega arith))
+    (λ _. cond_both read_only (Some TransactionReadOnly) None IsNone
+    (λ _. plain_assigned text TransactionReadOnly tokens refl (omega arith))
+    (λ _. none_assigned_to text tokens))
+
+long_named : (text : List ℕ) (slot : Option Slot) (name : Token) (tokens : List Token) → 63 ≤ length tokens → named_change text slot name tokens ≡ None
+unfolding named_change
+long_named text slot name [] long = refl
+long_named text slot name (next ∷ tokens) long =
+    elim (cases_Bool (is_executed name.kind)) [
+      | inl e ↦ cond-true (is_executed name.kind) _ _ e ∙ long_comments text (bytes_of text name) (bytes_of text next) tokens (omega arith)
+      | inr e ↦ cond-false (is_executed name.kind) _ _ e ∙ long_assigned text slot (next ∷ tokens) long
+    ]
+
 long_assignment : (text : List ℕ) (tokens : List Token) → 65 ≤ length tokens → assignment text tokens ≡ None
 unfolding assignment
 long_assignment text [] long = refl
 long_assignment text (a ∷ []) long = refl
 long_assignment text (a ∷ b ∷ tokens) long =
     elim (cases_Bool (is_session_word text a)) [
-      | inl e ↦ cond-true (is_session_word text a) _ _ e ∙ long_assigned text (slot_of_name text b) tokens (omega arith)
-      | inr e ↦ cond-false (is_session_word text a) _ _ e ∙ long_assigned text (slot_by a.kind (bytes_of text a)) (b ∷ tokens) (omega arith)
+      | inl e ↦ cond-true (is_session_word text a) _ _ e ∙ long_named text (slot_of_name text b) b tokens (omega arith)
+      | inr e ↦ cond-false (is_session_word text a) _ _ e ∙ long_named text (slot_by a.kind (bytes_of text a)) a (b ∷ tokens) (omega arith)
     ]
 
 -- and so many are no SET NAMES

@@ -15,7 +15,7 @@ use Rattle.session_vars.specs.declared.change.SlotValue.{SlotValue}
 use Rattle.session_vars.specs.declared.change.SlotValue.TheVariants.{Default, Text}
 use Rattle.session_vars.specs.declared.shape.SetShape.TheVariants.{Tracked}
 use Rattle.session_vars.specs.declared.slot.Slot.{Slot}
-use Rattle.session_vars.specs.declared.slot.Slot.TheVariants.{Names, CharacterSetResults}
+use Rattle.session_vars.specs.declared.slot.Slot.TheVariants.{Names, CharacterSetResults, CollationConnection}
 use Rattle.session_vars.proofs.Again.{session_again}
 use Rattle.session_vars.proofs.Assigned.{AreAssignable}
 use Rattle.session_vars.proofs.NamesAgain.{names_again}
@@ -28,6 +28,8 @@ tracked_assignable : (slot : Slot) (value : SlotValue) → IsTrackedValue slot v
 tracked_assignable Names value tracked assigned = absurd (cc)
 tracked_assignable CharacterSetResults Default tracked assigned = absurd (cc)
 tracked_assignable CharacterSetResults (Text bytes) tracked assigned = (refl, tracked)
+tracked_assignable CollationConnection Default tracked assigned = absurd (cc)
+tracked_assignable CollationConnection (Text bytes) tracked assigned = (refl, tracked)
 tracked_assignable _ value tracked assigned = (refl, tracked)
 
 pub assignable : (from to : List SlotValue) (slots : List Slot) → AreTracked to → AreAssignable (filter is_assigned (changes_of from to slots))
@@ -77,7 +79,7 @@ none_found (change ∷ changes) none =
     ∙ ap (λ (found : Option Change). option_or found (find is_names_change (change ∷ []))) (none_found changes parts.1)
     ∙ cond-false (is_names change.slot) (Some change) None parts.0
 
-names_said : (value : SlotValue) (text : List ℕ) → IsTrackedValue Names value → text ≡ codes "SET NAMES " ++ value_text value → set_shape text ≡ Tracked (change_of Names value ∷ change_of CharacterSetResults Default ∷ [])
+names_said : (value : SlotValue) (text : List ℕ) → IsTrackedValue Names value → text ≡ codes "SET NAMES " ++ value_text value → set_shape text ≡ Tracked (change_of Names value ∷ change_of CharacterSetResults Default ∷ change_of CollationConnection Default ∷ [])
 names_said Default text tracked is = absurd tracked
 names_said (Text bytes) text tracked is = names_again text bytes is tracked
 
@@ -97,7 +99,7 @@ names_written from to changed =
 pub names_unwritten : (from to : List SlotValue) → has_to_change from to Names ≡ false → names_text (difference_of from to) ≡ None
 names_unwritten from to same = ap statement_of_last (cond-false (has_to_change from to Names) _ _ same) ∙ ap (option_map names_statement) (no_others from to)
 
-pub names_read_again : (from to : List SlotValue) (text : List ℕ) → AreTracked to → names_text (difference_of from to) ≡ Some text → set_shape text ≡ Tracked (change_of Names (value_at to Names) ∷ change_of CharacterSetResults Default ∷ [])
+pub names_read_again : (from to : List SlotValue) (text : List ℕ) → AreTracked to → names_text (difference_of from to) ≡ Some text → set_shape text ≡ Tracked (change_of Names (value_at to Names) ∷ change_of CharacterSetResults Default ∷ change_of CollationConnection Default ∷ [])
 names_read_again from to text tracked is =
     elim (cases_Bool (has_to_change from to Names)) [
       | inl e ↦ let same = sym (names_written from to e) ∙ is in names_said (value_at to Names) text (tracked.1 Names) (cc)

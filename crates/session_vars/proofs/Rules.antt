@@ -60,7 +60,7 @@ dark_by p b is apart =
       | inr dark ↦ dark
     ]
 
-is_first : (b : ℕ) (bytes : List ℕ) → has_byte (b ∷ bytes) 0 b ≡ true
+pub is_first : (b : ℕ) (bytes : List ℕ) → has_byte (b ∷ bytes) 0 b ≡ true
 is_first b bytes = and_from (nat_lt 0 (length (b ∷ bytes))) (nat_eq b b) (lt-ltb 0 (length (b ∷ bytes)) (omega arith)) (eq-eqb b b refl)
 
 -- a number, or a word, or a symbol

@@ -7,10 +7,10 @@ use Rattle.std.proofs.lemmas.Bool.{cond-false, cases_Bool, and_left, or_cases, o
 use Rattle.sql_tokens.specs.Words.{bytes_of, inside, word_by, word_of, is_word, says, same_text}
 use Rattle.sql_tokens.specs.declared.token.Token.{Token}
 use Rattle.sql_tokens.specs.declared.token.TokenKind.{TokenKind}
-use Rattle.sql_tokens.specs.declared.token.TokenKind.TheVariants.{Word, Name}
-use Rattle.session_vars.specs.Assignments.{slot_by, assigned, assignment, part_changes}
+use Rattle.sql_tokens.specs.declared.token.TokenKind.TheVariants.{Word, Name, Executed}
+use Rattle.session_vars.specs.Assignments.{slot_by, assigned, is_executed, named_change, assignment, part_changes}
 use Rattle.session_vars.specs.Names.{names_value, names_changes}
-use Rattle.session_vars.specs.Slots.{name_of, assigned_slots, slot_named}
+use Rattle.session_vars.specs.Slots.{assigned_slots, is_named, slot_named}
 use Rattle.session_vars.specs.Statement.{says_first, is_session_word, begins_with_session}
 use Rattle.session_vars.specs.declared.change.Change.{Change}
 use Rattle.session_vars.specs.declared.slot.Slot.{Slot}
@@ -37,7 +37,7 @@ apart (Some name) word other differ is = ap (λ lower. bytes_eq lower (map to_as
 
 -- and such a word names no setting
 slot_in : List ℕ → Option Slot
-slot_in lower = find (λ slot. bytes_eq lower (map to_ascii_lowercase (name_of slot))) assigned_slots
+slot_in lower = find (is_named lower) assigned_slots
 
 unnamed : (name word : List ℕ) → slot_in (map to_ascii_lowercase word) ≡ None → same_text name word ≡ true → slot_named name ≡ None
 unfolding slot_in
@@ -64,15 +64,26 @@ session_no_names text (token ∷ tokens) is =
 names_no_session : (text : List ℕ) (token : Token) → says text token (codes "NAMES") ≡ true → is_session_word text token ≡ false
 names_no_session text token is = or_from _ _ (apart (word_of text token) (codes "NAMES") (codes "SESSION") refl is) (apart (word_of text token) (codes "NAMES") (codes "LOCAL") refl is)
 
-unassigned : (text : List ℕ) (token : Token) (tokens : List Token) → is_session_word text token ≡ false → slot_by token.kind (bytes_of text token) ≡ None → assignment text (token ∷ tokens) ≡ None
-unfolding assignment assigned
-unassigned text token [] other none = refl
-unassigned text token (next ∷ tokens) other none = cond-false (is_session_word text token) _ _ other ∙ ap (λ slot. assigned text slot (next ∷ tokens)) none
+-- a word is no comment
+pub word_plain : (kind : TokenKind) (bytes word : List ℕ) → is_word (word_by kind bytes) word ≡ true → is_executed kind ≡ false
+word_plain Executed bytes word is = absurd (cc)
+word_plain _ bytes word is = refl
+
+-- where no setting is named nothing changes
+pub unnamed_change : (text : List ℕ) (slot : Option Slot) (token : Token) (tokens : List Token) → is_executed token.kind ≡ false → slot ≡ None → named_change text slot token tokens ≡ None
+unfolding named_change assigned
+unnamed_change text slot token [] plain none = refl
+unnamed_change text slot token (next ∷ tokens) plain none = cond-false (is_executed token.kind) _ _ plain ∙ ap (λ named. assigned text named (next ∷ tokens)) none
+
+unassigned : (text : List ℕ) (token : Token) (tokens : List Token) → is_session_word text token ≡ false → is_executed token.kind ≡ false → slot_by token.kind (bytes_of text token) ≡ None → assignment text (token ∷ tokens) ≡ None
+unfolding assignment
+unassigned text token [] other plain none = refl
+unassigned text token (next ∷ tokens) other plain none = cond-false (is_session_word text token) _ _ other ∙ unnamed_change text _ token (next ∷ tokens) plain none
 
 names_unassigned : (text : List ℕ) (tokens : List Token) → says_first text tokens (codes "NAMES") ≡ true → assignment text tokens ≡ None
 unfolding slot_in
 names_unassigned text [] is = absurd (cc)
-names_unassigned text (token ∷ tokens) is = unassigned text token tokens (names_no_session text token is) (unnamed_token token.kind (bytes_of text token) (codes "NAMES") refl is)
+names_unassigned text (token ∷ tokens) is = unassigned text token tokens (names_no_session text token is) (word_plain token.kind (bytes_of text token) (codes "NAMES") is) (unnamed_token token.kind (bytes_of text token) (codes "NAMES") refl is)
 
 pub transaction_unnamed : (named : Option (List ℕ)) → is_word named (codes "TRANSACTION") ≡ true → option_and_then slot_named named ≡ None
 unfolding slot_in

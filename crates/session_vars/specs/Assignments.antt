@@ -1,14 +1,14 @@
 -- Assignments of a SET statement, behind its SET.
-use Rattle.std.specs.Prelude.{ℕ, false, ◌&&◌, nat_eq, List, [], ◌∷◌, ◌++◌, take, drop, codes, Option, Some, None, option_map, option_and_then, if◌then◌else◌}
+use Rattle.std.specs.Prelude.{ℕ, Bool, true, false, ◌&&◌, nat_eq, List, [], ◌∷◌, ◌++◌, take, drop, codes, Option, Some, None, option_map, option_and_then, if◌then◌else◌}
 use Rattle.std.specs.Option.{option_or}
 use Rattle.sql_tokens.specs.Words.{bytes_of, inside, word_of, same_text, is_symbol}
 use Rattle.sql_tokens.specs.declared.token.Token.{Token}
 use Rattle.sql_tokens.specs.declared.token.TokenKind.{TokenKind}
-use Rattle.sql_tokens.specs.declared.token.TokenKind.TheVariants.{Word, Name, SysVar}
+use Rattle.sql_tokens.specs.declared.token.TokenKind.TheVariants.{Word, Name, SysVar, Executed}
 use Rattle.session_vars.specs.Modes.{joined}
 use Rattle.session_vars.specs.Names.{names_value, names_changes}
 use Rattle.session_vars.specs.Scopes.{parts_of}
-use Rattle.session_vars.specs.Slots.{slot_named, unless_transaction}
+use Rattle.session_vars.specs.Slots.{slot_named, slot_of_comments, unless_transaction}
 use Rattle.session_vars.specs.Statement.{is_session_word}
 use Rattle.session_vars.specs.Values.{value_of, negative_value}
 use Rattle.session_vars.specs.declared.change.Change.{Change}
@@ -60,11 +60,22 @@ assigned text (Some slot) (equals ∷ tokens) =
     else if is_symbol text equals 58 then behind_colon text slot equals tokens
     else None
 
--- one assignment: SESSION or LOCAL and a name, or a name or variable alone; and what is assigned
+abbrev pub is_executed : TokenKind → Bool
+is_executed Executed = true
+is_executed _ = false
+
+-- what stands behind a name of this setting, or behind the first of two comments that name one
+unfoldable pub named_change : (text : List ℕ) → Option Slot → (name : Token) → List Token → Option Change
+named_change text slot name [] = None
+named_change text slot name (next ∷ tokens) =
+    if is_executed name.kind then assigned text (slot_of_comments (bytes_of text name) (bytes_of text next)) tokens
+    else assigned text slot (next ∷ tokens)
+
+-- one assignment: SESSION or LOCAL and a name, or a name or variable alone, or two comments in its place; and what is assigned
 unfoldable pub assignment : (text : List ℕ) → List Token → Option Change
 assignment text (scope ∷ name ∷ tokens) =
-    if is_session_word text scope then assigned text (slot_of_name text name) tokens
-    else assigned text (slot_by scope.kind (bytes_of text scope)) (name ∷ tokens)
+    if is_session_word text scope then named_change text (slot_of_name text name) name tokens
+    else named_change text (slot_by scope.kind (bytes_of text scope)) scope (name ∷ tokens)
 assignment text _ = None
 
 -- one part of a SET statement, which may be that of SET NAMES

@@ -10,7 +10,7 @@ use Rattle.session_vars.specs.Statement.{spoken_by}
 use Rattle.session_vars.specs.Values.{is_character_set}
 use Rattle.session_vars.specs.declared.change.Change.{Change}
 use Rattle.session_vars.specs.declared.change.SlotValue.TheVariants.{Default, Text}
-use Rattle.session_vars.specs.declared.slot.Slot.TheVariants.{Names, CharacterSetResults}
+use Rattle.session_vars.specs.declared.slot.Slot.TheVariants.{Names, CharacterSetResults, CollationConnection}
 
 abbrev pub is_word_kind : TokenKind → Bool
 is_word_kind Word = true
@@ -46,7 +46,11 @@ names_value text (names ∷ set ∷ collate ∷ name ∷ []) =
     if says text names (codes "NAMES") && says text collate (codes "COLLATE") then collated (character_set text set) (collation text name) else None
 names_value text _ = None
 
--- SET NAMES sets character_set_results too
+-- SET NAMES sets character_set_results and collation_connection too
 abbrev pub names_changes : Option (List ℕ) → Option (List Change)
 names_changes None = None
-names_changes (Some value) = Some (record { slot = Names; value = Text value; adds = false } ∷ record { slot = CharacterSetResults; value = Default; adds = false } ∷ [])
+names_changes (Some value) = Some (
+    record { slot = Names; value = Text value; adds = false }
+    ∷ record { slot = CharacterSetResults; value = Default; adds = false }
+    ∷ record { slot = CollationConnection; value = Default; adds = false }
+    ∷ [])

@@ -1,4 +1,4 @@
--- The settings of a session: one value for each of the thirty-three, in their order.
+-- The settings of a session: one value for each slot, in their order.
 use Rattle.std.specs.Prelude.{◌≡◌, ◌≤◌, ℕ, ◌-◌, Bool, true, false, not, ◌&&◌, ◌||◌, nat_eq, bytes_eq, List, [], ◌∷◌, ◌++◌, length, slice_index_or, slice_set, replicate, codes, if◌then◌else◌}
 use Rattle.session_vars.specs.Collations.{is_served_collation, names_of}
 use Rattle.session_vars.specs.Modes.{added_to}
@@ -7,19 +7,19 @@ use Rattle.session_vars.specs.declared.change.Change.{Change}
 use Rattle.session_vars.specs.declared.change.SlotValue.{SlotValue}
 use Rattle.session_vars.specs.declared.change.SlotValue.TheVariants.{Default, Text}
 use Rattle.session_vars.specs.declared.slot.Slot.{Slot}
-use Rattle.session_vars.specs.declared.slot.Slot.TheVariants.{Names, CharacterSetResults}
+use Rattle.session_vars.specs.declared.slot.Slot.TheVariants.{Names, CharacterSetResults, CollationConnection}
 
--- thirty-three values
+-- sixty-seven values
 abbrev pub AreSettings : List SlotValue → Type 0
-AreSettings values = length values ≡ 33
+AreSettings values = length values ≡ 67
 
 -- all of them, where the last ones may be left out that are the defaults
 abbrev pub padded : List SlotValue → List SlotValue
-padded values = values ++ replicate (33 - length values) Default
+padded values = values ++ replicate (67 - length values) Default
 
 -- so they are kept, with what those are that are left out
 pub record AreKept (values : List SlotValue) (otherwise : SlotValue) : Type 0 where
-  pub few : length values ≤ 33
+  pub few : length values ≤ 67
   pub rest : otherwise ≡ Default
 
 -- the value of one of them
@@ -41,7 +41,7 @@ applied values (change ∷ changes) = applied (changed values change) changes
 
 -- the settings of a session that set nothing
 abbrev pub defaults : List SlotValue
-defaults = replicate 33 Default
+defaults = replicate 67 Default
 
 -- what the collation that a client names as it logs in gives the setting `names`; one that isn't served, what the router's own
 -- links begin with
@@ -65,17 +65,22 @@ is_text (Text bytes) = true
 abbrev pub differs : (from to : List SlotValue) → Slot → Bool
 differs from to slot = not (same_value (value_at from slot) (value_at to slot))
 
--- SET NAMES is needed also where character_set_results has to become as SET NAMES leaves it
-unfoldable pub names_differ : (from to : List SlotValue) → Bool
-names_differ from to = differs from to Names || (is_text (value_at from CharacterSetResults) && not (is_text (value_at to CharacterSetResults)))
+-- it has to become as SET NAMES leaves it
+abbrev pub is_taken_back : (from to : List SlotValue) → Slot → Bool
+is_taken_back from to slot = is_text (value_at from slot) && not (is_text (value_at to slot))
 
--- and it takes character_set_results with it
-unfoldable pub results_differ : (from to : List SlotValue) → Bool
-results_differ from to = differs from to CharacterSetResults || (names_differ from to && is_text (value_at to CharacterSetResults))
+-- SET NAMES is needed also where one of those that it sets too has to
+unfoldable pub names_differ : (from to : List SlotValue) → Bool
+names_differ from to = differs from to Names || (is_taken_back from to CharacterSetResults || is_taken_back from to CollationConnection)
+
+-- and it takes these with it
+unfoldable pub results_differ : (from to : List SlotValue) → Slot → Bool
+results_differ from to slot = differs from to slot || (names_differ from to && is_text (value_at to slot))
 
 abbrev pub has_to_change : (from to : List SlotValue) → Slot → Bool
 has_to_change from to Names = names_differ from to
-has_to_change from to CharacterSetResults = results_differ from to
+has_to_change from to CharacterSetResults = results_differ from to CharacterSetResults
+has_to_change from to CollationConnection = results_differ from to CollationConnection
 has_to_change from to slot = differs from to slot
 
 -- the changes of those of these settings that have to change

@@ -1,12 +1,12 @@
 -- The statements that change settings.
 use Rattle.std.specs.Prelude.{ℕ, Bool, nat_eq, length, true, false, not, ◌&&◌, ◌||◌, List, [], ◌∷◌, ◌++◌, reverse, codes, Option, Some, None, option_map, filter, find, IsTrue, if◌then◌else◌}
 use Rattle.std.specs.List.{list_any, join_by}
-use Rattle.session_vars.specs.Slots.{name_of}
+use Rattle.session_vars.specs.Slots.{name_of, spelt_name}
 use Rattle.session_vars.specs.declared.change.Change.{Change}
 use Rattle.session_vars.specs.declared.change.SlotValue.{SlotValue}
 use Rattle.session_vars.specs.declared.change.SlotValue.TheVariants.{Default, Text}
 use Rattle.session_vars.specs.declared.slot.Slot.{Slot}
-use Rattle.session_vars.specs.declared.slot.Slot.TheVariants.{Names, CharacterSetResults}
+use Rattle.session_vars.specs.declared.slot.Slot.TheVariants.{Names, CharacterSetResults, CollationConnection, CharacterSetServer}
 
 abbrev pub is_names : Slot → Bool
 is_names Names = true
@@ -16,9 +16,10 @@ abbrev pub is_default_value : SlotValue → Bool
 is_default_value Default = true
 is_default_value (Text bytes) = false
 
--- character_set_results as SET NAMES leaves it
+-- character_set_results and collation_connection as SET NAMES leaves them
 abbrev pub is_left_by_names : Slot → SlotValue → Bool
 is_left_by_names CharacterSetResults value = is_default_value value
+is_left_by_names CollationConnection value = is_default_value value
 is_left_by_names _ value = false
 
 abbrev pub is_results_default : Change → Bool
@@ -39,8 +40,18 @@ names_text changes = option_map names_statement (find (λ change. is_names chang
 abbrev pub is_assigned : Change → Bool
 is_assigned change = not (is_names change.slot) && not (is_results_default change)
 
+-- a value of the server's character set that has a `_` is a collation's name, and no character set's
+abbrev pub server_name : SlotValue → List ℕ
+server_name Default = name_of CharacterSetServer
+server_name (Text bytes) = if list_any (nat_eq 95) bytes then codes "collation_server" else name_of CharacterSetServer
+
+-- the name by which a setting is given this value
+abbrev pub written_name : Slot → SlotValue → List ℕ
+written_name CharacterSetServer value = server_name value
+written_name slot value = spelt_name slot
+
 abbrev pub assignment_text : Change → List ℕ
-assignment_text change = name_of change.slot ++ codes " = " ++ value_text change.value
+assignment_text change = written_name change.slot change.value ++ codes " = " ++ value_text change.value
 
 abbrev pub session_by : List Change → Option (List ℕ)
 session_by [] = None
@@ -64,7 +75,7 @@ abbrev pub any_takes_names_back : List Change → Bool
 any_takes_names_back changes = list_any takes_names_back changes
 
 -- two statements can make these changes: none makes `names` a default, and one makes it a text where one makes
--- character_set_results as SET NAMES leaves it
+-- one of these two as SET NAMES leaves it
 abbrev pub can_be_set : List Change → Bool
 can_be_set changes = not (any_takes_names_back changes) && (has_names changes || not (leaves_results changes))
 

@@ -11,7 +11,7 @@ use Rattle.session_vars.specs.Values.{is_character_set, value_of, negative_value
 use Rattle.session_vars.specs.declared.change.SlotValue.{SlotValue}
 use Rattle.session_vars.specs.declared.change.SlotValue.TheVariants.{Default, Text}
 use Rattle.session_vars.specs.declared.slot.Slot.{Slot}
-use Rattle.session_vars.specs.declared.slot.Slot.TheVariants.{Names, CharacterSetResults}
+use Rattle.session_vars.specs.declared.slot.Slot.TheVariants.{Names, CharacterSetResults, CollationConnection}
 
 -- the bytes are one token of this kind
 abbrev pub IsOneToken : TokenKind → List ℕ → Type 0
@@ -65,6 +65,7 @@ abbrev pub IsTrackedValue : Slot → SlotValue → Type 0
 IsTrackedValue Names Default = ⊥
 IsTrackedValue Names (Text bytes) = IsCharacterSet bytes ⊎ IsCollated bytes
 IsTrackedValue CharacterSetResults Default = Unit {0}
+IsTrackedValue CollationConnection Default = Unit {0}
 IsTrackedValue slot value = IsAssignable slot value
 
 -- settings that SET statements give a session whose client named a collation

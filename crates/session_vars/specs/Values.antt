@@ -5,7 +5,7 @@ use Rattle.sql_tokens.specs.Words.{inside, same_text}
 use Rattle.sql_tokens.specs.declared.token.TokenKind.{TokenKind}
 use Rattle.sql_tokens.specs.declared.token.TokenKind.TheVariants.{Word, Quoted, Number}
 use Rattle.session_vars.specs.declared.slot.Slot.{Slot}
-use Rattle.session_vars.specs.declared.slot.Slot.TheVariants.{CharacterSetResults, SqlMode, SqlSelectLimit, SqlAutoIsNull}
+use Rattle.session_vars.specs.declared.slot.Slot.TheVariants.{CharacterSetResults, CollationConnection, CharacterSetServer, SqlMode, SqlSelectLimit, SqlAutoIsNull}
 use Rattle.session_vars.specs.declared.change.SlotValue.{SlotValue}
 use Rattle.session_vars.specs.declared.change.SlotValue.TheVariants.{Default, Text}
 
@@ -39,9 +39,10 @@ character_sets =
 abbrev pub is_character_set : List ℕ → Bool
 is_character_set word = list_any (same_text word) character_sets
 
--- the modes that change where tokens begin and end, and those that hold one of them
+-- The modes that change where tokens begin and end, and those that hold more than this. ANSI and ANSI_QUOTES aren't among them: where they
+-- end a text in `"` elsewhere, it has an escaped `"`.
 abbrev pub reading_modes : List (List ℕ)
-reading_modes = codes "ANSI" ∷ codes "ANSI_QUOTES" ∷ codes "NO_BACKSLASH_ESCAPES" ∷ codes "DB2" ∷ codes "MAXDB" ∷ codes "MSSQL" ∷ codes "ORACLE" ∷ codes "POSTGRESQL" ∷ []
+reading_modes = codes "NO_BACKSLASH_ESCAPES" ∷ codes "DB2" ∷ codes "MAXDB" ∷ codes "MSSQL" ∷ codes "ORACLE" ∷ codes "POSTGRESQL" ∷ []
 
 abbrev pub is_reading_mode : List ℕ → Bool
 is_reading_mode mode = list_any (same_text mode) reading_modes
@@ -66,6 +67,16 @@ may_be_results Word bytes = is_character_set bytes || same_text bytes (codes "NU
 may_be_results Quoted bytes = is_character_set (inside bytes)
 may_be_results _ bytes = false
 
+-- a collation's name begins with that of its character set
+abbrev pub names_collation : List ℕ → Bool
+names_collation name = is_character_set (take (prefix_len (λ b. not (nat_eq b 95)) name) name)
+
+-- collation_connection takes one of these character sets, and not DEFAULT
+abbrev pub may_be_collation : TokenKind → List ℕ → Bool
+may_be_collation Word bytes = names_collation bytes
+may_be_collation Quoted bytes = names_collation (inside bytes)
+may_be_collation _ bytes = false
+
 -- sql_mode takes a quoted list of modes, or DEFAULT
 abbrev pub may_be_modes : TokenKind → List ℕ → Bool
 may_be_modes Word bytes = is_default bytes
@@ -84,8 +95,15 @@ may_be_off Number bytes = bytes_eq bytes (codes "0")
 may_be_off Word bytes = same_text bytes (codes "OFF") || is_default bytes
 may_be_off _ bytes = false
 
+-- the server's character set, or its collation, takes no number: by a number it isn't seen which of them is meant
+abbrev pub may_be_server : TokenKind → Bool
+may_be_server Number = false
+may_be_server _ = true
+
 abbrev pub may_be : Slot → TokenKind → List ℕ → Bool
 may_be CharacterSetResults kind bytes = may_be_results kind bytes
+may_be CollationConnection kind bytes = may_be_collation kind bytes
+may_be CharacterSetServer kind bytes = may_be_server kind
 may_be SqlMode kind bytes = may_be_modes kind bytes
 may_be SqlSelectLimit kind bytes = may_be_limit kind bytes
 may_be SqlAutoIsNull kind bytes = may_be_off kind bytes
@@ -97,6 +115,8 @@ value_of slot kind bytes = if may_be slot kind bytes then plain_value kind bytes
 
 abbrev pub takes_numbers : Slot → Bool
 takes_numbers CharacterSetResults = false
+takes_numbers CollationConnection = false
+takes_numbers CharacterSetServer = false
 takes_numbers SqlMode = false
 takes_numbers SqlSelectLimit = false
 takes_numbers SqlAutoIsNull = false

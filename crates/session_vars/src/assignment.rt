@@ -1,7 +1,7 @@
 // Assignments of a SET statement, behind its SET.
 ghost use Rattle.std.specs.Prelude.{◌≡◌, ◌≤◌, ◌<◌, true, false, [], ◌++◌, take, length, Some, None, option_map, IfOk, OnOk, if◌then◌else◌};
 ghost use Rattle.std.specs.Option.{ForSome, option_to_list};
-ghost use Rattle.session_vars.specs.Assignments.{slot_of_variable, slot_of_name, slot_by, change_to, written, assigned, assignment, part_changes, assignments};
+ghost use Rattle.session_vars.specs.Assignments.{slot_of_variable, slot_of_name, slot_by, change_to, written, assigned, is_executed, named_change, assignment, part_changes, assignments};
 ghost use Rattle.session_vars.specs.Names.{names_changes};
 ghost use Rattle.sql_tokens.specs.Words.{is_symbol_kind};
 ghost use Rattle.session_vars.specs.Scopes.{before_comma, behind_comma, server_set};
@@ -115,17 +115,45 @@ fn assigned(
     }
 }
 
-// One assignment: SESSION or LOCAL and a name, or a name or variable alone; and what is assigned.
+fn is_executed(kind: TokenKind) -> bool
+    ensures { result ≡ is_executed kind }
+{
+    kind == TokenKind::Executed
+}
+
+// What stands behind a name of this setting, or behind the first of two comments that name one.
+#[tactic(auto, unfolding(crate::specs::Assignments::named_change))]
+fn named_change(
+    alloc: Global,
+    text: &[u8],
+    slot: Option<Slot>,
+    name: &Token,
+    tokens: &[Token],
+) -> Result<Option<Change>, OutOfMemory>
+    ensures { IfOk result (λ change. change ≡ named_change text.now slot name.now tokens.now) }
+{
+    match tokens {
+        [] => Ok(None),
+        [next, rest @ ..] if is_executed(name.kind) => {
+            let slot = Slot::of_comments(bytes_of(text, name), bytes_of(text, next));
+            assigned(alloc, text, slot, rest)
+        }
+        _ => assigned(alloc, text, slot, tokens),
+    }
+}
+
+// One assignment: SESSION or LOCAL and a name, or a name or variable alone, or two comments in its place; and what is assigned.
 #[tactic(auto, unfolding(crate::specs::Assignments::assignment))]
 fn assignment(alloc: Global, text: &[u8], tokens: &[Token]) -> Result<Option<Change>, OutOfMemory>
     ensures { IfOk result (λ change. change ≡ assignment text.now tokens.now) }
 {
     match tokens {
         [scope, name, rest @ ..] if is_session_word(text, scope) => {
-            assigned(alloc, text, slot_of_name(text, name), rest)
+            named_change(alloc, text, slot_of_name(text, name), name, rest)
         }
         [name, rest @ ..] if !rest.is_empty() => {
-            assigned(alloc, text, slot_by(name.kind, bytes_of(text, name)), rest)
+            let slot = slot_by(name.kind, bytes_of(text, name));
+            named_change(alloc, text, slot, name, rest)
         }
         _ => Ok(None),
     }
@@ -142,7 +170,7 @@ fn begun(alloc: Global, taken: Option<Token>) -> Result<Vec<Token>, OutOfMemory>
     Ok(part)
 }
 
-// Appends the changes of SET NAMES, which sets character_set_results too.
+// Appends the changes of SET NAMES, which sets character_set_results and collation_connection too.
 fn push_names(changes: &mut Changes, value: Bytes) -> Result<(), OutOfMemory>
     ensures { OnOk result (Some changes.new ≡ option_map (λ more. changes.old ++ more) (names_changes (Some value))) }
 {
@@ -153,6 +181,11 @@ fn push_names(changes: &mut Changes, value: Bytes) -> Result<(), OutOfMemory>
     })?;
     changes.push(Change {
         slot: Slot::CharacterSetResults,
+        value: SlotValue::Default,
+        adds: false,
+    })?;
+    changes.push(Change {
+        slot: Slot::CollationConnection,
         value: SlotValue::Default,
         adds: false,
     })?;

@@ -11,7 +11,7 @@ use std::marker::Model;
 /// The value of a setting.
 #[derive(Drop)]
 pub enum SlotValue {
-    /// What the server gives a session that sets nothing; of `CharacterSetResults` what SET NAMES leaves.
+    /// What the server gives a session that sets nothing; of `CharacterSetResults` and `CollationConnection` what SET NAMES leaves.
     Default,
     /// A value as it is written in a statement.
     Text(Bytes),

@@ -1,7 +1,7 @@
 // The changes that lead from settings to others.
 ghost use Rattle.std.specs.Prelude.{◌≡◌, ◌∷◌, ◌++◌, List, IsTrue, IfOk, OnOk};
 ghost use Rattle.session_vars.specs.declared.slot.Slot.{Slot};
-ghost use Rattle.session_vars.specs.Settings.{is_text, value_at, same_value, differs, names_differ, results_differ, has_to_change, changes_of, difference_of};
+ghost use Rattle.session_vars.specs.Settings.{is_text, value_at, same_value, differs, is_taken_back, names_differ, results_differ, has_to_change, changes_of, difference_of};
 
 use crate::{Change, Changes, Settings, Slot, SlotValue};
 use mx_base::OutOfMemory;
@@ -23,23 +23,29 @@ fn differs(from: &Settings, to: &Settings, slot: Slot) -> bool
     !same_value(from.value(slot), to.value(slot))
 }
 
-// SET NAMES is needed also where character_set_results has to become as SET NAMES leaves it.
+// Whether it has to become as SET NAMES leaves it.
+fn is_taken_back(from: &Settings, to: &Settings, slot: Slot) -> bool
+    ensures { result ≡ is_taken_back from.now to.now slot }
+{
+    from.value(slot).is_text() && !to.value(slot).is_text()
+}
+
+// SET NAMES is needed also where one of those that it sets too has to.
 #[tactic(auto, unfolding(crate::specs::Settings::names_differ))]
 fn names_differ(from: &Settings, to: &Settings) -> bool
     ensures { result ≡ names_differ from.now to.now }
 {
     differs(from, to, Slot::Names)
-        || (from.value(Slot::CharacterSetResults).is_text()
-            && !to.value(Slot::CharacterSetResults).is_text())
+        || is_taken_back(from, to, Slot::CharacterSetResults)
+        || is_taken_back(from, to, Slot::CollationConnection)
 }
 
-// SET NAMES takes character_set_results with it.
+// SET NAMES takes it with it.
 #[tactic(auto, unfolding(crate::specs::Settings::results_differ))]
-fn results_differ(from: &Settings, to: &Settings) -> bool
-    ensures { result ≡ results_differ from.now to.now }
+fn results_differ(from: &Settings, to: &Settings, slot: Slot) -> bool
+    ensures { result ≡ results_differ from.now to.now slot }
 {
-    differs(from, to, Slot::CharacterSetResults)
-        || (names_differ(from, to) && to.value(Slot::CharacterSetResults).is_text())
+    differs(from, to, slot) || (names_differ(from, to) && to.value(slot).is_text())
 }
 
 fn has_to_change(from: &Settings, to: &Settings, slot: Slot) -> bool
@@ -47,7 +53,7 @@ fn has_to_change(from: &Settings, to: &Settings, slot: Slot) -> bool
 {
     match slot {
         Slot::Names => names_differ(from, to),
-        Slot::CharacterSetResults => results_differ(from, to),
+        Slot::CharacterSetResults | Slot::CollationConnection => results_differ(from, to, slot),
         _ => differs(from, to, slot),
     }
 }
@@ -73,8 +79,8 @@ fn push_change(
 }
 
 /// The changes that lead from settings to others: those of the settings that differ, in order. `Names` is among them
-/// also where `CharacterSetResults` has to become as SET NAMES leaves it, and `CharacterSetResults` also where `Names`
-/// is among them and `CharacterSetResults` is wanted as a text. `Names` has to be wanted as a text.
+/// also where `CharacterSetResults` or `CollationConnection` has to become as SET NAMES leaves it, and each of these two also where
+/// `Names` is among them and it is wanted as a text. `Names` has to be wanted as a text.
 pub fn difference(alloc: Global, from: &Settings, to: &Settings) -> Result<Changes, OutOfMemory>
     requires { IsTrue (is_text (value_at to.now Slot.Names)) }
     ensures { IfOk result (λ changes. changes ≡ difference_of from.now to.now) }

@@ -30,10 +30,10 @@ pub fn difference_can_be_set()
 {}
 
 /// The two statements that make a difference are read as these very changes, where SET statements give the wanted
-/// values: SET NAMES as that of `Names`, with `CharacterSetResults` as default beside it, and SET SESSION as the others.
+/// values: SET NAMES as that of `Names`, with `CharacterSetResults` and `CollationConnection` as defaults beside it, and SET SESSION as the others.
 /// So the one statement and then the other lead to the wanted settings.
 pub fn difference_read_again()
-    ensures names { (from to : List SlotValue) (text : List ℕ) → AreTracked to → names_text (difference_of from to) ≡ Some text → set_shape text ≡ SetShape.Tracked (record { slot = Slot.Names; value = value_at to Slot.Names; adds = false } ∷ record { slot = Slot.CharacterSetResults; value = SlotValue.Default; adds = false } ∷ []) }
+    ensures names { (from to : List SlotValue) (text : List ℕ) → AreTracked to → names_text (difference_of from to) ≡ Some text → set_shape text ≡ SetShape.Tracked (record { slot = Slot.Names; value = value_at to Slot.Names; adds = false } ∷ record { slot = Slot.CharacterSetResults; value = SlotValue.Default; adds = false } ∷ record { slot = Slot.CollationConnection; value = SlotValue.Default; adds = false } ∷ []) }
     ensures session { (from to : List SlotValue) (text : List ℕ) → AreTracked to → session_text (difference_of from to) ≡ Some text → set_shape text ≡ SetShape.Tracked (filter is_assigned (difference_of from to)) }
     ensures leads { (from to : List SlotValue) → AreSettings from → AreTracked to → applied (applied from (changes_by (names_text (difference_of from to)))) (changes_by (session_text (difference_of from to))) ≡ to }
 {}

@@ -44,10 +44,10 @@ fn value_in<'a>(values: &'a [SlotValue], place: usize, otherwise: &'a SlotValue)
 // Values are there up to this place.
 #[tactic(auto, using(crate::proofs::Padded::padded_more))]
 fn reach(values: &mut Vec<SlotValue>, place: usize) -> Result<(), OutOfMemory>
-    requires place { place < 33 }
-    requires few { length values.old.items ≤ 33 }
+    requires place { place < 67 }
+    requires few { length values.old.items ≤ 67 }
     ensures same { padded values.new.items ≡ padded values.old.items }
-    ensures few { length values.new.items ≤ 33 }
+    ensures few { length values.new.items ≤ 67 }
     ensures there { OnOk result (place < length values.new.items) }
 {
     for _i in values.len()..place + 1 {

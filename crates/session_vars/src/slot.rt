@@ -1,7 +1,8 @@
 // The settings of a session that are tracked, and their names.
-ghost use Rattle.std.specs.Prelude.{◌≡◌};
+ghost use Rattle.std.specs.Prelude.{◌≡◌, map};
+ghost use Rattle.std.specs.Char.{to_ascii_lowercase};
 ghost use Rattle.sql_tokens.specs.Words.{same_text};
-ghost use Rattle.session_vars.specs.Slots.{name_of, place_of, slot_named, unless_transaction};
+ghost use Rattle.session_vars.specs.Slots.{is_named, is_other_name, name_of, place_of, slot_named, slot_of_comments, spelt_name, unless_transaction};
 
 use sql_tokens::same_text;
 
@@ -12,6 +13,7 @@ pub enum Slot {
     /// What SET NAMES sets: the character sets of client and connection and the connection's collation.
     Names,
     CharacterSetResults,
+    CollationConnection,
     Autocommit,
     SqlMode,
     TimeZone,
@@ -43,13 +45,47 @@ pub enum Slot {
     SessionTrackSystemVariables,
     SessionTrackTransactionInfo,
     SessionTrackGtids,
+    TmpTableSize,
+    MaxHeapTableSize,
+    SortBufferSize,
+    JoinBufferSize,
+    ReadBufferSize,
+    ReadRndBufferSize,
+    BulkInsertBufferSize,
+    MaxSortLength,
+    MaxErrorCount,
+    BigTables,
+    LowPriorityUpdates,
+    SqlWarnings,
+    AutoIncrementIncrement,
+    AutoIncrementOffset,
+    DivPrecisionIncrement,
+    DefaultWeekFormat,
+    DefaultTmpStorageEngine,
+    InnodbStrictMode,
+    InnodbTableLocks,
+    EqRangeIndexDiveLimit,
+    OptimizerSearchDepth,
+    OptimizerPruneLevel,
+    LongQueryTime,
+    UpdatableViewsWithLimit,
+    CteMaxRecursionDepth,
+    InformationSchemaStatsExpiry,
+    BlockEncryptionMode,
+    GroupReplicationConsistency,
+    WsrepSyncWait,
+    IdleTransactionTimeout,
+    IdleReadonlyTransactionTimeout,
+    IdleWriteTransactionTimeout,
+    CheckConstraintChecks,
 }
 
 impl Slot {
     /// All of them, in order.
-    pub const ALL: [Slot; 33] = [
+    pub const ALL: [Slot; 67] = [
         Slot::Names,
         Slot::CharacterSetResults,
+        Slot::CollationConnection,
         Slot::Autocommit,
         Slot::SqlMode,
         Slot::TimeZone,
@@ -81,6 +117,39 @@ impl Slot {
         Slot::SessionTrackSystemVariables,
         Slot::SessionTrackTransactionInfo,
         Slot::SessionTrackGtids,
+        Slot::TmpTableSize,
+        Slot::MaxHeapTableSize,
+        Slot::SortBufferSize,
+        Slot::JoinBufferSize,
+        Slot::ReadBufferSize,
+        Slot::ReadRndBufferSize,
+        Slot::BulkInsertBufferSize,
+        Slot::MaxSortLength,
+        Slot::MaxErrorCount,
+        Slot::BigTables,
+        Slot::LowPriorityUpdates,
+        Slot::SqlWarnings,
+        Slot::AutoIncrementIncrement,
+        Slot::AutoIncrementOffset,
+        Slot::DivPrecisionIncrement,
+        Slot::DefaultWeekFormat,
+        Slot::DefaultTmpStorageEngine,
+        Slot::InnodbStrictMode,
+        Slot::InnodbTableLocks,
+        Slot::EqRangeIndexDiveLimit,
+        Slot::OptimizerSearchDepth,
+        Slot::OptimizerPruneLevel,
+        Slot::LongQueryTime,
+        Slot::UpdatableViewsWithLimit,
+        Slot::CteMaxRecursionDepth,
+        Slot::InformationSchemaStatsExpiry,
+        Slot::BlockEncryptionMode,
+        Slot::GroupReplicationConsistency,
+        Slot::WsrepSyncWait,
+        Slot::IdleTransactionTimeout,
+        Slot::IdleReadonlyTransactionTimeout,
+        Slot::IdleWriteTransactionTimeout,
+        Slot::CheckConstraintChecks,
     ];
 
     /// The name of the system variable. Takes no memory.
@@ -90,6 +159,7 @@ impl Slot {
         match self {
             Slot::Names => b"names",
             Slot::CharacterSetResults => b"character_set_results",
+            Slot::CollationConnection => b"collation_connection",
             Slot::Autocommit => b"autocommit",
             Slot::SqlMode => b"sql_mode",
             Slot::TimeZone => b"time_zone",
@@ -121,6 +191,39 @@ impl Slot {
             Slot::SessionTrackSystemVariables => b"session_track_system_variables",
             Slot::SessionTrackTransactionInfo => b"session_track_transaction_info",
             Slot::SessionTrackGtids => b"session_track_gtids",
+            Slot::TmpTableSize => b"tmp_table_size",
+            Slot::MaxHeapTableSize => b"max_heap_table_size",
+            Slot::SortBufferSize => b"sort_buffer_size",
+            Slot::JoinBufferSize => b"join_buffer_size",
+            Slot::ReadBufferSize => b"read_buffer_size",
+            Slot::ReadRndBufferSize => b"read_rnd_buffer_size",
+            Slot::BulkInsertBufferSize => b"bulk_insert_buffer_size",
+            Slot::MaxSortLength => b"max_sort_length",
+            Slot::MaxErrorCount => b"max_error_count",
+            Slot::BigTables => b"big_tables",
+            Slot::LowPriorityUpdates => b"low_priority_updates",
+            Slot::SqlWarnings => b"sql_warnings",
+            Slot::AutoIncrementIncrement => b"auto_increment_increment",
+            Slot::AutoIncrementOffset => b"auto_increment_offset",
+            Slot::DivPrecisionIncrement => b"div_precision_increment",
+            Slot::DefaultWeekFormat => b"default_week_format",
+            Slot::DefaultTmpStorageEngine => b"default_tmp_storage_engine",
+            Slot::InnodbStrictMode => b"innodb_strict_mode",
+            Slot::InnodbTableLocks => b"innodb_table_locks",
+            Slot::EqRangeIndexDiveLimit => b"eq_range_index_dive_limit",
+            Slot::OptimizerSearchDepth => b"optimizer_search_depth",
+            Slot::OptimizerPruneLevel => b"optimizer_prune_level",
+            Slot::LongQueryTime => b"long_query_time",
+            Slot::UpdatableViewsWithLimit => b"updatable_views_with_limit",
+            Slot::CteMaxRecursionDepth => b"cte_max_recursion_depth",
+            Slot::InformationSchemaStatsExpiry => b"information_schema_stats_expiry",
+            Slot::BlockEncryptionMode => b"block_encryption_mode",
+            Slot::GroupReplicationConsistency => b"group_replication_consistency",
+            Slot::WsrepSyncWait => b"wsrep_sync_wait",
+            Slot::IdleTransactionTimeout => b"idle_transaction_timeout",
+            Slot::IdleReadonlyTransactionTimeout => b"idle_readonly_transaction_timeout",
+            Slot::IdleWriteTransactionTimeout => b"idle_write_transaction_timeout",
+            Slot::CheckConstraintChecks => b"check_constraint_checks",
         }
     }
 
@@ -138,7 +241,37 @@ impl Slot {
         Slot::ALL[1..]
             .iter()
             .copied()
-            .find(|slot| is_named(name, slot.name()))
+            .find(|slot| is_named(name, *slot))
+    }
+
+    // The name by which each server knows it: MariaDB executes the first of two comments, and MySQL the second (MariaDB, "Comment
+    // Syntax").
+    pub(crate) fn spelt_name(self) -> &'static [u8]
+        ensures { result.now ≡ spelt_name self }
+    {
+        match self {
+            Slot::TransactionIsolation => b"/*M!tx_isolation*/ /*!50720 transaction_isolation*/",
+            Slot::TransactionReadOnly => b"/*M!tx_read_only*/ /*!50720 transaction_read_only*/",
+            _ => self.name(),
+        }
+    }
+
+    // The setting that two comments name.
+    #[tactic(auto, unfolding(crate::specs::Slots::slot_of_comments))]
+    pub(crate) fn of_comments(first: &[u8], second: &[u8]) -> Option<Slot>
+        ensures { result ≡ slot_of_comments first.now second.now }
+    {
+        if first == b"/*M!tx_isolation*/".as_slice()
+            && second == b"/*!50720 transaction_isolation*/".as_slice()
+        {
+            Some(Slot::TransactionIsolation)
+        } else if first == b"/*M!tx_read_only*/".as_slice()
+            && second == b"/*!50720 transaction_read_only*/".as_slice()
+        {
+            Some(Slot::TransactionReadOnly)
+        } else {
+            None
+        }
     }
 
     // None for the two that behind `@@` alone set the next transaction and not the session.
@@ -154,8 +287,27 @@ impl Slot {
 
 // Whether two names are one in any case. Mostly they are written alike, which takes less to see.
 #[tactic(auto, using(crate::proofs::Alike::alike_or_same))]
-fn is_named(name: &[u8], other: &[u8]) -> bool
+fn is_alike(name: &[u8], other: &[u8]) -> bool
     ensures { result ≡ same_text name.now other.now }
 {
     name == other || same_text(name, other)
+}
+
+// Whether it is another name of it.
+fn is_other_name(name: &[u8], slot: Slot) -> bool
+    ensures { result ≡ is_other_name (map to_ascii_lowercase name.now) slot }
+{
+    match slot {
+        Slot::TransactionIsolation => same_text(name, b"tx_isolation"),
+        Slot::TransactionReadOnly => same_text(name, b"tx_read_only"),
+        Slot::CharacterSetServer => same_text(name, b"collation_server"),
+        _ => false,
+    }
+}
+
+// Whether it is a name of it.
+fn is_named(name: &[u8], slot: Slot) -> bool
+    ensures { result ≡ is_named (map to_ascii_lowercase name.now) slot }
+{
+    is_alike(name, slot.name()) || is_other_name(name, slot)
 }

@@ -1,7 +1,8 @@
 // The statements that change settings.
-ghost use Rattle.std.specs.Prelude.{◌≡◌, OnOk, IfOk, reverse, find};
+ghost use Rattle.std.specs.Prelude.{◌≡◌, OnOk, IfOk, nat_eq, reverse, find};
+ghost use Rattle.std.specs.List.{list_any};
 ghost use Rattle.std.specs.Option.{option_copied};
-ghost use Rattle.session_vars.specs.Texts.{is_names, is_default_value, is_results_default, value_text, names_statement, names_text, is_assigned, assignment_text, session_text, with_assignment, has_names, leaves_results, takes_names_back, any_takes_names_back, can_be_set, CanBeSet};
+ghost use Rattle.session_vars.specs.Texts.{is_names, is_default_value, is_results_default, value_text, names_statement, names_text, is_assigned, server_name, written_name, assignment_text, session_text, with_assignment, has_names, leaves_results, takes_names_back, any_takes_names_back, can_be_set, CanBeSet};
 
 use crate::{Change, Slot, SlotValue};
 use mx_base::{Bytes, OutOfMemory};
@@ -35,7 +36,7 @@ fn is_assigned(change: &Change) -> bool
 {
     match change.slot {
         Slot::Names => false,
-        Slot::CharacterSetResults => !is_default_value(&change.value),
+        Slot::CharacterSetResults | Slot::CollationConnection => !is_default_value(&change.value),
         _ => true,
     }
 }
@@ -72,6 +73,39 @@ fn names_text(alloc: Global, changes: &[Change]) -> Result<Option<Bytes>, OutOfM
     }
 }
 
+// Whether a value is a collation's name, and no character set's.
+fn has_underscore(bytes: &[u8]) -> bool
+    ensures { result ≡ list_any (nat_eq 95) bytes.now }
+{
+    bytes.iter().any(|byte| 95 == *byte)
+}
+
+// The name by which the server's character set is given this value, or its collation.
+fn server_name(value: &SlotValue) -> &'static [u8]
+    ensures { result.now ≡ server_name value.now }
+{
+    match value {
+        SlotValue::Default => b"character_set_server",
+        SlotValue::Text(text) => {
+            if has_underscore(text.as_slice()) {
+                b"collation_server"
+            } else {
+                b"character_set_server"
+            }
+        }
+    }
+}
+
+// The name by which a setting is given this value.
+fn written_name(slot: Slot, value: &SlotValue) -> &'static [u8]
+    ensures { result.now ≡ written_name slot value.now }
+{
+    match slot {
+        Slot::CharacterSetServer => server_name(value),
+        _ => slot.spelt_name(),
+    }
+}
+
 // Appends an assignment, where SET SESSION makes this change.
 fn push_assignment(text: &mut Bytes, change: &Change) -> Result<(), OutOfMemory>
     ensures { OnOk result (text.new ≡ with_assignment text.old change.now) }
@@ -85,7 +119,7 @@ fn push_assignment(text: &mut Bytes, change: &Change) -> Result<(), OutOfMemory>
         b", "
     };
     text.append(before)?;
-    text.append(change.slot.name())?;
+    text.append(written_name(change.slot, &change.value))?;
     text.append(b" = ")?;
     text.append(value_text(&change.value))?;
     Ok(())
@@ -109,7 +143,7 @@ fn is_results_default(change: &Change) -> bool
     ensures { result ≡ is_results_default change.now }
 {
     match change.slot {
-        Slot::CharacterSetResults => is_default_value(&change.value),
+        Slot::CharacterSetResults | Slot::CollationConnection => is_default_value(&change.value),
         _ => false,
     }
 }
@@ -139,7 +173,7 @@ fn any_takes_names_back(changes: &[Change]) -> bool
 }
 
 /// Whether two statements can make these changes: `Names` is among them as no default, and is among them where
-/// `CharacterSetResults` becomes a default. Takes no memory.
+/// `CharacterSetResults` or `CollationConnection` becomes a default. Takes no memory.
 pub fn can_be_set(changes: &[Change]) -> bool
     ensures { result ≡ can_be_set changes.now }
 {
@@ -148,8 +182,8 @@ pub fn can_be_set(changes: &[Change]) -> bool
 
 /// The statements that make these changes (MySQL Reference Manual, "SET NAMES" and "SET Syntax for Variable
 /// Assignment"): SET NAMES by the last change of `Names`, and SET SESSION with the others in order, where a default is
-/// DEFAULT. `CharacterSetResults` as default stands in neither, since SET NAMES leaves it so. No change makes `Names` a
-/// default, and one makes it a text where one makes `CharacterSetResults` a default.
+/// DEFAULT. `CharacterSetResults` and `CollationConnection` as defaults stand in neither, since SET NAMES leaves them so. No change makes `Names` a
+/// default, and one makes it a text where one makes one of these two a default.
 pub fn set_texts(alloc: Global, changes: &[Change]) -> Result<SetTexts, OutOfMemory>
     requires { CanBeSet changes.now }
     ensures names { IfOk result (λ texts. texts.names ≡ names_text changes.now) }

@@ -1,12 +1,12 @@
 // The values that an assignment may give a setting.
-ghost use Rattle.std.specs.Prelude.{◌≡◌, ◌≤◌, ◌++◌, length, IfOk};
+ghost use Rattle.std.specs.Prelude.{◌≡◌, ◌≤◌, ◌++◌, not, nat_eq, length, IfOk};
 ghost use Rattle.std.specs.List.{list_all, prefix_len, suffix_len};
 ghost use Rattle.sql_tokens.specs.Words.{inside};
-ghost use Rattle.session_vars.specs.Values.{kept, is_plain_byte, is_default, plain_value, is_character_set, is_reading_mode, is_blank, without_last_blanks, without_blanks, has_reading_mode, may_be_results, may_be_modes, may_be_limit, may_be_off, may_be, value_of, takes_numbers, negative_value};
+ghost use Rattle.session_vars.specs.Values.{kept, is_plain_byte, is_default, plain_value, is_character_set, is_reading_mode, is_blank, without_last_blanks, without_blanks, has_reading_mode, may_be_collation, may_be_results, may_be_modes, may_be_server, names_collation, may_be_limit, may_be_off, may_be, value_of, takes_numbers, negative_value};
 
 use crate::{Slot, SlotValue};
 use mx_base::{Bytes, OutOfMemory};
-use sql_tokens::{TokenKind, behind, inside, is_one_of, same_text};
+use sql_tokens::{TokenKind, behind, front, inside, is_one_of, same_text};
 use std::alloc::Global;
 
 // The bytes of the longest value that is kept.
@@ -115,10 +115,9 @@ pub(crate) fn is_character_set(word: &[u8]) -> bool
     is_one_of(word, &CHARACTER_SETS)
 }
 
-// The modes that change where tokens begin and end, and those that hold one of them.
-static READING_MODES: [&[u8]; 8] = [
-    b"ANSI",
-    b"ANSI_QUOTES",
+// The modes that change where tokens begin and end, and those that hold more than this. ANSI and ANSI_QUOTES do so only where a text in
+// `"` has an escaped one.
+static READING_MODES: [&[u8]; 6] = [
     b"NO_BACKSLASH_ESCAPES",
     b"DB2",
     b"MAXDB",
@@ -177,6 +176,30 @@ fn may_be_results(kind: TokenKind, bytes: &[u8]) -> bool
     }
 }
 
+// Whether it is the name of a collation of such a character set, with which it begins.
+fn names_collation(name: &[u8]) -> bool
+    ensures { result ≡ names_collation name.now }
+{
+    is_character_set(front(name, set_size(name)))
+}
+
+// How many bytes stand before the first `_`.
+fn set_size(name: &[u8]) -> usize
+    ensures { result ≡ prefix_len (λ b. not (nat_eq b 95)) name.now }
+{
+    name.iter().take_while(|byte| **byte != b'_').count()
+}
+
+fn may_be_collation(kind: TokenKind, bytes: &[u8]) -> bool
+    ensures { result ≡ may_be_collation kind bytes.now }
+{
+    match kind {
+        TokenKind::Word => names_collation(bytes),
+        TokenKind::Quoted => names_collation(inside(bytes)),
+        _ => false,
+    }
+}
+
 fn may_be_modes(kind: TokenKind, bytes: &[u8]) -> bool
     ensures { result ≡ may_be_modes kind bytes.now }
 {
@@ -209,12 +232,21 @@ fn may_be_off(kind: TokenKind, bytes: &[u8]) -> bool
     }
 }
 
+// Whether the server's character set may get it, or its collation: no number, by which it isn't seen which of them is meant.
+fn may_be_server(kind: TokenKind) -> bool
+    ensures { result ≡ may_be_server kind }
+{
+    kind != TokenKind::Number
+}
+
 // Whether a setting may get such a value.
 fn may_be(slot: Slot, kind: TokenKind, bytes: &[u8]) -> bool
     ensures { result ≡ may_be slot kind bytes.now }
 {
     match slot {
         Slot::CharacterSetResults => may_be_results(kind, bytes),
+        Slot::CollationConnection => may_be_collation(kind, bytes),
+        Slot::CharacterSetServer => may_be_server(kind),
         Slot::SqlMode => may_be_modes(kind, bytes),
         Slot::SqlSelectLimit => may_be_limit(kind, bytes),
         Slot::SqlAutoIsNull => may_be_off(kind, bytes),
@@ -243,9 +275,12 @@ fn takes_numbers(slot: Slot) -> bool
     ensures { result ≡ takes_numbers slot }
 {
     match slot {
-        Slot::CharacterSetResults | Slot::SqlMode | Slot::SqlSelectLimit | Slot::SqlAutoIsNull => {
-            false
-        }
+        Slot::CharacterSetResults
+        | Slot::CollationConnection
+        | Slot::CharacterSetServer
+        | Slot::SqlMode
+        | Slot::SqlSelectLimit
+        | Slot::SqlAutoIsNull => false,
         _ => true,
     }
 }

@@ -28,9 +28,9 @@ pub names_stay : (settings all new : List SlotValue) (value : SlotValue) → all
     → new ≡ changed all (record { slot = Autocommit; value = value; adds = false }) → IsTrue (is_text (value_at settings Names))
     → IsTrue (is_text (value_at new Names))
 names_stay settings all new value a n h =
-    let apart : 0 ≢ 2 = omega arith in
+    let apart : 0 ≢ 3 = omega arith in
     let same : value_at (changed settings (record { slot = Autocommit; value = value; adds = false })) Names ≡ value_at settings Names =
-    get_or-set_other settings 2 0 value Default apart in
+    get_or-set_other settings 3 0 value Default apart in
     let is = n ∙ ap (λ (s : List SlotValue). changed s (record { slot = Autocommit; value = value; adds = false })) a in
     subst (λ (s : List SlotValue). IsTrue (is_text (value_at s Names))) (sym is)
     (subst (λ (w : SlotValue). IsTrue (is_text w)) (sym same) h)

@@ -9,7 +9,7 @@ use Rattle.place_keys.proofs.key.place_key.Goals as goal
 pub loop-slot-preserved : goal.loop-slot-preserved
 loop-slot-preserved c =
     let i = c.loop-slot.slot-index in
-    let within : i < 33 = omega arith in
+    let within : i < 67 = omega arith in
     let key = c.loop-slot.key.items in
     let rest = values_key c.args.settings.now (drop (i + 1) all_slots) in
     ap (λ (l : List ℕ). l ++ rest) (c.in_ok-put_value.ensures ∙ ap (λ (v : SlotValue). key ++ value_key v) c.value.ensures.value)

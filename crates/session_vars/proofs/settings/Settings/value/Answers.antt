@@ -15,5 +15,5 @@ returns-clause-value c =
 
 pub returns-clause-settings : goal.returns-clause-settings
 returns-clause-settings c =
-    let P : List SlotValue → Type 0 = λ vs. length vs ≡ 33 in
+    let P : List SlotValue → Type 0 = λ vs. length vs ≡ 67 in
     subst P c.self.view_is (padded_length c.self.inside.values.items c.self.invariant.few)
