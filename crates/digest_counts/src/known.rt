@@ -3,7 +3,7 @@ ghost use Rattle.std.specs.Prelude.{◌≡◌, take, IfOk, IfSome};
 ghost use Rattle.digest_counts.specs.Counts.{digest_start};
 
 use mx_base::{Bytes, OutOfMemory};
-use query_digest::digest;
+use query_digest::digest_start;
 use std::alloc::Global;
 use std::marker::Model;
 
@@ -45,10 +45,9 @@ impl Known {
     pub(crate) fn of(alloc: Global, text: &[u8]) -> Result<Self, OutOfMemory>
         ensures { IfOk result (λ known. known ≡ text.now) }
     {
-        let whole = digest(alloc, text)?;
         Ok(Known {
             text: Bytes::from_slice(alloc, text)?,
-            digest: first_of(alloc, whole.as_slice(), MOST_DIGEST)?,
+            digest: digest_start(alloc, text, MOST_DIGEST)?,
         })
     }
 

@@ -2,3 +2,4 @@ pub mod Counting
 pub mod Folding
 pub mod Joining
 pub mod LongestRuns
+pub mod Starting

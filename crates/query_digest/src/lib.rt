@@ -9,5 +9,5 @@ mod writer;
 
 pub use hash::digest_hash;
 pub use laws::one_folding;
-pub use statement::digest;
+pub use statement::{digest, digest_start};
 pub use table::{Counted, DigestKey, DigestTable};

@@ -1,5 +1,5 @@
 // The digest of a statement.
-ghost use Rattle.std.specs.Prelude.{◌≡◌, IfOk};
+ghost use Rattle.std.specs.Prelude.{◌≡◌, take, IfOk};
 ghost use Rattle.query_digest.specs.Digest.{digest_of, is_apart};
 ghost use Rattle.query_digest.specs.Parts.{part_by};
 ghost use Rattle.query_digest.specs.Writing.{part_of};
@@ -27,6 +27,39 @@ pub fn digest(alloc: Global, text: &[u8]) -> Result<Bytes, OutOfMemory>
     }
     writer.release()?;
     Ok(Bytes::from_vec(writer.out))
+}
+
+/// The first bytes of a statement's digest, so many at most. No more of the statement is split into tokens than these need, so a long list of
+/// rows costs no more than a short one.
+#[tactic(auto, using(crate::proofs::Starting::start_stays))]
+pub fn digest_start(alloc: Global, text: &[u8], most: usize) -> Result<Bytes, OutOfMemory>
+    ensures { IfOk result (λ start. start ≡ take most (digest_of text.now)) }
+{
+    let mut writer = Writer::new(alloc, text.len().min(most))?;
+    let mut end = None;
+    for token in Tokens::of(text) {
+        if writer.out.len() >= most {
+            return first_of(alloc, &writer.out, most);
+        }
+        if token.kind != TokenKind::Comment {
+            writer.put(is_apart(end, token.start), piece_of(text, &token))?;
+            end = Some(token.end);
+        }
+    }
+    writer.release()?;
+    first_of(alloc, &writer.out, most)
+}
+
+// So many of these bytes at most.
+fn first_of(alloc: Global, bytes: &[u8], most: usize) -> Result<Bytes, OutOfMemory>
+    ensures { IfOk result (λ first. first ≡ take most bytes.now) }
+{
+    let first = if bytes.len() <= most {
+        bytes
+    } else {
+        &bytes[..most]
+    };
+    Bytes::from_slice(alloc, first)
 }
 
 // Whether something stood between the token that ended at a place, if there was one, and one that starts.
