@@ -21,8 +21,9 @@ use Rattle.private_model.specs.View.{Setup}
 use Rattle.router_promises.specs.Takings.{Taking, message_in}
 use Rattle.promise_tests.proofs.Same.{all-so, same-bytes}
 use Rattle.core_promises.proofs.Texts.{keys_in}
-use Rattle.core_promises.specs.Judges.{AreJudged, IsRoutedFor, JudgesSo, Rulebook, Situation, rulebook_of, situation_of, takings_along, transaction_of}
-use Rattle.apart_cases.specs.Tests.{all_closed, all_say, are_closed, is_clients, is_closed_in, says_this}
+use Rattle.core_promises.specs.Judges.{AreJudged, IsClosed, IsRoutedFor, JudgesSo, Rulebook, Situation, rulebook_of, situation_of, takings_along}
+use Rattle.apart_cases.proofs.Closed.{none-open}
+use Rattle.apart_cases.specs.Tests.{all_closed, all_say, are_closed, is_clients, is_closed_in, opens_none, says_this}
 
 same-some : {A : Type 0} (a b : A) → ◌≡◌ {A = Option A} (Some a) (Some b) → a ≡ b
 same-some a b is = cc
@@ -37,17 +38,13 @@ get-all f (y ∷ xs) (suc n) zero x all less is = subst (λ z. f z ≡ true) (sa
 get-all f (y ∷ xs) (suc n) (suc k) x all less is = get-all f xs n k x (and_parts _ _ all).1 (omega (arith, less)) is
 
 -- a taking of the name is there, of a client, at which no transaction was open
-record IsClosedIn (book : Rulebook) (setup : Setup) (plan : Plan) (takings : List Taking) (name : MessageName) : Type 0 where
+record IsClosedIn (setup : Setup) (plan : Plan) (takings : List Taking) (name : MessageName) : Type 0 where
   taking : Taking
   place : ℕ
   there : slice_get takings place ≡ Some taking
   named : message_in taking ≡ name
   port : taking.client.port ≡ Traffic
-  closed : transaction_of book (situation_of setup plan taking) ≡ None
-
-none-is : {A : Type 0} (o : Option A) → not (is_some o) ≡ true → o ≡ None
-none-is None is = refl
-none-is (Some a) is = absurd (cc)
+  closed : IsClosed (situation_of setup plan taking)
 
 clients-port : (port : Port) → is_clients port ≡ true → port ≡ Traffic
 clients-port Traffic is = refl
@@ -58,46 +55,46 @@ same-name a b is =
     let parts = and_parts (is_client a.client b.client) (nat_eq a.ordinal b.ordinal) is in
     λ i. record { client = client_of a.client b.client parts.0 i; ordinal = eqb-true a.ordinal b.ordinal parts.1 i }
 
-closed-in : (book : Rulebook) (setup : Setup) (plan : Plan) (takings : List Taking) (name : MessageName) → list_any (is_closed_in book setup plan name) takings ≡ true
-    → IsClosedIn book setup plan takings name
-closed-in book setup plan [] name any = absurd (cc)
-closed-in book setup plan (taking ∷ takings) name any = by (is_closed_in book setup plan name taking) refl any (closed-in book setup plan takings name) where
-  by : (b : Bool) → is_closed_in book setup plan name taking ≡ b → (b || list_any (is_closed_in book setup plan name) takings) ≡ true
-      → (list_any (is_closed_in book setup plan name) takings ≡ true → IsClosedIn book setup plan takings name) → IsClosedIn book setup plan (taking ∷ takings) name
+closed-in : (setup : Setup) (plan : Plan) (takings : List Taking) (name : MessageName) → list_any (is_closed_in name) takings ≡ true
+    → IsClosedIn setup plan takings name
+closed-in setup plan [] name any = absurd (cc)
+closed-in setup plan (taking ∷ takings) name any = by (is_closed_in name taking) refl any (closed-in setup plan takings name) where
+  by : (b : Bool) → is_closed_in name taking ≡ b → (b || list_any (is_closed_in name) takings) ≡ true
+      → (list_any (is_closed_in name) takings ≡ true → IsClosedIn setup plan takings name) → IsClosedIn setup plan (taking ∷ takings) name
   by true is some later =
       let parts =
       and_parts (is_message (message_in taking) name)
-      (is_clients taking.client.port && not (is_some (transaction_of book (situation_of setup plan taking)))) is in
-      let more = and_parts (is_clients taking.client.port) (not (is_some (transaction_of book (situation_of setup plan taking)))) parts.1 in
+      (is_clients taking.client.port && opens_none taking.tale.story) is in
+      let more = and_parts (is_clients taking.client.port) (opens_none taking.tale.story) parts.1 in
       record {
         taking = taking;
         place = 0;
         there = refl;
         named = same-name (message_in taking) name parts.0;
         port = clients-port taking.client.port more.0;
-        closed = none-is _ more.1;
+        closed = λ h. none-open setup taking.tale.story more.1 _;
       }
   by false is some later =
       let found = later some in
       record { taking = found.taking; place = suc found.place; there = found.there; named = found.named; port = found.port; closed = found.closed }
 
-closed-at : (book : Rulebook) (setup : Setup) (plan : Plan) (takings : List Taking) (client : Client) (n k : ℕ) → are_closed book setup plan takings client n ≡ true → k < n
-    → IsClosedIn book setup plan takings (name_of client (suc k))
-closed-at book setup plan takings client zero k all less = absurd (omega (arith, less))
-closed-at book setup plan takings client (suc n) k all less = by (nat_eq k n) refl (closed-at book setup plan takings client n k parts.1) where
-  parts : (list_any (is_closed_in book setup plan (name_of client (suc n))) takings ≡ true) × (are_closed book setup plan takings client n ≡ true)
-  parts = and_parts (list_any (is_closed_in book setup plan (name_of client (suc n))) takings) (are_closed book setup plan takings client n) all
+closed-at : (setup : Setup) (plan : Plan) (takings : List Taking) (client : Client) (n k : ℕ) → are_closed takings client n ≡ true → k < n
+    → IsClosedIn setup plan takings (name_of client (suc k))
+closed-at setup plan takings client zero k all less = absurd (omega (arith, less))
+closed-at setup plan takings client (suc n) k all less = by (nat_eq k n) refl (closed-at setup plan takings client n k parts.1) where
+  parts : (list_any (is_closed_in (name_of client (suc n))) takings ≡ true) × (are_closed takings client n ≡ true)
+  parts = and_parts (list_any (is_closed_in (name_of client (suc n))) takings) (are_closed takings client n) all
 
-  by : (b : Bool) → nat_eq k n ≡ b → (k < n → IsClosedIn book setup plan takings (name_of client (suc k)))
-      → IsClosedIn book setup plan takings (name_of client (suc k))
+  by : (b : Bool) → nat_eq k n ≡ b → (k < n → IsClosedIn setup plan takings (name_of client (suc k)))
+      → IsClosedIn setup plan takings (name_of client (suc k))
   by true same earlier =
-      subst (λ (i : ℕ). IsClosedIn book setup plan takings (name_of client (suc i))) (sym (eqb-true k n same))
-      (closed-in book setup plan takings (name_of client (suc n)) parts.0)
+      subst (λ (i : ℕ). IsClosedIn setup plan takings (name_of client (suc i))) (sym (eqb-true k n same))
+      (closed-in setup plan takings (name_of client (suc n)) parts.0)
   by false other earlier = earlier (let apart : k ≡ n → ⊥ = eqb-false k n other in omega (arith, less, apart))
 
 module _ (terms : Terms) (log : Log) (payload : List ℕ) (route : Route) (goes : (m : MessageName) → (plan_in terms).routes m ≡ Some route)
     (so : (c : ClientNo) (situation : Situation) → situation.port ≡ Traffic → situation.user ≡ ((setup_in terms).accounts c).user
-    → transaction_of (rulebook_of terms.router) situation ≡ None → IsRoutedFor (rulebook_of terms.router) situation (keys_in terms) c payload route) where
+    → IsClosed situation → IsRoutedFor (rulebook_of terms.router) situation (keys_in terms) c payload route) where
   abbrev book : Rulebook
   book = rulebook_of terms.router
 
@@ -108,11 +105,11 @@ module _ (terms : Terms) (log : Log) (payload : List ℕ) (route : Route) (goes 
   takings = takings_along (setup_in terms) (plan_in terms) first_tale log
 
   client-so : (client : Client) → says_this payload (plan_in terms) client ≡ true
-      → are_closed book (setup_in terms) (plan_in terms) takings client client.taken ≡ true → AreJudged book rules (setup_in terms) (plan_in terms) log client
+      → are_closed takings client client.taken ≡ true → AreJudged book rules (setup_in terms) (plan_in terms) log client
   client-so client says closed k message within there =
       let same : message.payload ≡ payload =
       same-bytes _ _ (get-all (λ (m : Framed). bytes_eq m.payload payload) (messages (plan_in terms) client) client.taken k message says within there) in
-      let found = closed-at book (setup_in terms) (plan_in terms) takings client client.taken k closed within in
+      let found = closed-at (setup_in terms) (plan_in terms) takings client client.taken k closed within in
       let situation : Situation = situation_of (setup_in terms) (plan_in terms) found.taking in
       record {
         taking = found.taking;
@@ -125,16 +122,16 @@ module _ (terms : Terms) (log : Log) (payload : List ℕ) (route : Route) (goes 
       }
 
   abbrev passes : Client → Bool
-  passes client = says_this payload (plan_in terms) client && are_closed book (setup_in terms) (plan_in terms) takings client client.taken
+  passes client = says_this payload (plan_in terms) client && are_closed takings client client.taken
 
   both-so : (xs : List Client) → list_all (says_this payload (plan_in terms)) xs ≡ true
-      → list_all (λ (client : Client). are_closed book (setup_in terms) (plan_in terms) takings client client.taken) xs ≡ true → list_all passes xs ≡ true
+      → list_all (λ (client : Client). are_closed takings client client.taken) xs ≡ true → list_all passes xs ≡ true
   both-so [] says closed = refl
   both-so (x ∷ xs) says closed =
       let one = and_parts (says_this payload (plan_in terms) x) (list_all (says_this payload (plan_in terms)) xs) says in
       let two =
-      and_parts (are_closed book (setup_in terms) (plan_in terms) takings x x.taken)
-      (list_all (λ (client : Client). are_closed book (setup_in terms) (plan_in terms) takings client client.taken) xs) closed in
+      and_parts (are_closed takings x x.taken)
+      (list_all (λ (client : Client). are_closed takings client client.taken) xs) closed in
       λ i. (one.0 i && two.0 i) && both-so xs one.1 two.1 i
 
   pub judges-so : all_say payload (plan_in terms) (now_at terms log) ≡ true → all_closed terms log ≡ true → JudgesSo terms rules log
@@ -142,6 +139,6 @@ module _ (terms : Terms) (log : Log) (payload : List ℕ) (route : Route) (goes 
       subst (λ (t : Tale). All (AreJudged book rules (setup_in terms) (plan_in terms) log) t.clients) (now-tale terms log)
       (all-so (AreJudged book rules (setup_in terms) (plan_in terms) log) passes (now_at terms log).tale.clients
       (λ client pass.
-      let parts = and_parts (says_this payload (plan_in terms) client) (are_closed book (setup_in terms) (plan_in terms) takings client client.taken) pass in
+      let parts = and_parts (says_this payload (plan_in terms) client) (are_closed takings client client.taken) pass in
       client-so client parts.0 parts.1)
       (both-so (now_at terms log).tale.clients says closed))

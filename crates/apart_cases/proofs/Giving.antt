@@ -1,6 +1,6 @@
 -- What is given up in the worked log of router_cases has its cause.
 use Rattle.std.specs.Prelude.{◌≡◌, ℕ, suc, Bool, true, false, List, [], ◌∷◌, ◌++◌, Option, Some, None, if◌then◌else◌, refl, slice_index_or}
-use Rattle.std.proofs.Common.{subst}
+use Rattle.std.proofs.Common.{subst, inr}
 use Rattle.client_session.specs.Errors.{connection_refused}
 use Rattle.mx_base.specs.declared.names.Port.TheVariants.{Admin, Traffic}
 use Rattle.mx_base.specs.declared.tag.Tag.TheVariants.{Reply as ReplyTag}
@@ -43,6 +43,6 @@ cause-of stored c true answer is =
 cause-of stored c false answer is = no-answer answer is
 
 pub gives-worked : (stored : Stored) → GivesUpSo (terms_with stored) log
-gives-worked stored = λ i dflt within k answer taken own later by_now.
+gives-worked stored = λ i dflt within k answer taken own by_now.
     let client : Client = slice_index_or (tale_at (terms_with stored) log).clients i dflt in
-    cause-of stored client.number (is_message (name_of client (suc k)) (message 1 1)) answer own
+    inr (cause-of stored client.number (is_message (name_of client (suc k)) (message 1 1)) answer own)

@@ -1,8 +1,10 @@
 pub mod Giving
 pub mod Kept
 pub mod Waiting
+pub mod Closed
 pub mod Asking
 pub mod Shared
 pub mod Plain
 pub mod OnClasses
 pub mod LeftBehind
+pub mod Places

@@ -1,6 +1,5 @@
 -- A query that isn't refused goes to a server of its user's hostgroup as it is, where there are no rules and a server is there.
-use Rattle.std.specs.Prelude.{◌≡◌, ℕ, Bool, true, false, not, ◌&&◌, ◌||◌, List, [], ◌∷◌, Option, Some, None, if◌then◌else◌, refl}
-use Rattle.std.proofs.Common.{sym}
+use Rattle.std.specs.Prelude.{◌≡◌, ℕ, Bool, true, false, not, ◌&&◌, ◌||◌, find, List, [], ◌∷◌, Option, Some, None, if◌then◌else◌, refl}
 use Rattle.mx_base.specs.declared.names.Port.TheVariants.{Traffic}
 use Rattle.pin_classifier.specs.Classes.{class_of}
 use Rattle.pin_classifier.specs.declared.class.Class.{Class}
@@ -14,7 +13,19 @@ use Rattle.log_story.specs.Plan.{Route, com_query}
 use Rattle.router_promises.specs.Errors.{diagnostics_gone, names_connection}
 use Rattle.router_promises.specs.Verdicts.{Goes, Verdict, Wanted, is_connection_id, plain_route, tells_one}
 use Rattle.message_judge.specs.Judging as judging
-use Rattle.core_promises.specs.Judges.{IsRoutedFor, IsVerdictFor, Knowledge, Rulebook, Situation, transaction_of}
+use Rattle.core_promises.specs.Judges.{IsClosed, IsRoutedFor, IsVerdictFor, Knowledge, Rulebook, Situation}
+
+-- where no transaction is open, none is found
+
+past-closed : (b : Bool) (g h : Hostgroup) (rest : Option Hostgroup) → b ≡ false → (if b then Some g else rest) ≡ Some h → rest ≡ Some h
+past-closed true g h rest closed is = absurd (cc)
+past-closed false g h rest closed is = is
+
+closed-first : {A : Type 0} (pins : Hostgroup → Pin) → ((h : Hostgroup) → (pins h).tx ≡ false) → (hostgroups : List Hostgroup) (h : Hostgroup)
+    → find (λ g. (pins g).tx) hostgroups ≡ Some h → A
+closed-first pins closed [] h is = absurd (cc)
+closed-first pins closed (g ∷ hostgroups) h is =
+    closed-first pins closed hostgroups h (past-closed (pins g).tx g h (find (λ g. (pins g).tx) hostgroups) (closed g) is)
 
 module _ (homes : (user : List ℕ) → Hostgroup) (hostgroups : List Hostgroup) (situation : Situation) (keys : (key : ℕ) → Option Key) (c : ClientNo)
     (text : List ℕ) where
@@ -79,7 +90,7 @@ module _ (homes : (user : List ℕ) → Hostgroup) (hostgroups : List Hostgroup)
     asked true is free plain = absurd (cc)
     asked false is free plain = by-refusal class.refusal free plain
 
-    for : class.refusal ≡ None → is_connection_id class.shape ≡ false → transaction_of book situation ≡ None
+    for : class.refusal ≡ None → is_connection_id class.shape ≡ false → IsClosed situation
         → IsVerdictFor book situation c (com_query ∷ text) (Goes plainly)
     unfolding router_reads
     for free plain closed = record {
@@ -88,7 +99,11 @@ module _ (homes : (user : List ℕ) → Hostgroup) (hostgroups : List Hostgroup)
       login = refl;
       home = refl;
       place = refl;
-      transaction = sym closed;
+      transaction = record {
+        first = λ hostgroup found. closed-first situation.pins closed hostgroups hostgroup found;
+        in_transaction = λ hostgroup found. absurd (let none : None ≡ Some hostgroup = found in cc);
+        none = λ none. closed;
+      };
       pins = refl;
       there = λ h has. refl;
       flag = refl;
@@ -98,7 +113,7 @@ module _ (homes : (user : List ℕ) → Hostgroup) (hostgroups : List Hostgroup)
       is = asked (is_connection_id class.shape) plain free plain;
     }
 
-    pub goes-as-it-is : situation.port ≡ Traffic → class.refusal ≡ None → is_connection_id class.shape ≡ false → transaction_of book situation ≡ None
+    pub goes-as-it-is : situation.port ≡ Traffic → class.refusal ≡ None → is_connection_id class.shape ≡ false → IsClosed situation
         → IsRoutedFor book situation keys c (com_query ∷ text) as_it_is
     goes-as-it-is port free plain closed = record {
       wanted = plainly;

@@ -11,7 +11,7 @@ use Rattle.log_story.specs.Plan.{LastWord, OwnAnswer, Route, com_query}
 use Rattle.own_words.specs.Own.{GivesUp, IsOwn, NoLink, SpeaksOwn}
 use Rattle.core_promises.specs.Asks.{CopiesNothing}
 use Rattle.core_promises.proofs.Texts.{keys_in}
-use Rattle.core_promises.specs.Judges.{IsRoutedFor, JudgesSo, Situation, rulebook_of, transaction_of}
+use Rattle.core_promises.specs.Judges.{IsClosed, IsRoutedFor, JudgesSo, Situation, rulebook_of}
 use Rattle.core_promises.specs.Waits.{WaitsSo}
 use Rattle.promise_tests.proofs.Moments.{entries-so}
 use Rattle.promise_tests.specs.Tests.{each_entry}
@@ -37,7 +37,7 @@ waits-worked stored =
 
 -- Each message is an INSERT, which goes to the one server, in its user's hostgroup.
 
-goes-there : (keys : (key : ℕ) → Option Key) (c : ClientNo) (situation : Situation) → situation.port ≡ Traffic → situation.user ≡ anybody.user → transaction_of (rulebook_of router) situation ≡ None
+goes-there : (keys : (key : ℕ) → Option Key) (c : ClientNo) (situation : Situation) → situation.port ≡ Traffic → situation.user ≡ anybody.user → IsClosed situation
     → IsRoutedFor (rulebook_of router) situation keys c (com_query ∷ insert) route
 unfolding on_classes
 goes-there keys c situation port login closed =

@@ -1,5 +1,5 @@
 -- Tests of a log: where the loop waits, while no statement is on its way; and of a message that all clients send.
-use Rattle.std.specs.Prelude.{Bool, true, false, not, is_some, ◌&&◌, ◌||◌, ◌++◌, bytes_eq, take, ℕ, zero, suc, List}
+use Rattle.std.specs.Prelude.{Bool, true, false, not, ◌&&◌, ◌||◌, ◌++◌, bytes_eq, take, ℕ, zero, suc, List}
 use Rattle.std.specs.List.{list_all, list_any}
 use Rattle.std.specs.Option.{option_map_or}
 use Rattle.mx_base.specs.declared.names.LinkId.{LinkId}
@@ -8,15 +8,16 @@ use Rattle.mx_base.specs.declared.names.Port.TheVariants.{Admin, Traffic}
 use Rattle.mx_wire.specs.Log.{Log, is_open, written_of}
 use Rattle.mx_wire.specs.declared.entry.Entry.{Entry}
 use Rattle.mx_wire.specs.declared.entry.Entry.TheVariants.{Over, WaitFailed, Woke}
-use Rattle.core_promises.specs.Judges.{Rulebook, rulebook_of, situation_of, takings_along, transaction_of}
+use Rattle.core_promises.specs.Judges.{takings_along}
 use Rattle.core_promises.specs.Waits.{error_to}
 use Rattle.packet_frame.specs.Packets.{Framed}
 use Rattle.ready_loop.specs.Drained.{all_accepted, all_named, read_dry, write_dry}
 use Rattle.log_story.specs.Owed.{messages, name_of}
 use Rattle.log_story.specs.Plan.{Plan, Route}
 use Rattle.private_model.specs.Names.{MessageName}
-use Rattle.private_model.specs.Story.{is_message}
-use Rattle.private_model.specs.View.{Setup}
+use Rattle.private_model.specs.Commands.{Reply, end_of}
+use Rattle.private_model.specs.Story.{Happening, Heard, Story, is_message}
+use Rattle.session_state.specs.Endings.{shows_transaction}
 use Rattle.log_story.specs.Tale.{Client, first_tale}
 use Rattle.router_promises.specs.Due.{due_to}
 use Rattle.router_promises.specs.Dues.{is_unsent}
@@ -64,22 +65,33 @@ abbrev pub is_clients : Port → Bool
 is_clients Traffic = true
 is_clients Admin = false
 
--- the message of this name is one of these takings, of a client, and no transaction of it was open then
-abbrev pub is_closed_in : Rulebook → Setup → Plan → MessageName → Taking → Bool
-is_closed_in book setup plan name taking =
-    is_message (message_in taking) name
-    && (is_clients taking.client.port && not (is_some (transaction_of book (situation_of setup plan taking))))
+-- no reply shows a transaction
 
-abbrev pub are_closed : Rulebook → Setup → Plan → List Taking → Client → (count : ℕ) → Bool
-are_closed book setup plan takings client zero = true
-are_closed book setup plan takings client (suc k) =
-    list_any (is_closed_in book setup plan (name_of client (suc k))) takings && are_closed book setup plan takings client k
+abbrev pub shows_open : Reply → Bool
+shows_open reply = option_map_or (λ (shown : Bool). shown) (shows_transaction (end_of reply)) false
+
+abbrev pub opens : Happening → Bool
+opens (Heard link reply) = shows_open reply
+opens _ = false
+
+abbrev pub opens_none : Story → Bool
+opens_none story = list_all (λ (e : Happening). not (opens e)) story
+
+-- the message of this name is one of these takings, of a client, and no transaction was opened before
+abbrev pub is_closed_in : MessageName → Taking → Bool
+is_closed_in name taking =
+    is_message (message_in taking) name
+    && (is_clients taking.client.port && opens_none taking.tale.story)
+
+abbrev pub are_closed : List Taking → Client → (count : ℕ) → Bool
+are_closed takings client zero = true
+are_closed takings client (suc k) = list_any (is_closed_in (name_of client (suc k))) takings && are_closed takings client k
 
 -- so it is of each that was taken up of each client of the log
 abbrev pub all_closed : Terms → Log → Bool
 all_closed terms log =
     list_all (λ (client : Client).
-    are_closed (rulebook_of terms.router) (setup_in terms) (plan_in terms) (takings_along (setup_in terms) (plan_in terms) first_tale log) client client.taken)
+    are_closed (takings_along (setup_in terms) (plan_in terms) first_tale log) client client.taken)
     (now_at terms log).tale.clients
 
 -- what was taken up of a client is this message

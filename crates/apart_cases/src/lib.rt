@@ -4,6 +4,7 @@
 mod judged;
 mod left_behind;
 mod lent;
+mod prepared;
 mod told;
 mod worked;
 mod written;
@@ -18,6 +19,10 @@ pub use lent::{
     lends_what_is_held, lends_what_is_lent, lends_with_earlier_settings, reads_what_others_left,
     resets_what_goes_on, sends_as_another, sends_before_the_answer, sends_twice,
     sends_what_nobody_asked,
+};
+pub use prepared::{
+    executes_in_another_schema, executes_what_isnt_there, prepares_another_text,
+    prepares_in_another_schema,
 };
 pub use told::{
     gives_a_number_twice, logs_in_as_another, quotes_a_server, serves_others,

@@ -1,5 +1,5 @@
 -- A client's desk: its seat, its sessions and its statement in work.
-use Rattle.std.specs.Prelude.{ℕ, Bool, true, false, not, List, [], ◌∷◌, map, Option, Some, None}
+use Rattle.std.specs.Prelude.{ℕ, Bool, true, false, not, ◌&&◌, List, [], ◌∷◌, map, Option, Some, None}
 use Rattle.std.specs.Option.{option_map}
 use Rattle.mx_base.specs.declared.names.Hostgroup.{Hostgroup}
 use Rattle.mx_base.specs.declared.names.LinkId.{LinkId}
@@ -28,6 +28,10 @@ session_of desk h = session_in desk.lefts desk.sessions h
 
 abbrev pub name_of : Desk → Hostgroup → SessionName
 name_of desk h = record { client = desk.seat.client.number; hostgroup = h; life = (session_of desk h).life }
+
+-- a transaction is open in a session that is the one of its hostgroup
+abbrev pub has_open : Desk → Session → Bool
+has_open desk row = row.pin.tx && (session_of desk row.hostgroup).pin.tx
 
 -- as a link sees it that carries it
 abbrev pub carried_of : Desk → Hostgroup → links.Session

@@ -1,7 +1,9 @@
 // The open transaction of a client.
-ghost use Rattle.std.specs.Prelude.{◌≡◌, find};
+ghost use Rattle.std.specs.Prelude.{◌≡◌, false, true, find, IfSome, None};
 ghost use Rattle.std.specs.List.{list_any};
-ghost use Rattle.client_desk.specs.Desks.{session_of};
+ghost use Rattle.std.specs.Option.{option_copied};
+ghost use Rattle.mx_base.specs.declared.names.Hostgroup.{Hostgroup};
+ghost use Rattle.client_desk.specs.Desks.{has_open, session_of};
 ghost use Rattle.client_desk.specs.Sessions.{is_open};
 
 use crate::desk::Desk;
@@ -27,6 +29,16 @@ fn first_open(desk: &Desk, hostgroups: &[Hostgroup]) -> Option<Hostgroup>
     None
 }
 
+// A session with an open transaction, where it is the one of its hostgroup.
+fn open_row(desk: &Desk) -> Option<&Session>
+    ensures { option_copied result ≡ find (has_open desk.now) desk.now.sessions }
+{
+    desk.sessions
+        .as_slice()
+        .iter()
+        .find(|row| row.pin.tx && desk.session(row.hostgroup).pin.tx)
+}
+
 impl Desk {
     /// The hostgroup of its open transaction: of several, the first of these. Takes no memory.
     pub fn transaction(&self, hostgroups: &[Hostgroup]) -> Option<Hostgroup>
@@ -36,6 +48,17 @@ impl Desk {
             first_open(self, hostgroups)
         } else {
             None
+        }
+    }
+
+    /// The hostgroup of any open transaction of it. Takes no memory.
+    pub fn any_transaction(&self) -> Option<Hostgroup>
+        ensures in_transaction { IfSome result (λ hostgroup. is_open (session_of self.now hostgroup) ≡ true) }
+        ensures none { result ≡ None → (hostgroup : Hostgroup) → is_open (session_of self.now hostgroup) ≡ false }
+    {
+        match open_row(self) {
+            Some(row) => Some(row.hostgroup),
+            None => None,
         }
     }
 }

@@ -4,11 +4,11 @@ ghost use Rattle.client_seat.specs.Numbers.{AreBound, AreNoted, number_in, types
 ghost use Rattle.client_seat.specs.Requests.{IsAsked, run_in};
 
 use crate::arguments::{Args, given_in};
-use crate::bytes::{
-    COM_RESET_CONNECTION, COM_STMT_CLOSE, COM_STMT_RESET, COM_STMT_SEND_LONG_DATA, behind,
-    first_byte,
-};
+use crate::bytes::{behind, first_byte};
 use crate::request::Request;
+use command_parse::{
+    COM_RESET_CONNECTION, COM_STMT_CLOSE, COM_STMT_RESET, COM_STMT_SEND_LONG_DATA,
+};
 use mx_base::{Bytes, OutOfMemory, get_u16, get_u32};
 use std::alloc::Global;
 use stmt_map::{ClientStatements, LongFault};

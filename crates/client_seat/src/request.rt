@@ -5,7 +5,8 @@ ghost use Rattle.std.specs.Option.{option_copied};
 ghost use Rattle.client_seat.specs.Requests.{IsAsked, kind_of, text_in};
 
 use crate::arguments::Args;
-use crate::bytes::{COM_FIELD_LIST, COM_INIT_DB, COM_QUERY, COM_STMT_PREPARE, first_byte};
+use crate::bytes::first_byte;
+use command_parse::{COM_FIELD_LIST, COM_INIT_DB, COM_QUERY, COM_STMT_PREPARE};
 use mx_base::OutOfMemory;
 use packet_frame::write_message;
 use reply_track::ReplyKind;

@@ -4,10 +4,11 @@ ghost use Rattle.std.specs.Option.{option_copied};
 ghost use Rattle.client_seat.specs.Numbers.{AreNoted};
 ghost use Rattle.client_seat.specs.Requests.{IsAsked, asked_in};
 
-use crate::bytes::{COM_RESET_CONNECTION, COM_STMT_EXECUTE, first_byte};
+use crate::bytes::first_byte;
 use crate::noting::{note, run};
 use crate::request::{Request, text_request};
 use crate::seat::Seat;
+use command_parse::{COM_RESET_CONNECTION, COM_STMT_EXECUTE};
 use mx_base::{Hostgroup, OutOfMemory};
 use session_vars::Settings;
 use std::alloc::Global;

@@ -2,12 +2,11 @@
 
 use crate::policy::Policy;
 use client_desk::{Body, Work};
+use command_parse::COM_QUERY;
 use core_tables::{Client, Tables};
 use core_texts::Texts;
 use mx_base::{ClientNo, OutOfMemory};
 use std::alloc::Global;
-
-const COM_QUERY: u8 = 0x03;
 
 /// How long a packet is behind which its message goes on: 2^24 - 1 bytes, and its header (client/server protocol, "MySQL Packets").
 const FULL_PACKET: usize = 16_777_219;

@@ -1,21 +1,22 @@
 -- What a router that keeps its clients apart gives up for.
-use Rattle.std.specs.Prelude.{◌≡◌, ◌<◌, ◌≤◌, ◌+◌, ◌++◌, ℕ, zero, suc, Bool, true, false, length, slice_index_or, List, [], ◌∷◌, Option, Some}
-use Rattle.std.proofs.Common.{refl, sym, ap, ◌∙◌, subst, arith, length-append}
+use Rattle.std.specs.Prelude.{◌≡◌, ◌⊎◌, ◌<◌, ◌≤◌, ◌+◌, ◌++◌, ℕ, zero, suc, Bool, true, false, length, slice_index_or, List, [], ◌∷◌, Option, Some, None}
+use Rattle.std.proofs.Common.{refl, sym, ap, ◌∙◌, subst, arith, inl, inr, length-append}
 use Rattle.client_session.specs.Errors.{bad_server_bytes, connection_lost, connection_refused}
 use Rattle.mx_wire.specs.Log.{Log}
 use Rattle.mx_wire.specs.declared.entry.Entry.{Entry}
 use Rattle.mx_wire.specs.declared.entry.Entry.TheVariants as entry
-use Rattle.private_model.specs.Names.{ClientNo, LinkId}
+use Rattle.private_model.specs.Names.{ClientNo, LinkId, MessageName}
 use Rattle.private_model.specs.View.{Setup}
 use Rattle.log_story.specs.Headline.{tale_of}
-use Rattle.log_story.specs.Plan.{OwnAnswer, Plan}
+use Rattle.log_story.specs.Owed.{name_of}
+use Rattle.log_story.specs.Plan.{OwnAnswer, Plan, Route}
 use Rattle.log_story.specs.Tale.{Client}
 use Rattle.router_promises.proofs.Refusals.{at-index, never}
 use Rattle.router_promises.specs.Errors.{no_connection, replay_refused, server_shutdown}
 use Rattle.router_promises.specs.Now.{is_gone}
 use Rattle.router_promises.specs.Terms.{Terms, plan_in, setup_in, tale_at}
-use Rattle.core_promises.specs.Causes.{AreCaused, BadBytes, HasCause, HeldUp, IsCause, IsHeardCause, IsLateCause, IsLossCause, LinkLost, LoginBroken, LoginRefused, ShutDown, StepRefused, WaitedTooLong, is_carried, may_give_up}
-use Rattle.core_promises.specs.Wrong.{IsGivenUp}
+use Rattle.core_promises.specs.Causes.{AreCaused, BadBytes, HasCause, HeldUp, IsCause, IsHeardCause, IsLateCause, IsLossCause, IsToldAtOnce, LinkLost, LoginBroken, LoginRefused, ShutDown, StepRefused, WaitedTooLong, is_carried, may_give_up}
+use Rattle.core_promises.specs.Wrong.{AnswersAtOnce, IsGivenUp}
 
 -- Two ways to cut a log at the same place are one.
 
@@ -37,21 +38,46 @@ same-cut (x ∷ xs) (y ∷ ys) a b later more long is =
 one-payload : (a b : List ℕ) → ◌≡◌ {A = List (List ℕ)} (a ∷ []) (b ∷ []) → a ≡ b
 one-payload a b is = cc
 
+-- what is answered at an entry isn't answered as it is taken up
+behind : {Cause : Type 0} (plan : Plan) (name : MessageName) (answer : OwnAnswer) → 0 < answer.from → IsToldAtOnce plan name answer ⊎ Cause → Cause
+behind plan name answer later (inl once) = let at : answer.from ≡ 0 = once.0 in absurd (omega (arith, later, at))
+behind plan name answer later (inr cause) = cause
+
 -- so it had its cause
 pub cause-of : (terms : Terms) (before : Log) (e : Entry) (client : Client) (payload : List ℕ) → IsGivenUp terms before e client payload
     → IsCause terms.router.proxy.wait_ms (setup_in terms) (plan_in terms) before e client.number payload
 cause-of terms before e client payload given =
     let log : Log = before ++ e ∷ given.more in
     let here : suc (length before) ≤ length log = omega (arith, length-append before (e ∷ given.more)) in
-    let has : HasCause terms.router.proxy.wait_ms (setup_in terms) (plan_in terms) log client.number (record { from = suc (length before); payloads = payload ∷ [] }) =
-    at-index (AreCaused terms.router.proxy.wait_ms (setup_in terms) (plan_in terms) log) (tale_at terms log).clients given.place client given.keeps.gives
-    given.within given.is given.count (record { from = suc (length before); payloads = payload ∷ [] }) given.taken given.own (omega arith) here in
+    let answer : OwnAnswer = record { from = suc (length before); payloads = payload ∷ [] } in
+    let has : HasCause terms.router.proxy.wait_ms (setup_in terms) (plan_in terms) log client.number answer =
+    behind (plan_in terms) (name_of client (suc given.count)) answer (omega arith)
+    (at-index (AreCaused terms.router.proxy.wait_ms (setup_in terms) (plan_in terms) log) (tale_at terms log).clients given.place client given.keeps.gives
+    given.within given.is given.count answer given.taken given.own here) in
     let from = has.from in
     let cut = same-cut before has.before e has.entry given.more has.later (omega (arith, from)) has.there in
     let Told : List ℕ → Type 0 = λ p. IsCause terms.router.proxy.wait_ms (setup_in terms) (plan_in terms) before e client.number p in
     subst Told (one-payload has.payload payload (sym has.one))
     (subst (λ (l : Log). IsCause terms.router.proxy.wait_ms (setup_in terms) (plan_in terms) l e client.number has.payload) (sym cut.0)
     (subst (λ (x : Entry). IsCause terms.router.proxy.wait_ms (setup_in terms) (plan_in terms) has.before x client.number has.payload) (sym cut.1) has.why))
+
+-- What goes to a server is answered by the router at an entry alone, and for a cause.
+
+route-found : (route : Route) (found : Option Route) → found ≡ Some route → found ≡ None → ⊥
+route-found route (Some other) is none = absurd (cc)
+route-found route None is none = absurd (cc)
+
+pub not-at-once : (terms : Terms) (log : Log) (client : Client) → AnswersAtOnce terms log client → ⊥
+not-at-once terms log client runs =
+    by (at-index (AreCaused terms.router.proxy.wait_ms (setup_in terms) (plan_in terms) log) (tale_at terms log).clients runs.place client runs.keeps.gives
+    runs.within runs.is runs.count runs.answer runs.taken runs.own (omega (arith, runs.once))) where
+      once : runs.answer.from ≡ 0
+      once = runs.once
+
+      by : IsToldAtOnce (plan_in terms) (name_of client (suc runs.count)) runs.answer
+          ⊎ HasCause terms.router.proxy.wait_ms (setup_in terms) (plan_in terms) log client.number runs.answer → ⊥
+      by (inl told) = route-found runs.route ((plan_in terms).routes (name_of client (suc runs.count))) runs.goes told.1
+      by (inr has) = let from = has.from in absurd (omega (arith, once, from))
 
 pub at-no-other : (wait_ms : ℕ) (setup : Setup) (plan : Plan) (log : Log) (e : Entry) (c : ClientNo) (payload : List ℕ)
     → IsCause wait_ms setup plan log e c payload → may_give_up e ≡ false → ⊥

@@ -16,7 +16,7 @@ use Rattle.private_model.specs.Story.{Key}
 use Rattle.log_story.specs.Plan.{Route, com_query}
 use Rattle.router_promises.specs.Verdicts.{Goes, Tells, Verdict, Wanted, is_connection_id}
 use Rattle.message_judge.specs.Judging as judging
-use Rattle.core_promises.specs.Judges.{IsRoutedFor, IsVerdictFor, Knowledge, Rulebook, Situation, transaction_of, verdict_on}
+use Rattle.core_promises.specs.Judges.{IsClosed, IsOpenIn, IsRoutedFor, IsTransaction, IsVerdictFor, Knowledge, Rulebook, Situation, transaction_of, verdict_on}
 use Rattle.core_promises.specs.Wrong.{StaysIn}
 use Rattle.core_promises.proofs.Wanted.{OfGoing, OfSending, classed, drafted}
 
@@ -70,6 +70,21 @@ module _ (rules : List Rule) (known : Knowledge) (home : Hostgroup) where
       ap (λ (h : Option Hostgroup). unwrap_or h
       (if class.reads_id || class.reads_diag then unwrap_or known.caller.last known.caller.home else routed.hostgroup)) opened
 
+-- in which hostgroup it is asked
+
+closed-open : {A : Type 0} (b : Bool) → b ≡ false → b ≡ true → A
+closed-open true isnt is = absurd (cc)
+closed-open false isnt is = absurd (cc)
+
+pub asked-closed : (book : Rulebook) (situation : Situation) (found : Option Hostgroup) → IsTransaction book situation found → IsClosed situation → found ≡ None
+asked-closed book situation None is closed = refl
+asked-closed book situation (Some hostgroup) is closed = closed-open (situation.pins hostgroup).tx (closed hostgroup) (is.in_transaction hostgroup refl)
+
+asked-open : (book : Rulebook) (situation : Situation) (found : Option Hostgroup) (hostgroup : Hostgroup) → IsTransaction book situation found
+    → IsOpenIn hostgroup situation → found ≡ Some hostgroup
+asked-open book situation None hostgroup is opened = closed-open (situation.pins hostgroup).tx (is.none refl hostgroup) opened.in_transaction
+asked-open book situation (Some other) hostgroup is opened = ap Some (opened.alone other (is.in_transaction other refl))
+
 module _ (book : Rulebook) (situation : Situation) (keys : (key : ℕ) → Option Key) (c : ClientNo) (text : List ℕ) (route : Route)
     (routed : IsRoutedFor book situation keys c (com_query ∷ text) route) where
   abbrev for : IsVerdictFor book situation c (com_query ∷ text) (Goes routed.wanted)
@@ -78,7 +93,7 @@ module _ (book : Rulebook) (situation : Situation) (keys : (key : ℕ) → Optio
   same : route.hostgroup ≡ routed.wanted.route.hostgroup
   same = sym (ap (λ (r : Route). r.hostgroup) routed.routed)
 
-  pub goes-home : transaction_of book situation ≡ None
+  pub goes-home : IsClosed situation
       → ((ask : Ask) → ask.text ≡ text → ask.user ≡ situation.user → ask.schema ≡ situation.place.schema → ask.default_hostgroup ≡ book.home situation.user
       → is_first_flag book.rules ask.flag ≡ true → StaysIn (book.home situation.user) (route_of book.rules ask)) → route.hostgroup ≡ book.home situation.user
   goes-home closed stays =
@@ -92,12 +107,18 @@ module _ (book : Rulebook) (situation : Situation) (keys : (key : ℕ) → Optio
       same
       ∙ subst (IsThere (book.home situation.user)) (sym for.is)
       (query-there book.rules for.known (book.home situation.user) text
-      (closed-there book.rules for.known (book.home situation.user) (for.transaction ∙ closed) (route_of book.rules ask)
+      (closed-there book.rules for.known (book.home situation.user) (asked-closed book situation for.known.standing.transaction for.transaction closed) (route_of book.rules ask)
       (stays ask refl for.login (ap (λ (p : Place). p.schema) for.place) for.home for.flag)))
 
-  pub stays-open : (hostgroup : Hostgroup) → transaction_of book situation ≡ Some hostgroup → route.hostgroup ≡ hostgroup
+  stays-open : (hostgroup : Hostgroup) → for.known.standing.transaction ≡ Some hostgroup → route.hostgroup ≡ hostgroup
   stays-open hostgroup opened =
       same
       ∙ subst (IsThere hostgroup) (sym for.is)
       (query-there book.rules for.known hostgroup text
-      (open-there book.rules for.known hostgroup (for.transaction ∙ opened) (judging.pass_of book.rules for.known.caller text)))
+      (open-there book.rules for.known hostgroup opened (judging.pass_of book.rules for.known.caller text)))
+
+  pub stays-alone : (hostgroup : Hostgroup) → IsOpenIn hostgroup situation → route.hostgroup ≡ hostgroup
+  stays-alone hostgroup opened = stays-open hostgroup (asked-open book situation for.known.standing.transaction hostgroup for.transaction opened)
+
+  pub stays-first : (hostgroup : Hostgroup) → transaction_of book situation ≡ Some hostgroup → route.hostgroup ≡ hostgroup
+  stays-first hostgroup opened = stays-open hostgroup (for.transaction.first hostgroup opened)

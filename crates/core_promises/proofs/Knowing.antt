@@ -2,7 +2,6 @@
 use Rattle.std.specs.Prelude.{◌≡◌, ◌<◌, ℕ, Bool, true, false, find, is_some, List, Option, Some, None}
 use Rattle.std.specs.Option.{option_and_then}
 use Rattle.std.proofs.Common.{refl, sym, ap, subst, ◌∙◌}
-use Rattle.session_state.specs.declared.pin.Pin.{Pin}
 use Rattle.private_model.specs.Names.{ClientNo, Hostgroup, LinkId}
 use Rattle.private_model.specs.Story.{Key}
 use Rattle.log_story.specs.Plan.{Route}
@@ -10,7 +9,7 @@ use Rattle.mx_base.specs.declared.names.Port.{Port}
 use Rattle.mx_base.specs.declared.names.Port.TheVariants.{Admin, Traffic}
 use Rattle.router_promises.specs.Verdicts.{Tells, Verdict}
 use Rattle.message_judge.specs.declared.caller.Prepared.{Prepared}
-use Rattle.core_promises.specs.Judges.{IsRoutedFor, IsToldAt, IsToldFor, IsVerdictFor, Rulebook, Situation}
+use Rattle.core_promises.specs.Judges.{IsRoutedFor, IsToldAt, IsToldFor, IsTransaction, IsVerdictFor, Rulebook, Situation, transaction_of}
 use Rattle.core_promises.specs.Statements.{number_named}
 
 -- what is so of a client in one is so in the other, and what it prepared under a number above 0 is the same
@@ -29,6 +28,16 @@ named : (one other : Situation) → KnowsMore one other → (number : Option ℕ
 named one other within None prepared is = is
 named one other within (Some number) prepared is = within.statements number prepared is
 
+transaction_within : (book : Rulebook) (one other : Situation) → other.pins ≡ one.pins → (found : Option Hostgroup) → IsTransaction book one found
+    → IsTransaction book other found
+transaction_within book one other same found is =
+    let of_same : transaction_of book other ≡ transaction_of book one = (λ i. find (λ (h : Hostgroup). (same i h).tx) book.hostgroups) in
+    record {
+      first = λ h at. is.first h (sym of_same ∙ at);
+      in_transaction = λ h at. (λ i. (same i h).tx) ∙ is.in_transaction h at;
+      none = λ nowhere h. (λ i. (same i h).tx) ∙ is.none nowhere h;
+    }
+
 pub verdict_within : (book : Rulebook) (one other : Situation) → KnowsMore one other → (c : ClientNo) (payload : List ℕ) (verdict : Verdict)
     → IsVerdictFor book one c payload verdict → IsVerdictFor book other c payload verdict
 verdict_within book one other within c payload verdict for = record {
@@ -37,7 +46,7 @@ verdict_within book one other within c payload verdict for = record {
   login = for.login ∙ sym within.user;
   home = for.home ∙ ap book.home (sym within.user);
   place = for.place ∙ sym within.place;
-  transaction = for.transaction ∙ ap (λ (pins : Hostgroup → Pin). find (λ (h : Hostgroup). (pins h).tx) book.hostgroups) (sym within.pins);
+  transaction = transaction_within book one other within.pins for.known.standing.transaction for.transaction;
   pins = for.pins ∙ sym within.pins;
   there = λ h some. for.there h (ap (λ (homes : Hostgroup → Option LinkId). is_some (homes h)) (sym within.homes) ∙ some);
   flag = for.flag;

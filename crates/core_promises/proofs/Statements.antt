@@ -18,9 +18,9 @@ use Rattle.log_story.specs.Plan.{Route, com_execute, com_prepare}
 use Rattle.router_promises.specs.Verdicts.{Goes, Wanted}
 use Rattle.message_judge.specs.Judging as judging
 use Rattle.message_judge.specs.declared.caller.Prepared.{Prepared}
-use Rattle.core_promises.specs.Judges.{IsRoutedFor, IsVerdictFor, Knowledge, Rulebook, Situation, transaction_of, verdict_on}
+use Rattle.core_promises.specs.Judges.{IsRoutedFor, IsVerdictFor, Knowledge, Rulebook, Situation, verdict_on}
 use Rattle.core_promises.specs.Statements.{number_named}
-use Rattle.core_promises.specs.Wrong.{IsOfStatement}
+use Rattle.core_promises.specs.Wrong.{IsOfStatement, RunsStatement}
 use Rattle.core_promises.proofs.Commands.{IsRunOnly, execute-runs}
 use Rattle.core_promises.proofs.Wanted.{OfGoing, OfSending, classed, drafted}
 
@@ -78,16 +78,16 @@ module _ (rules : List Rule) (known : Knowledge) where
 
 module _ (book : Rulebook) (situation : Situation) (keys : (key : ℕ) → Option Key) (c : ClientNo) (rest : List ℕ) (route : Route) where
   pub runs-prepared : IsRoutedFor book situation keys c (com_execute ∷ rest) route
-      → IsOfStatement (transaction_of book situation) route (option_and_then situation.statements (number_named (com_execute ∷ rest)))
+      → RunsStatement book situation route (option_and_then situation.statements (number_named (com_execute ∷ rest)))
   runs-prepared routed =
       let for : IsVerdictFor book situation c (com_execute ∷ rest) (Goes routed.wanted) = routed.is in
       let ran : IsRun book.rules for.known routed.wanted = subst (OfGoing (IsRun book.rules for.known)) (sym for.is) (runs book.rules for.known rest) in
-      subst (IsOfStatement (transaction_of book situation) route) (sym (for.prepared ran.one ran.is_known)) (
-        sym (ap (λ (r : Route). r.hostgroup) routed.routed)
-            ∙ ran.hostgroup
-            ∙ ap (λ (t : Option Hostgroup). unwrap_or t ran.one.hostgroup) for.transaction,
-        sym (ap (λ (r : Route). r.multiplex) routed.routed) ∙ ran.multiplex,
-      )
+      record {
+        transaction = for.known.standing.transaction;
+        in_transaction = for.transaction;
+        of = subst (IsOfStatement for.known.standing.transaction route) (sym (for.prepared ran.one ran.is_known))
+            (sym (ap (λ (r : Route). r.hostgroup) routed.routed) ∙ ran.hostgroup, sym (ap (λ (r : Route). r.multiplex) routed.routed) ∙ ran.multiplex);
+      }
 
   pub gives-new : IsRoutedFor book situation keys c (com_prepare ∷ rest) route → situation.given route.number ≡ false
   gives-new routed =

@@ -1,5 +1,5 @@
 -- Why the router answers in place of a server: what the entry was at which a statement was given up, and what there was before it.
-use Rattle.std.specs.Prelude.{◌≡◌, ◌<◌, ◌≤◌, ◌+◌, ◌++◌, ℕ, suc, Bool, true, false, All, length, List, [], ◌∷◌, Option, Some}
+use Rattle.std.specs.Prelude.{◌≡◌, ◌⊎◌, ◌<◌, ◌≤◌, ◌+◌, ◌++◌, ℕ, suc, Bool, true, false, All, length, List, [], ◌∷◌, Option, Some, None}
 use Rattle.std.specs.Option.{option_map_or}
 use Rattle.client_session.specs.Errors.{bad_server_bytes, connection_lost, connection_refused}
 use Rattle.mx_wire.specs.Log.{Log}
@@ -73,11 +73,15 @@ pub record HasCause (wait_ms : ℕ) (setup : Setup) (plan : Plan) (log : Log) (c
   pub one : answer.payloads ≡ payload ∷ []
   pub why : IsCause wait_ms setup plan before entry c payload
 
--- What the router answers by now to a message of a client, and didn't answer as it was taken up.
+-- The message is answered as it is taken up, and goes to no server.
+abbrev pub IsToldAtOnce : Plan → MessageName → OwnAnswer → Type 0
+IsToldAtOnce plan name answer = (answer.from ≡ 0) × (plan.routes name ≡ None)
+
+-- What the router answers by now to a message of a client.
 abbrev pub AreCaused : (wait_ms : ℕ) → Setup → Plan → Log → Client → Type 0
 AreCaused wait_ms setup plan log client =
-    (k : ℕ) (answer : OwnAnswer) → k < client.taken → plan.own (name_of client (suc k)) ≡ Some answer → 0 < answer.from → answer.from ≤ length log
-    → HasCause wait_ms setup plan log client.number answer
+    (k : ℕ) (answer : OwnAnswer) → k < client.taken → plan.own (name_of client (suc k)) ≡ Some answer → answer.from ≤ length log
+    → IsToldAtOnce plan (name_of client (suc k)) answer ⊎ HasCause wait_ms setup plan log client.number answer
 
 -- of each client
 abbrev pub GivesUpSo : Terms → Log → Type 0

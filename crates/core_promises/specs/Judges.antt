@@ -72,9 +72,24 @@ situation_of setup plan taking = record {
   given = is_given (view_of setup taking.tale) plan taking.client;
 }
 
--- the hostgroup of its open transaction
+-- the hostgroup of its open transaction, among the configuration's
 abbrev pub transaction_of : Rulebook → Situation → Option Hostgroup
 transaction_of book situation = find (λ hostgroup. (situation.pins hostgroup).tx) book.hostgroups
+
+-- no transaction of it is open, in whichever hostgroup
+abbrev pub IsClosed : Situation → Type 0
+IsClosed situation = (hostgroup : Hostgroup) → (situation.pins hostgroup).tx ≡ false
+
+-- it has one open in this hostgroup, and in no other
+pub record IsOpenIn (hostgroup : Hostgroup) (situation : Situation) : Type 0 where
+  pub in_transaction : (situation.pins hostgroup).tx ≡ true
+  pub alone : (other : Hostgroup) → (situation.pins other).tx ≡ true → other ≡ hostgroup
+
+-- It is asked in this one: of several, the first of the configuration's, and one that administrators brought only where it has none open in these.
+pub record IsTransaction (book : Rulebook) (situation : Situation) (found : Option Hostgroup) : Type 0 where
+  pub first : (hostgroup : Hostgroup) → transaction_of book situation ≡ Some hostgroup → found ≡ Some hostgroup
+  pub in_transaction : (hostgroup : Hostgroup) → found ≡ Some hostgroup → (situation.pins hostgroup).tx ≡ true
+  pub none : found ≡ None → IsClosed situation
 
 -- What may be known of a client: its user, schema, settings, flag and last hostgroup; the hostgroup of its transaction, and the next number of a
 -- statement; the statement that its message names; why its sessions keep their links; and in which hostgroups there is a link or a server for it.
@@ -98,7 +113,7 @@ pub record IsVerdictFor (book : Rulebook) (situation : Situation) (c : ClientNo)
   pub login : known.caller.user ≡ situation.user
   pub home : known.caller.home ≡ book.home situation.user
   pub place : known.caller.place ≡ situation.place
-  pub transaction : known.standing.transaction ≡ transaction_of book situation
+  pub transaction : IsTransaction book situation known.standing.transaction
   pub pins : known.pins ≡ situation.pins
   pub there : (hostgroup : Hostgroup) → is_some (situation.homes hostgroup) ≡ true → known.is_there hostgroup ≡ true
   pub flag : is_first_flag book.rules known.caller.flag ≡ true

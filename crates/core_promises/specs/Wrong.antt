@@ -11,7 +11,7 @@ use Rattle.query_rules.specs.declared.rule.Rule.{Rule}
 use Rattle.private_model.specs.Names.{Hostgroup, MessageName, SessionName}
 use Rattle.private_model.specs.Story.{Happening, Story}
 use Rattle.log_story.specs.Owed.{messages, name_of}
-use Rattle.log_story.specs.Plan.{Route, com_execute, com_field_list, com_init_db, com_prepare, com_query, own_at}
+use Rattle.log_story.specs.Plan.{OwnAnswer, Route, com_execute, com_field_list, com_init_db, com_prepare, com_query, own_at}
 use Rattle.log_story.specs.Tale.{Client}
 use Rattle.router_promises.specs.Dues.{is_unsent}
 use Rattle.router_promises.specs.Ends.{was_answered}
@@ -21,7 +21,7 @@ use Rattle.router_promises.specs.Wakes.{has_ended}
 use Rattle.router_promises.specs.Wrong.{IsWait}
 use Rattle.router_promises.specs.Takings.{Taking}
 use Rattle.message_judge.specs.declared.caller.Prepared.{Prepared}
-use Rattle.core_promises.specs.Judges.{Rulebook, Situation, WasTaken, book_for, rulebook_of, situation_of}
+use Rattle.core_promises.specs.Judges.{IsTransaction, Rulebook, Situation, WasTaken, book_for, rulebook_of, situation_of}
 use Rattle.core_promises.specs.Sessions.{KeepsApart}
 
 -- the entry is one of a log that keeps clients apart, behind these
@@ -72,6 +72,20 @@ pub record IsGivenUp (terms : Terms) (before : Log) (e : Entry) (client : Client
   pub count : ℕ
   pub taken : count < client.taken
   pub own : (plan_in terms).own (name_of client (suc count)) ≡ Some (record { from = suc (length before); payloads = payload ∷ [] })
+
+-- A message of this client goes to a server, and is answered by the router as it is taken up.
+pub record AnswersAtOnce (terms : Terms) (log : Log) (client : Client) : Type 0 where
+  pub keeps : KeepsApart terms log
+  pub place : ℕ
+  pub within : place < length (tale_at terms log).clients
+  pub is : slice_index_or (tale_at terms log).clients place client ≡ client
+  pub count : ℕ
+  pub taken : count < client.taken
+  pub route : Route
+  pub goes : (plan_in terms).routes (name_of client (suc count)) ≡ Some route
+  pub answer : OwnAnswer
+  pub own : (plan_in terms).own (name_of client (suc count)) ≡ Some answer
+  pub once : answer.from ≡ 0
 
 -- a message with this payload was taken up of a client
 pub record TakesUp (terms : Terms) (payload : List ℕ) : Type 0 where
@@ -152,3 +166,9 @@ SetsNoFlag rules = (flag : ℕ) → is_first_flag rules flag ≡ true → flag �
 abbrev pub IsOfStatement : (transaction : Option Hostgroup) → Route → Option Prepared → Type 0
 IsOfStatement transaction route None = ⊥
 IsOfStatement transaction route (Some one) = (route.hostgroup ≡ unwrap_or transaction one.hostgroup) × (route.multiplex ≡ one.multiplex)
+
+-- by the transaction that its client has open
+pub record RunsStatement (book : Rulebook) (situation : Situation) (route : Route) (statement : Option Prepared) : Type 0 where
+  pub transaction : Option Hostgroup
+  pub in_transaction : IsTransaction book situation transaction
+  pub of : IsOfStatement transaction route statement

@@ -2,7 +2,7 @@
 ghost use Rattle.std.specs.Prelude.{◌≡◌, ◌<◌, ℕ, List, false};
 ghost use Rattle.client_session.specs.Errors.{connection_lost};
 ghost use Rattle.core_promises.specs.Causes.{is_carried, may_give_up};
-ghost use Rattle.core_promises.specs.Wrong.{IsGivenUp};
+ghost use Rattle.core_promises.specs.Wrong.{AnswersAtOnce, IsGivenUp};
 ghost use Rattle.log_story.specs.Headline.{tale_of};
 ghost use Rattle.log_story.specs.Tale.{Client};
 ghost use Rattle.mx_wire.specs.Log.{Log};
@@ -38,4 +38,9 @@ pub fn gives_up_too_soon()
     ensures { (terms : Terms) (before : Log) (until_ms now_ms since : ℕ) (client : Client)
         → IsGivenUp terms before (Woke until_ms now_ms) client (no_connection since now_ms)
         → now_ms < terms.router.proxy.wait_ms → ⊥ }
+{}
+
+/// It answers what goes to a server as it takes it up, before any server can have answered.
+pub fn answers_what_it_sends()
+    ensures { (terms : Terms) (log : Log) (client : Client) → AnswersAtOnce terms log client → ⊥ }
 {}

@@ -3,10 +3,10 @@ ghost use Rattle.std.specs.Prelude.{◌≡◌, ◌≢◌, ◌<◌, ℕ, false, t
 ghost use Rattle.std.specs.Option.{option_and_then};
 ghost use Rattle.core_promises.specs.Asks.{IsTextOf};
 ghost use Rattle.core_promises.specs.InForce.{has_administrator};
-ghost use Rattle.core_promises.specs.Judges.{IsRoutedFor, Rulebook, Situation, rulebook_of, situation_of, transaction_of};
+ghost use Rattle.core_promises.specs.Judges.{IsClosed, IsOpenIn, IsRoutedFor, Rulebook, Situation, rulebook_of, situation_of, transaction_of};
 ghost use Rattle.core_promises.specs.Sessions.{KeepsApart};
 ghost use Rattle.core_promises.specs.Statements.{number_named};
-ghost use Rattle.core_promises.specs.Wrong.{AnswersBy, AsTaken, AsksFor, IsOfStatement, RefusesUser, SendsBy, SetsNoFlag, StaysIn, book_up, is_for_servers, user_of};
+ghost use Rattle.core_promises.specs.Wrong.{AnswersBy, AsTaken, AsksFor, RefusesUser, RunsStatement, SendsBy, SetsNoFlag, StaysIn, book_up, is_for_servers, user_of};
 ghost use Rattle.message_judge.specs.declared.caller.Prepared.{Prepared};
 ghost use Rattle.log_story.specs.Plan.{Route, com_execute, com_init_db, com_prepare, com_query, com_statement_reset};
 ghost use Rattle.mx_base.specs.declared.names.Port.TheVariants.{Admin};
@@ -47,15 +47,18 @@ pub fn verdicts_ask()
 /// there, as a text that reads neither an insert id nor diagnostics.
 pub fn verdicts_go_home()
     ensures { (book : Rulebook) (situation : Situation) (keys : (key : ℕ) → Option Key) (c : ClientNo) (text : List ℕ) (route : Route)
-        → IsRoutedFor book situation keys c (com_query ∷ text) route → transaction_of book situation ≡ None
+        → IsRoutedFor book situation keys c (com_query ∷ text) route → IsClosed situation
         → ((ask : Ask) → ask.text ≡ text → ask.user ≡ situation.user → ask.schema ≡ situation.place.schema
         → ask.default_hostgroup ≡ book.home situation.user → is_first_flag book.rules ask.flag ≡ true
         → StaysIn (book.home situation.user) (route_of book.rules ask)) → route.hostgroup ≡ book.home situation.user }
 {}
 
-/// And where a transaction is open it goes to that one's hostgroup, whatever the rules say.
+/// And where a transaction is open it goes to that one's hostgroup, whatever the rules say: of several, to the first of the configuration's.
 pub fn verdicts_stay_in_transactions()
-    ensures { (book : Rulebook) (situation : Situation) (keys : (key : ℕ) → Option Key) (c : ClientNo) (text : List ℕ) (route : Route)
+    ensures alone { (book : Rulebook) (situation : Situation) (keys : (key : ℕ) → Option Key) (c : ClientNo) (text : List ℕ) (route : Route)
+        (hostgroup : Hostgroup) → IsRoutedFor book situation keys c (com_query ∷ text) route → IsOpenIn hostgroup situation
+        → route.hostgroup ≡ hostgroup }
+    ensures first { (book : Rulebook) (situation : Situation) (keys : (key : ℕ) → Option Key) (c : ClientNo) (text : List ℕ) (route : Route)
         (hostgroup : Hostgroup) → IsRoutedFor book situation keys c (com_query ∷ text) route → transaction_of book situation ≡ Some hostgroup
         → route.hostgroup ≡ hostgroup }
 {}
@@ -65,7 +68,7 @@ pub fn verdicts_stay_in_transactions()
 pub fn verdicts_run_what_was_prepared()
     ensures { (book : Rulebook) (situation : Situation) (keys : (key : ℕ) → Option Key) (c : ClientNo) (rest : List ℕ) (route : Route)
         → IsRoutedFor book situation keys c (com_execute ∷ rest) route
-        → IsOfStatement (transaction_of book situation) route (option_and_then situation.statements (number_named (com_execute ∷ rest))) }
+        → RunsStatement book situation route (option_and_then situation.statements (number_named (com_execute ∷ rest))) }
 {}
 
 /// What is prepared gets a number under which nothing was prepared before.
@@ -95,7 +98,7 @@ pub fn forgets_what_was_prepared()
 /// An execute goes elsewhere than its statement was prepared, and no transaction is open.
 pub fn runs_elsewhere()
     ensures { (terms : Terms) (rest : List ℕ) (route : Route) (sends : SendsBy terms (com_execute ∷ rest) route) (hostgroup : Hostgroup)
-        → AsTaken sends.up (λ situation. transaction_of (book_up sends.up) situation ≡ None)
+        → AsTaken sends.up IsClosed
         → AsTaken sends.up (λ situation. (one : Prepared) → option_and_then situation.statements (number_named (com_execute ∷ rest)) ≡ Some one
         → one.hostgroup ≡ hostgroup) → route.hostgroup ≢ hostgroup → ⊥ }
 {}
@@ -109,7 +112,7 @@ pub fn gives_a_number_again()
 /// A query goes elsewhere than to its user's default hostgroup, of a client that has no transaction open as it is taken up, where the rules leave it there.
 pub fn goes_elsewhere()
     ensures { (terms : Terms) (text : List ℕ) (route : Route) (sends : SendsBy terms (com_query ∷ text) route)
-        → AsTaken sends.up (λ situation. transaction_of (book_up sends.up) situation ≡ None)
+        → AsTaken sends.up IsClosed
         → ((ask : Ask) → ask.text ≡ text → ask.user ≡ user_of sends.up → ask.default_hostgroup ≡ home_of terms.router (user_of sends.up)
         → is_first_flag (book_up sends.up).rules ask.flag ≡ true → StaysIn (home_of terms.router (user_of sends.up)) (route_of (book_up sends.up).rules ask))
         → route.hostgroup ≢ home_of terms.router (user_of sends.up) → ⊥ }
@@ -118,7 +121,7 @@ pub fn goes_elsewhere()
 /// It goes elsewhere than to the hostgroup of the transaction that its client has open.
 pub fn leaves_its_transaction()
     ensures { (terms : Terms) (text : List ℕ) (route : Route) (sends : SendsBy terms (com_query ∷ text) route) (hostgroup : Hostgroup)
-        → AsTaken sends.up (λ situation. transaction_of (book_up sends.up) situation ≡ Some hostgroup) → route.hostgroup ≢ hostgroup → ⊥ }
+        → AsTaken sends.up (IsOpenIn hostgroup) → route.hostgroup ≢ hostgroup → ⊥ }
 {}
 
 /// Messages are judged by other rules than the configuration's, and no administrator came.

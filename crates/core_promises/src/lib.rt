@@ -9,7 +9,8 @@ mod waiting;
 
 pub use asking::{asks_other_texts, copies_a_message, rewrites_without_rules};
 pub use giving::{
-    gives_up_at_any_time, gives_up_for_anothers_link, gives_up_too_soon, gives_up_without_a_loss,
+    answers_what_it_sends, gives_up_at_any_time, gives_up_for_anothers_link, gives_up_too_soon,
+    gives_up_without_a_loss,
 };
 pub use judging::{
     answers_a_choice, answers_a_ping_otherwise, answers_for_a_server, answers_nothing,

@@ -38,8 +38,6 @@ pub struct Service {
     pub default_schema: Bytes,
     /// The hostgroups of the table of servers, row by row.
     pub hostgroups: Items<Hostgroup>,
-    /// The place of each hostgroup by its first row in the table of servers, by its number.
-    pub ranks: Vec<Option<u32>>,
     pub wait_ms: u64,
     pub idle_ms: u64,
     pub buffer_budget: u64,
@@ -115,15 +113,6 @@ fn homes_of(alloc: Global, rows: &[UserRow]) -> Result<HashMap<Bytes, UserAt>, O
     Ok(users)
 }
 
-// The greatest of the hostgroups that servers are in.
-fn most_of(rows: &[ServerRow]) -> u16 {
-    let mut most = 0u16;
-    for row in rows {
-        most = most.max(row.hostgroup.0);
-    }
-    most
-}
-
 fn hostgroups_of(alloc: Global, rows: &[ServerRow]) -> Result<Items<Hostgroup>, OutOfMemory>
     ensures { IfOk result (λ hostgroups. hostgroups ≡ hostgroups_of rows.now) }
 {
@@ -132,20 +121,6 @@ fn hostgroups_of(alloc: Global, rows: &[ServerRow]) -> Result<Items<Hostgroup>, 
         hostgroups.push(row.hostgroup)?;
     }
     Ok(hostgroups)
-}
-
-fn ranks_of(alloc: Global, rows: &[ServerRow]) -> Result<Vec<Option<u32>>, OutOfMemory> {
-    let mut ranks = vec![in alloc; None; usize::from(most_of(rows)) + 1]?;
-    let mut rank = 0u32;
-    for row in rows {
-        if let Some(place) = ranks.get_mut(usize::from(row.hostgroup.0)) {
-            if place.is_none() {
-                *place = Some(rank);
-            }
-        }
-        rank = rank.saturating_add(1);
-    }
-    Ok(ranks)
 }
 
 // The rules of a configuration that was read stand.
@@ -176,7 +151,6 @@ impl Service {
             loaded: None,
             default_schema: Bytes::from_slice(alloc, config.proxy.default_schema.as_slice())?,
             hostgroups: hostgroups_of(alloc, config.servers.as_slice())?,
-            ranks: ranks_of(alloc, config.servers.as_slice())?,
             wait_ms: config.proxy.wait_ms,
             idle_ms: config.proxy.idle_ms,
             buffer_budget: config.proxy.buffer_budget,
@@ -208,22 +182,6 @@ impl Service {
         match self.users.get(user) {
             Some(user) => user.password.as_slice(),
             None => &[],
-        }
-    }
-
-    /// Whether the table of servers has a server in this hostgroup.
-    pub fn has_hostgroup(&self, hostgroup: Hostgroup) -> bool {
-        match self.ranks.get(usize::from(hostgroup.0)) {
-            Some(rank) => rank.is_some(),
-            None => false,
-        }
-    }
-
-    /// The number of a hostgroup among those that servers are in.
-    pub fn group(&self, hostgroup: Hostgroup) -> u32 {
-        match self.ranks.get(usize::from(hostgroup.0)) {
-            Some(Some(rank)) => *rank,
-            _ => 0,
         }
     }
 }

@@ -1,5 +1,6 @@
 pub mod Drafts
 pub mod Promised
+pub mod Transactions
 pub mod Forms
 pub mod Able
 pub mod Ups

@@ -33,7 +33,7 @@ use Rattle.message_judge.specs.declared.draft.ClassOf.{ClassOf}
 use Rattle.message_judge.specs.declared.draft.ClassOf.TheVariants as classes
 use Rattle.message_judge.specs.declared.draft.Draft.{Draft}
 use Rattle.message_judge.specs.declared.draft.Going.{Going}
-use Rattle.core_promises.specs.Judges.{IsVerdictFor, Rulebook, Situation, transaction_of}
+use Rattle.core_promises.specs.Judges.{IsTransaction, IsVerdictFor, Rulebook, Situation}
 use Rattle.core_promises.specs.Statements.{number_named}
 use Rattle.core_turns.specs.declared.judged.Named.{Named}
 use Rattle.core_turns.specs.declared.judged.Verdict.{Verdict}
@@ -113,7 +113,7 @@ pub record IsDraftFor (book : Rulebook) (situation : Situation) (next : Option �
   pub login : caller.user ≡ situation.user
   pub home : caller.home ≡ book.home situation.user
   pub place : caller.place ≡ situation.place
-  pub transaction : standing.transaction ≡ transaction_of book situation
+  pub transaction : IsTransaction book situation standing.transaction
   pub next_is : standing.next_number ≡ next
   pub flag : is_first_flag book.rules caller.flag ≡ true
   pub named : (one : Prepared) → prepared ≡ Some one → option_and_then situation.statements (number_named payload) ≡ Some one

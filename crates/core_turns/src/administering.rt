@@ -21,7 +21,7 @@ use admin_port::{
 };
 use core_service::Service;
 use core_tables::Tables;
-use hostgroups::{ServerRow, Servers, ServersFault};
+use hostgroups::{Servers, ServersFault};
 use marked_tables::MarkedTables;
 use message_judge::{OwnError, Told, write_told};
 use mx_base::{Bytes, ClientNo, OutOfMemory, Port};
@@ -46,24 +46,15 @@ pub(crate) fn is_administrators(tables: &Tables, client: ClientNo) -> bool
     }
 }
 
-// Whether each of these servers is in a hostgroup of the configuration: of no other it is known whether a transaction is open there.
-fn are_known(service: &Service, rows: &[ServerRow]) -> bool {
-    rows.iter().all(|row| service.has_hostgroup(row.hostgroup))
-}
-
 // The staged servers are put in force.
 fn load_servers(
     alloc: Global,
-    service: &Service,
     admin: &mut Administrator,
     servers: &mut Servers,
 ) -> Result<Answer, OutOfMemory>
     ensures done { IfOk result (λ answer. IsDone (Loads tables.Servers) (reply_of answer)) }
     ensures whole { IfOk result HasWholeTable }
 {
-    if !are_known(service, admin.staged.servers()) {
-        return Ok(Answer::Refused(Refusal::Server));
-    }
     let rows = admin.staged.servers().to_vec(alloc)?;
     match servers.reload(alloc, admin.staged.servers()) {
         Ok(()) => {
@@ -104,7 +95,6 @@ fn load_rules(alloc: Global, admin: &mut Administrator) -> Result<Answer, OutOfM
 fn carry_out(
     alloc: Global,
     answer: Answer,
-    service: &Service,
     admin: &mut Administrator,
     servers: &mut Servers,
 ) -> Result<Answer, OutOfMemory>
@@ -113,7 +103,7 @@ fn carry_out(
     ensures whole { IfOk result HasWholeTable }
 {
     match answer {
-        Answer::Load(StagedTable::Servers) => load_servers(alloc, service, admin, servers),
+        Answer::Load(StagedTable::Servers) => load_servers(alloc, admin, servers),
         Answer::Load(StagedTable::Rules) => load_rules(alloc, admin),
         Answer::Shutdown => {
             admin.shuts = true;
@@ -135,7 +125,7 @@ fn answer_for(
     ensures whole { IfOk result HasWholeTable }
 {
     let answer = answer_text(alloc, text, &mut admin.staged, running)?;
-    carry_out(alloc, answer, service, admin, servers)
+    carry_out(alloc, answer, admin, servers)
 }
 
 fn write_statement(

@@ -12,13 +12,12 @@ ghost use Rattle.core_promises.specs.Judges.{IsToldFor};
 ghost use Rattle.core_promises.specs.Ruled.{Ruling, situation_at};
 ghost use Rattle.core_turns.specs.Taken.{IsAnswered, OnUp};
 
+use command_parse::COM_RESET_CONNECTION;
 use core_tables::Tables;
 use marked_tables::MarkedTables;
 use message_judge::{Told, write_told};
 use mx_base::{ClientNo, OutOfMemory};
 use std::alloc::Global;
-
-const COM_RESET_CONNECTION: u8 = 0x1f;
 
 // Whether the client begins anew by its message.
 #[tactic(auto, unfolding(core_tables::specs::Tables::tables_of))]

@@ -14,7 +14,8 @@ ghost use Rattle.private_model.specs.Story.{Key};
 ghost use Rattle.router_promises.specs.Statements.{are_types};
 ghost use Rattle.stmt_map.specs.Client.{next_number};
 ghost use Rattle.core_laws.specs.clients.Found.{user_in};
-ghost use Rattle.core_promises.specs.Judges.{Rulebook};
+ghost use Rattle.client_desk.specs.Desks.{session_of};
+ghost use Rattle.core_promises.specs.Judges.{IsTransaction, Rulebook, Situation};
 ghost use Rattle.core_promises.specs.Ruled.{book_of, known_as, situation_at};
 ghost use Rattle.core_promises.specs.Statements.{number_named};
 ghost use Rattle.core_service.specs.Serves.{home_in, rules_in};
@@ -24,6 +25,7 @@ ghost use Rattle.core_turns.specs.Judged.{IsAsPromised, IsDraftFor, IsOwnVerdict
 ghost use Rattle.core_turns.specs.Preparing.{IsHeld, IsHeldIf, IsInMemory, named_in, prepared_of, statement_named};
 
 use client_desk::{Desk, Session};
+use command_parse::{COM_INIT_DB, COM_STMT_EXECUTE, COM_STMT_RESET};
 use core_service::Service;
 use core_texts::{Kept, Texts, copy_of};
 use hostgroups::Servers;
@@ -36,12 +38,6 @@ use pin_classifier::Class;
 use session_state::Place;
 use std::alloc::Global;
 use stmt_map::Statement;
-
-const COM_INIT_DB: u8 = 0x02;
-
-const COM_STMT_EXECUTE: u8 = 0x17;
-
-const COM_STMT_RESET: u8 = 0x1a;
 
 /// What becomes of a message.
 #[derive(Drop)]
@@ -427,6 +423,17 @@ fn verdict_of(
     }
 }
 
+// The hostgroup of its open transaction: of several, the first of these, where it is in one of them.
+fn transaction_of(desk: &Desk, hostgroups: &[Hostgroup]) -> Option<Hostgroup>
+    ensures { (book : Rulebook) (situation : Situation) → book.hostgroups ≡ hostgroups.now
+        → situation.pins ≡ (λ hostgroup. (session_of desk.now hostgroup).pin) → IsTransaction book situation result }
+{
+    match desk.transaction(hostgroups) {
+        Some(hostgroup) => Some(hostgroup),
+        None => desk.any_transaction(),
+    }
+}
+
 // By the rules, and by what is known of the client.
 fn drafted(
     alloc: Global,
@@ -443,7 +450,7 @@ fn drafted(
 {
     let caller = caller_of(alloc, service, desk, client)?;
     let standing = Standing {
-        transaction: desk.transaction(service.hostgroups.as_slice()),
+        transaction: transaction_of(desk, service.hostgroups.as_slice()),
         next_number: desk.seat.statements.next_number(),
     };
     judge(

@@ -1,6 +1,6 @@
 mod Names
 pub mod Dues
-mod Rows
+pub mod Rows
 mod Same
 mod Clear
 mod Stays

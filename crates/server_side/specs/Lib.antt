@@ -1,7 +1,6 @@
 pub mod Account
 pub mod Login
 pub mod Backend
-pub mod Handing
 pub mod Hearing
 pub mod Reading
 pub mod Growth

@@ -34,12 +34,12 @@ use Rattle.core_laws.proofs.OfHearing.Elsewhere.{CarriedLaw}
 use Rattle.core_laws.specs.clients.Going.{GivenUp, told_to}
 use Rattle.core_laws.specs.entry.Cores.{with_entry}
 use Rattle.core_laws.specs.entry.Tells.{IsOf, ground}
-use Rattle.core_promises.specs.Causes.{AreCaused, HasCause, IsCause, IsHeardCause, IsLateCause, IsLossCause, is_carried}
+use Rattle.core_promises.specs.Causes.{AreCaused, HasCause, IsCause, IsHeardCause, IsLateCause, IsLossCause, IsToldAtOnce, is_carried}
 use Rattle.core_promises.specs.InForce.{has_administrator}
 use Rattle.router_laws.proofs.OfClients.Continuing.{all_were}
 use Rattle.router_laws.proofs.OfDecisions.Fates.{false_true, fate_there, fates_at_once, none_some}
 use Rattle.router_laws.proofs.OfDecisions.Listing.{is_tale_of}
-use Rattle.router_laws.proofs.OfDecisions.Recording.{one_more, own_given, own_new, own_open, own_stays, up_with}
+use Rattle.router_laws.proofs.OfDecisions.Recording.{one_more, or_new, own_given, own_new, own_open, own_stays, up_with}
 use Rattle.router_laws.specs.clients.Continues.{HasCome, WasThere}
 use Rattle.router_laws.specs.decisions.Causes.{AreLate, AreRefused, IsHeardFor, IsLostFor, carries_of}
 use Rattle.router_laws.specs.decisions.Deeds.{Counts, Deeds, Fate, among, counts_with, decided_by, decided_with, fate_at, known_with, taken_by}
@@ -139,21 +139,25 @@ module _ (wait_ms : ℕ) (log : Log) (e : Entry) (d : Decided) (n : Counts) (dee
   of_now = subst (λ (k : ℕ). IsOf (decided_by made n log e k d) k plan) (one_more log e) of
 
   module _ (client : Client) (seated : IsSeated new client) (k : ℕ) (answer : OwnAnswer) (taken : k < client.taken)
-      (own : plan.own (name_of client (suc k)) ≡ Some answer) (later : 0 < answer.from) (by_now : answer.from ≤ length (with_entry log e)) where
+      (own : plan.own (name_of client (suc k)) ≡ Some answer) (by_now : answer.from ≤ length (with_entry log e)) where
     abbrev c : ClientNo
     c = client.number
 
     abbrev name : MessageName
     name = name_of client (suc k)
 
+    abbrev Explains : Log → ClientNo → Type 0
+    Explains past who = IsToldAtOnce plan (record { client = who; ordinal = suc k }) answer ⊎ HasCause wait_ms setup plan past who answer
+
     abbrev Has : Log → Type 0
-    Has past = HasCause wait_ms setup plan past c answer
+    Has past = Explains past c
 
     within : answer.from ≤ now
     within = subst (λ (size : ℕ). answer.from ≤ size) (one_more log e) by_now
 
     grown : Has log → Has (with_entry log e)
-    grown has = record {
+    grown (inl once) = inl once
+    grown (inr has) = inr (record {
       before = has.before;
       entry = has.entry;
       later = has.later ++ e ∷ [];
@@ -162,7 +166,7 @@ module _ (wait_ms : ℕ) (log : Log) (e : Entry) (d : Decided) (n : Counts) (dee
       payload = has.payload;
       one = has.one;
       why = has.why;
-    }
+    })
 
     -- what isn't answered by now
     unanswered : {A : Type 0} → next.own name ≡ Some None → A
@@ -174,7 +178,7 @@ module _ (wait_ms : ℕ) (log : Log) (e : Entry) (d : Decided) (n : Counts) (dee
     -- It was taken up before.
 
     given_now : (payload : List ℕ) → made.given c ≡ Some payload → up_with made n now payload ≡ answer → Has (with_entry log e)
-    given_now payload gives is = record {
+    given_now payload gives is = inr (record {
       before = log;
       entry = e;
       later = [];
@@ -183,7 +187,7 @@ module _ (wait_ms : ℕ) (log : Log) (e : Entry) (d : Decided) (n : Counts) (dee
       payload = payload;
       one = sym (ap (λ (a : OwnAnswer). a.payloads) is);
       why = why c payload (given_among (nat_le c.0 (known_with log e)) (deeds.given c) payload gives);
-    }
+    })
 
     open_before : d.own name ≡ Some None → (given : Option (List ℕ)) (last : Bool) → made.given c ≡ given → nat_eq (suc k) (n.taken c) ≡ last
         → Has (with_entry log e)
@@ -197,9 +201,9 @@ module _ (wait_ms : ℕ) (log : Log) (e : Entry) (d : Decided) (n : Counts) (dee
 
     answered_before : (x : Client) → IsSeated old x → c ≡ x.number → k < x.taken → answer.from ≤ length log → Has (with_entry log e)
     answered_before x there number less early =
-        grown (subst (λ (m : ClientNo). HasCause wait_ms setup plan log m answer) (sym number)
+        grown (subst (Explains log) (sym number)
         (seated_of (AreCaused wait_ms setup plan log) old x there was k answer less
-        (subst (λ (m : ClientNo). plan.own (record { client = m; ordinal = suc k }) ≡ Some answer) number own) later early))
+        (subst (λ (m : ClientNo). plan.own (record { client = m; ordinal = suc k }) ≡ Some answer) number own) early))
 
     before_by : (x : Client) → IsSeated old x → c ≡ x.number → k < n.taken c → (found : Option (Option OwnAnswer)) → d.own name ≡ found
         → is_some found ≡ true → Has (with_entry log e)
@@ -226,17 +230,22 @@ module _ (wait_ms : ℕ) (log : Log) (e : Entry) (d : Decided) (n : Counts) (dee
 
     -- It is taken up now: it is answered at once, or not by now.
 
-    fated : (fate : Fate) → fate_at made n name ≡ Some fate → (mine : Option OwnAnswer) → fate.own ≡ mine → next.own name ≡ Some mine → Has (with_entry log e)
-    fated fate at None is own_now = unanswered own_now
-    fated fate at (Some other) is own_now =
-        let once : other.from ≡ 0 = fates_at_once (made.calls c) (made.halts c) (suc (n.taken c)) (suc k) fate at other is in
+    routed : (fate : Fate) → fate_at made n name ≡ Some fate → n.taken c < suc k → next.routes name ≡ Some fate.route
+    routed fate at untaken =
+        or_new (d.routes name) (option_map (λ (fate : Fate). fate.route) (fate_at made n name)) (recorded.to_come name untaken).unrouted
+        ∙ ap (option_map (λ (fate : Fate). fate.route)) at
+
+    fated : (fate : Fate) → fate_at made n name ≡ Some fate → n.taken c < suc k → (mine : Option OwnAnswer) → fate.own ≡ mine → next.own name ≡ Some mine → Has (with_entry log e)
+    fated fate at untaken None is own_now = unanswered own_now
+    fated fate at untaken (Some other) is own_now =
+        let once = fates_at_once (made.calls c) (made.halts c) (suc (n.taken c)) (suc k) fate at other is in
         let same : other.from ≡ answer.from = ap (λ (a : OwnAnswer). a.from) (same_as other own_now) in
-        absurd (omega (arith, once, same, later))
+        inl (sym same ∙ once.0, of_now.agrees.routes name fate.route (routed fate at untaken) ∙ once.1)
 
     taken_now : n.taken c ≤ k → (found : Option Fate) → fate_at made n name ≡ found → is_some found ≡ true → Has (with_entry log e)
     taken_now least None at some = false_true false refl some
     taken_now least (Some fate) at some =
-        fated fate at fate.own refl
+        fated fate at (omega (arith, least)) fate.own refl
         (own_new made n now name (d.own name) (recorded.to_come name (omega (arith, least))).unowned ∙ ap (option_map (λ (f : Fate). f.own)) at)
 
     each : Has (with_entry log e)
@@ -256,6 +265,6 @@ module _ (wait_ms : ℕ) (log : Log) (e : Entry) (d : Decided) (n : Counts) (dee
           (fate_there (made.calls c) (made.halts c) (suc (n.taken c)) (suc k) (omega (arith, least)) (omega (arith, taken, count_now)))
 
   pub caused_then : All (AreCaused wait_ms setup plan (with_entry log e)) new.clients
-  caused_then = λ i dflt within k answer taken own later by_now.
+  caused_then = λ i dflt within k answer taken own by_now.
       let client : Client = slice_index_or new.clients i dflt in
-      each client (counted_seats new (is_tale_of setup plan (with_entry log e)).counted i dflt within) k answer taken own later by_now
+      each client (counted_seats new (is_tale_of setup plan (with_entry log e)).counted i dflt within) k answer taken own by_now

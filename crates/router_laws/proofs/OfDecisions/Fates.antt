@@ -64,15 +64,15 @@ fate_there (choice ∷ others) halt first ordinal least less =
       by true is later = refl
       by false other later = later (past first ordinal least other)
 
--- What is answered as it is taken up is so from the first entry on.
+-- What is answered as it is taken up is so from the first entry on, and goes to no server.
 
 abbrev pub IsAtOnce : Fate → Type 0
-IsAtOnce fate = (answer : OwnAnswer) → fate.own ≡ Some answer → answer.from ≡ 0
+IsAtOnce fate = (answer : OwnAnswer) → fate.own ≡ Some answer → (answer.from ≡ 0) × (fate.route ≡ None)
 
 once_of : (choice : Choice) → IsAtOnce (fate_of choice)
 once_of (Goes route keyed) answer is = none_some None answer refl is
 once_of (Answers payloads) answer is =
-    let same : record { from = 0; payloads = payloads } ≡ answer = cc in sym (ap (λ (a : OwnAnswer). a.from) same)
+    let same : record { from = 0; payloads = payloads } ≡ answer = cc in (sym (ap (λ (a : OwnAnswer). a.from) same), refl)
 
 once_if : (b : Bool) (fate : Fate) → (if b then Some no_fate else None) ≡ Some fate → IsAtOnce fate
 once_if true fate is = let same : no_fate ≡ fate = cc in subst IsAtOnce same (λ answer has. none_some None answer refl has)

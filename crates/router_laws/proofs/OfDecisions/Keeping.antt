@@ -149,7 +149,7 @@ module _ (d : Decided) (n : Counts) (log : Log) (e : Entry) (all : Deeds) (recor
   fate_early m answer (Some fate) is own =
       let same : fate.own ≡ Some answer = cc in
       let zero : answer.from ≡ 0 =
-      fates_at_once (deeds.calls m.client) (deeds.halts m.client) (suc (n.taken m.client)) m.ordinal fate is answer same in
+      (fates_at_once (deeds.calls m.client) (deeds.halts m.client) (suc (n.taken m.client)) m.ordinal fate is answer same).0 in
       omega (arith, zero)
 
   answers_early : (m : MessageName) (answer : OwnAnswer) → new.own m ≡ Some (Some answer) → answer.from ≤ now

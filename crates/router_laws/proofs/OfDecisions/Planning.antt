@@ -157,7 +157,7 @@ module _ (d : Decided) (n : Counts) (log : Log) (e : Entry) (deeds : Deeds) (mom
             ∙ ap (option_map (λ (fate : Fate). fate.route)) is);
         own = own_by_fate m fate.own
             (own_new deeds n now m (d.own m) free.unowned ∙ ap (option_map (λ (fate : Fate). fate.own)) is)
-            (fates_at_once (deeds.calls m.client) (deeds.halts m.client) (suc (n.taken m.client)) m.ordinal fate is);
+            (λ answer has. (fates_at_once (deeds.calls m.client) (deeds.halts m.client) (suc (n.taken m.client)) m.ordinal fate is answer has).0);
       }
 
   fate_here : (m : MessageName) (fate : Fate) → fate_at deeds n m ≡ Some fate → HasFate plan now m fate

@@ -16,7 +16,8 @@ use Rattle.client_desk.specs.Desks.{gone, session_of}
 use Rattle.client_desk.specs.Sessions.{next_session}
 use Rattle.client_desk.specs.declared.desk.Desk.{Desk}
 use Rattle.client_desk.specs.declared.session.Session.{Session}
-use Rattle.router_laws.proofs.OfLinks.Sessions.{home_row, session_hostgroup, session_put}
+use Rattle.desk_laws.proofs.Rows.{session_hostgroup, session_put}
+use Rattle.router_laws.proofs.OfLinks.Sessions.{home_row}
 use Rattle.desk_laws.specs.Stands.{HasRow}
 use Rattle.core_tables.specs.Parting.{changed_for, gone_row, present_in}
 use Rattle.core_tables.specs.Tables.{Tabled}

@@ -18,7 +18,7 @@ use Rattle.client_desk.specs.declared.session.Session.{Session}
 use Rattle.client_desk.specs.declared.work.Work.{Work}
 use Rattle.desk_laws.specs.Stands.{name_at}
 use Rattle.link_state.specs.declared.state.Carried.TheVariants.{Lent}
-use Rattle.router_laws.proofs.OfLinks.Sessions.{session_elsewhere, session_hostgroup}
+use Rattle.desk_laws.proofs.Rows.{session_elsewhere, session_hostgroup}
 use Rattle.link_state.specs.declared.wish.Session as links
 use Rattle.lent_link.specs.declared.link.LentLink.{LentLink}
 use Rattle.served_link.specs.declared.row.LeftSession.{LeftSession}
