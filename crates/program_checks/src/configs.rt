@@ -147,3 +147,39 @@ host = \"127.0.0.1\"
 port = 3306
 rack = 4
 ";
+
+/// The user u without a password, the schema of generated loads, and one server that allows one connection.
+pub const ONE_LOAD_LINK: &str = "default_schema = \"load\"
+[[users]]
+name = \"u\"
+password = \"\"
+[[servers]]
+hostgroup = 0
+host = \"127.0.0.1\"
+port = 3306
+max_connections = 1
+";
+
+/// The same, and two connections.
+pub const TWO_LOAD_LINKS: &str = "default_schema = \"load\"
+[[users]]
+name = \"u\"
+password = \"\"
+[[servers]]
+hostgroup = 0
+host = \"127.0.0.1\"
+port = 3306
+max_connections = 2
+";
+
+/// The same, and eight connections.
+pub const LOAD_LINKS: &str = "default_schema = \"load\"
+[[users]]
+name = \"u\"
+password = \"\"
+[[servers]]
+hostgroup = 0
+host = \"127.0.0.1\"
+port = 3306
+max_connections = 8
+";

@@ -87,6 +87,13 @@ fn is_own_error(reply: &[u8]) -> bool {
     reply.get(4) == Some(&0xFF) && get_u16(reply, 5).unwrap_or(0) >= OWN_ERRORS
 }
 
+/// How many bytes what is said in a login has.
+pub fn login_size(bytes: &[u8]) -> usize
+    ensures { result ≤ length bytes.now }
+{
+    reply_size(bytes)
+}
+
 /// Whether what a client was written is, reply by reply, the front of what it is written where no call fails, but that one of the router's
 /// own errors may stand in place of a reply. The last reply may be cut.
 pub fn is_front(whole: &[u8], written: &[u8]) -> bool {

@@ -1,7 +1,7 @@
 // What a run is given beside its wire.
 use crate::configs::{
-    BAD_LIST, NO_SERVER, ONE_LINK, ONE_RULE, ONE_SERVER, PROXY, TWO_CLIENTS, TWO_GROUPS, TWO_LINKS,
-    UNEVEN, UNKNOWN_KEYS, UNKNOWN_RULE_KEY,
+    BAD_LIST, LOAD_LINKS, NO_SERVER, ONE_LINK, ONE_LOAD_LINK, ONE_RULE, ONE_SERVER, PROXY,
+    TWO_CLIENTS, TWO_GROUPS, TWO_LINKS, TWO_LOAD_LINKS, UNEVEN, UNKNOWN_KEYS, UNKNOWN_RULE_KEY,
 };
 use crate::names::spelled;
 use crate::tables::add;
@@ -105,6 +105,9 @@ pub fn files_of(answer: &mut Answer, recording: &str) -> Vec<(Bytes, Bytes)> {
     add_file(answer, &mut files, "unknown_keys", PROXY, UNKNOWN_KEYS);
     add_file(answer, &mut files, "rules", PROXY, UNKNOWN_RULE_KEY);
     add_file(answer, &mut files, "bad_list", PROXY, BAD_LIST);
+    add_file(answer, &mut files, "one_load_link", PROXY, ONE_LOAD_LINK);
+    add_file(answer, &mut files, "two_load_links", PROXY, TWO_LOAD_LINKS);
+    add_file(answer, &mut files, "load_links", PROXY, LOAD_LINKS);
     add_file(answer, &mut files, "empty", "", "");
     add_file(answer, &mut files, "recording", "", recording);
     files

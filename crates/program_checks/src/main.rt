@@ -1,9 +1,10 @@
 //! Runs the router over files, a wire and a sink in memory, a run for each case of stdin, and answers with the status and what was printed;
-//! runs it between clients that follow scripts and servers in memory; and shows how the serving loop calls a wire, and what real sockets
+//! runs it between clients that follow scripts and servers in memory, also against sessions of the clients' own; and shows how the serving loop calls a wire, and what real sockets
 //! answer.
 #![tactic(auto)]
 
 mod bare_wire;
+mod careless;
 mod configs;
 mod flood;
 mod fronts;
@@ -14,6 +15,7 @@ mod reports;
 mod runs;
 mod scripts;
 mod shown;
+mod soak;
 mod sockets;
 mod tables;
 mod tapes;
@@ -35,10 +37,12 @@ enum Reader {
     Flood,
     One,
     Failing,
+    Soak,
+    Careless,
 }
 
 // Readers by their words, with the names that stand in their answers.
-const READERS: [(&str, (Reader, Names)); 8] = [
+const READERS: [(&str, (Reader, Names)); 10] = [
     ("replay", (Reader::Replay, Names::Recorded)),
     ("run", (Reader::Words { are_taken: false }, Names::Recorded)),
     (
@@ -50,6 +54,8 @@ const READERS: [(&str, (Reader, Names)); 8] = [
     ("flood", (Reader::Flood, Names::Recorded)),
     ("scripted", (Reader::One, Names::Scripted)),
     ("fails", (Reader::Failing, Names::Scripted)),
+    ("soak", (Reader::Soak, Names::Scripted)),
+    ("careless", (Reader::Careless, Names::Scripted)),
 ];
 
 fn read_by<R: Threads + Sync>(rt: &R, fields: &mut Fields<'_>, reader: Reader) {
@@ -61,6 +67,8 @@ fn read_by<R: Threads + Sync>(rt: &R, fields: &mut Fields<'_>, reader: Reader) {
         Reader::Flood => flood::answer(fields),
         Reader::One => plays::one(rt, fields),
         Reader::Failing => plays::each_failing(rt, fields),
+        Reader::Soak => soak::soak(rt, fields),
+        Reader::Careless => careless::answer(fields),
     }
 }
 

@@ -2,3 +2,4 @@ mod Ending
 mod Turns
 pub mod Keeping
 mod Learning
+mod Loads

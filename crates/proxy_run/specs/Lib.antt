@@ -1,3 +1,5 @@
+pub mod Load
+pub mod LoadWords
 pub mod Replay
 pub mod ReportWords
 pub mod Reports

@@ -12,7 +12,10 @@ use Rattle.proxy_run.specs.ReportWords.{ReportNamed, report_words}
 use Rattle.proxy_run.specs.Reports.{Reported, ReportedInPart}
 use Rattle.proxy_run.specs.Words.{Named, replay_words, serve_words, text_words}
 use Rattle.proxy_run.specs.Replay.{Held, IsMisconfigured, Replayed, ReplayedInPart, IsUnconfigured, IsRefused, RanOut, IsUnread}
-use Rattle.proxy_run.specs.Serve.{IsServed, Served, ServedUntil, IsUntouched, IsWornOut}
+use Rattle.generated_load.specs.declared.ask.LoadAsk.{LoadAsk}
+use Rattle.proxy_run.specs.Load.{Counted, CountedInPart, IsLoad, load_turns}
+use Rattle.proxy_run.specs.LoadWords.{load_words}
+use Rattle.proxy_run.specs.Serve.{IsServed, Served, ServedUntil, IsUntouched, IsWornOut, most_turns}
 
 -- a front of the line was put, and the sink failed
 pub record FailsAt (line : List ℕ) (old : Option (List ℕ)) (before : ℕ) (new : Option (List ℕ)) (now : ℕ) : Type 0 where
@@ -80,7 +83,7 @@ pub data ServeOutcome (name : List ℕ) (held : Held) (read_before read_now : �
   NotRead : read_before < read_now → Says (codes "read fault\n") old before new now → ServeOutcome name held read_before read_now told ports_before ports_now old before new now 3
   RefusedMemory : ServedUntil name held told → Says (codes "out of memory\n") old before new now → ServeOutcome name held read_before read_now told ports_before ports_now old before new now 5
   PortFailed : Served name held (EndsWith IsPortFault) told → ports_before < ports_now → Says (codes "listen fault\n") old before new now → ServeOutcome name held read_before read_now told ports_before ports_now old before new now 6
-  WornOut : Served name held IsWornOut told → Says (codes "turns spent\n") old before new now → ServeOutcome name held read_before read_now told ports_before ports_now old before new now 8
+  WornOut : Served name held (IsWornOut most_turns) told → Says (codes "turns spent\n") old before new now → ServeOutcome name held read_before read_now told ports_before ports_now old before new now 8
 
 -- The status, its cause and what is printed. Words that don't ask for serving are those of a replay, or no command.
 abbrev pub OutcomeOf : Option (List ℕ) → List (List ℕ) → Held → (read_before read_now : ℕ) → Option Log → (ports_before ports_now : ℕ) → Option (List ℕ) → ℕ → Option (List ℕ) → ℕ → ℕ → Type 0
@@ -101,9 +104,27 @@ pub record ReportRun (names : ReportNamed) (held : Held) (read_before read_now :
   pub untouched : IsUntouched told
 
 -- Words that don't ask for a report ask for serving or a replay, or are no command.
-abbrev pub AskedOutcome : Option ReportNamed → List (List ℕ) → Held → (read_before read_now : ℕ) → Option Log → (ports_before ports_now : ℕ) → Option (List ℕ) → ℕ → Option (List ℕ) → ℕ → ℕ → Type 0
-AskedOutcome (Some names) words held read_before read_now told ports_before ports_now old before new now status = ReportRun names held read_before read_now told old before new now status
-AskedOutcome None words held read_before read_now told ports_before ports_now old before new now status = OutcomeOf (serve_words words) words held read_before read_now told ports_before ports_now old before new now status
+abbrev pub FilesOutcome : Option ReportNamed → List (List ℕ) → Held → (read_before read_now : ℕ) → Option Log → (ports_before ports_now : ℕ) → Option (List ℕ) → ℕ → Option (List ℕ) → ℕ → ℕ → Type 0
+FilesOutcome (Some names) words held read_before read_now told ports_before ports_now old before new now status = ReportRun names held read_before read_now told old before new now status
+FilesOutcome None words held read_before read_now told ports_before ports_now old before new now status = OutcomeOf (serve_words words) words held read_before read_now told ports_before ports_now old before new now status
+
+-- The same of a generated load.
+pub data LoadOutcome (ask : LoadAsk) (old : Option (List ℕ)) (before : ℕ) (new : Option (List ℕ)) (now : ℕ) : ℕ → Type 0 where
+  LoadCounted : Counted ask old new → LoadOutcome ask old before new now 0
+  LoadUnput : CountedInPart ask old before new now → LoadOutcome ask old before new now 4
+  LoadNoMemory : Says (codes "out of memory\n") old before new now → LoadOutcome ask old before new now 5
+  LoadPortFailed : (log : Log) → IsLoad ask (EndsWith IsPortFault) log → Says (codes "listen fault\n") old before new now → LoadOutcome ask old before new now 6
+  LoadSpent : (log : Log) → IsLoad ask (IsWornOut (load_turns ask)) log → Says (codes "turns spent\n") old before new now → LoadOutcome ask old before new now 8
+
+-- and the wire that was handed in isn't touched
+pub record LoadRun (ask : LoadAsk) (told : Option Log) (old : Option (List ℕ)) (before : ℕ) (new : Option (List ℕ)) (now : ℕ) (status : ℕ) : Type 0 where
+  pub outcome : LoadOutcome ask old before new now status
+  pub untouched : IsUntouched told
+
+-- Words that don't ask for a load ask for something of files, or are no command.
+abbrev pub AskedOutcome : Option LoadAsk → List (List ℕ) → Held → (read_before read_now : ℕ) → Option Log → (ports_before ports_now : ℕ) → Option (List ℕ) → ℕ → Option (List ℕ) → ℕ → ℕ → Type 0
+AskedOutcome (Some ask) words held read_before read_now told ports_before ports_now old before new now status = LoadRun ask told old before new now status
+AskedOutcome None words held read_before read_now told ports_before ports_now old before new now status = FilesOutcome (report_words words) words held read_before read_now told ports_before ports_now old before new now status
 
 -- A text that was asked for is put, or a front of it where the sink failed.
 pub record TextPut (text : List ℕ) (old : Option (List ℕ)) (before : ℕ) (new : Option (List ℕ)) (now : ℕ) (status : ℕ) : Type 0 where
@@ -116,7 +137,7 @@ pub record TextOutcome (text : List ℕ) (told : Option Log) (old : Option (List
 
 abbrev pub OutcomeBy : Option (List ℕ) → List (List ℕ) → Held → (read_before read_now : ℕ) → Option Log → (ports_before ports_now : ℕ) → Option (List ℕ) → ℕ → Option (List ℕ) → ℕ → ℕ → Type 0
 OutcomeBy (Some text) words held read_before read_now told ports_before ports_now old before new now status = TextOutcome text told old before new now status
-OutcomeBy None words held read_before read_now told ports_before ports_now old before new now status = AskedOutcome (report_words words) words held read_before read_now told ports_before ports_now old before new now status
+OutcomeBy None words held read_before read_now told ports_before ports_now old before new now status = AskedOutcome (load_words words) words held read_before read_now told ports_before ports_now old before new now status
 
 abbrev pub Outcome : List (List ℕ) → Held → (read_before read_now : ℕ) → Option Log → (ports_before ports_now : ℕ) → Option (List ℕ) → ℕ → Option (List ℕ) → ℕ → ℕ → Type 0
 Outcome words held read_before read_now told ports_before ports_now old before new now status = OutcomeBy (text_words words) words held read_before read_now told ports_before ports_now old before new now status

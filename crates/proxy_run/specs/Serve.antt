@@ -22,8 +22,12 @@ pub record IsUntouched (told : Option Log) : Type 0 where
   pub empty : (log : Log) → told ≡ Some log → log ≡ []
 
 -- so many waits woke, or one wake took as many calls as it may
-pub record IsWornOut (told : Option Log) : Type 0 where
-  pub worn : (log : Log) → told ≡ Some log → (wakes_of log ≡ 4611686018427387904) ⊎ IsBusy log
+pub record IsWornOut (turns : ℕ) (told : Option Log) : Type 0 where
+  pub worn : (log : Log) → told ≡ Some log → (wakes_of log ≡ turns) ⊎ IsBusy log
+
+-- how often the router waits at most for a wire that is handed in
+abbrev pub most_turns : ℕ
+most_turns = 4611686018427387904
 
 -- an administrator came, who may have it shut down
 pub record IsShutDown (told : Option Log) : Type 0 where
@@ -56,11 +60,11 @@ pub record ServesButLast (config : Config) (log : Log) : Type 0 where
 pub record RefusedAt (config : Config) (told : Option Log) : Type 0 where
   pub serves : (log : Log) → told ≡ Some log → ServesButLast config log
 
-abbrev pub AttendStops : Stop → Config → Option Log → (faults_before faults_now : ℕ) → Type 0
-AttendStops stop.OutOfMemory config told before now = IsUntouched told ⊎ RefusedAt config told
-AttendStops stop.ListenFault config told before now = Attended config (EndsWith IsPortFault) told × (before < now)
-AttendStops stop.TurnsSpent config told before now = Attended config IsWornOut told
-AttendStops _ config told before now = ⊥
+abbrev pub AttendStops : Stop → (turns : ℕ) → Config → Option Log → (faults_before faults_now : ℕ) → Type 0
+AttendStops stop.OutOfMemory turns config told before now = IsUntouched told ⊎ RefusedAt config told
+AttendStops stop.ListenFault turns config told before now = Attended config (EndsWith IsPortFault) told × (before < now)
+AttendStops stop.TurnsSpent turns config told before now = Attended config (IsWornOut turns) told
+AttendStops _ turns config told before now = ⊥
 
 -- the bytes under the name say the configuration
 pub record Served (name : List ℕ) (held : Held) (Ends : Option Log → Type 0) (told : Option Log) : Type 0 where
@@ -83,7 +87,7 @@ ServeStops stop.ReadFault name held read_before read_now told before now = read_
 ServeStops (stop.BadConfig fault) name held read_before read_now told before now = IsMisconfigured name held fault
 ServeStops stop.OutOfMemory name held read_before read_now told before now = ServedUntil name held told
 ServeStops stop.ListenFault name held read_before read_now told before now = Served name held (EndsWith IsPortFault) told × (before < now)
-ServeStops stop.TurnsSpent name held read_before read_now told before now = Served name held IsWornOut told
+ServeStops stop.TurnsSpent name held read_before read_now told before now = Served name held (IsWornOut most_turns) told
 ServeStops _ name held read_before read_now told before now = ⊥
 
 -- it stopped before it made a call of the wire

@@ -2,6 +2,7 @@
 use Rattle.std.specs.Prelude.{◌≡◌, ℕ, if◌then◌else◌, List, [], ◌∷◌, map, codes, Option, Some, None, string_bytes, String}
 use Rattle.std.specs.declared.alloc.Global.{Global}
 use Rattle.std.specs.Str.{bytes_eq}
+use Rattle.proxy_run.specs.LoadWords.{load_words}
 use Rattle.proxy_run.specs.ReportWords.{report_words}
 
 abbrev pub texts : List (String Global) → List (List ℕ)
@@ -24,7 +25,7 @@ serve_words _ = None
 
 -- the text that is asked for
 abbrev pub help_text : List ℕ
-help_text = codes "mx_proxy serve <config>\nmx_proxy replay <config> <recording>\nmx_proxy audit <config> <lines> <workers>\nmx_proxy learn <config> <lines> <workers>\nmx_proxy --help\nmx_proxy --version\nREADME.md says what each does.\n"
+help_text = codes "mx_proxy serve <config>\nmx_proxy replay <config> <recording>\nmx_proxy audit <config> <lines> <workers>\nmx_proxy learn <config> <lines> <workers>\nmx_proxy load <start> <clients> <statements>\nmx_proxy --help\nmx_proxy --version\nREADME.md says what each does.\n"
 
 abbrev pub version_text : List ℕ
 version_text = codes "mx_proxy 0.1.0\n"
@@ -49,7 +50,12 @@ pub record IsUnasked (words : List (List ℕ)) : Type 0 where
   pub unknown : IsUnknown words
   pub reports_not : report_words words ≡ None
 
+-- nor is a load
+pub record IsUnwanted (words : List (List ℕ)) : Type 0 where
+  pub unasked : IsUnasked words
+  pub loads_not : load_words words ≡ None
+
 -- nor is a text
 pub record IsNoCommand (words : List (List ℕ)) : Type 0 where
-  pub unasked : IsUnasked words
+  pub unwanted : IsUnwanted words
   pub tells_not : text_words words ≡ None

@@ -2,10 +2,13 @@
 ghost use Rattle.std.specs.Prelude.{◌≡◌, ◌≢◌, ◌↔◌, [], Option, Some, None, IsSome, IfOk};
 ghost use Rattle.mx_wire.specs.Log.{Log};
 ghost use Rattle.std.specs.Option.{option_map};
-ghost use Rattle.proxy_run.specs.Words.{texts, replay_words, serve_words, text_word, text_words, IsNoCommand, IsUnasked, IsUnknown};
+ghost use Rattle.proxy_run.specs.Words.{help_text, texts, replay_words, serve_words, text_word, text_words, IsNoCommand, IsUnasked, IsUnknown, IsUnwanted};
+ghost use Rattle.proxy_run.specs.LoadWords.{load_words};
 ghost use Rattle.proxy_run.specs.ReportWords.{report_words};
-ghost use Rattle.proxy_run.specs.Run.{Says, Told, TextPut, ServeOutcome, ReplayOutcome, AskedOutcome, Outcome, OutcomeOf, LeavesWire, table_name, config_line};
+ghost use Rattle.proxy_run.specs.Run.{Says, Told, TextPut, ServeOutcome, ReplayOutcome, AskedOutcome, FilesOutcome, Outcome, OutcomeOf, LeavesWire, table_name, config_line};
 
+use crate::load_words::load_words;
+use crate::loading::run_load;
 use crate::replay::replay;
 use crate::report_words::report_words;
 use crate::reporting::run_report;
@@ -32,17 +35,24 @@ const HELP: &[u8] = b"mx_proxy serve <config>
 mx_proxy replay <config> <recording>
 mx_proxy audit <config> <lines> <workers>
 mx_proxy learn <config> <lines> <workers>
+mx_proxy load <start> <clients> <statements>
 mx_proxy --help
 mx_proxy --version
 README.md says what each does.
 ";
+
+fn help() -> &'static [u8]
+    ensures { result.now ≡ help_text }
+{
+    HELP
+}
 
 // The text that the word asks for: `--help` or `--version`.
 fn text_word(word: &str) -> Option<&'static [u8]>
     ensures { option_map (λ text. text.now) result ≡ text_word word.now }
 {
     if word == "--help" {
-        return Some(HELP);
+        return Some(help());
     }
     if word == "--version" {
         return Some(VERSION);
@@ -204,7 +214,7 @@ fn run_command<W: Wire, F: Files, O: Sink>(
 }
 
 // Reports, serves or replays.
-fn run_asked<R: Threads + Sync, W: Wire, F: Files, O: Sink>(
+fn run_on_files<R: Threads + Sync, W: Wire, F: Files, O: Sink>(
     rt: &R,
     alloc: Global,
     words: &[String],
@@ -213,7 +223,7 @@ fn run_asked<R: Threads + Sync, W: Wire, F: Files, O: Sink>(
     out: &mut O,
 ) -> Status
     requires fresh { (log : Log) → W.told wire.old ≡ Some log → log ≡ [] }
-    ensures outcome { AskedOutcome (report_words (texts words.now)) (texts words.now) (F.held files.old) (F.faults files.old) (F.faults files.new) (W.told wire.new) (W.port_faults wire.old) (W.port_faults wire.new) (O.taken out.old) (O.faults out.old) (O.taken out.new) (O.faults out.new) result.0 }
+    ensures outcome { FilesOutcome (report_words (texts words.now)) (texts words.now) (F.held files.old) (F.faults files.old) (F.faults files.new) (W.told wire.new) (W.port_faults wire.old) (W.port_faults wire.new) (O.taken out.old) (O.faults out.old) (O.taken out.new) (O.faults out.new) result.0 }
     ensures wire { LeavesWire (serve_words (texts words.now)) result.0 wire.old wire.new }
     ensures usage { (result.0 ≡ 2) ↔ IsUnasked (texts words.now) }
 {
@@ -223,14 +233,35 @@ fn run_asked<R: Threads + Sync, W: Wire, F: Files, O: Sink>(
     }
 }
 
+// Serves a generated load, or does what is asked of files.
+fn run_asked<R: Threads + Sync, W: Wire, F: Files, O: Sink>(
+    rt: &R,
+    alloc: Global,
+    words: &[String],
+    files: &mut F,
+    wire: &mut W,
+    out: &mut O,
+) -> Status
+    requires fresh { (log : Log) → W.told wire.old ≡ Some log → log ≡ [] }
+    ensures outcome { AskedOutcome (load_words (texts words.now)) (texts words.now) (F.held files.old) (F.faults files.old) (F.faults files.new) (W.told wire.new) (W.port_faults wire.old) (W.port_faults wire.new) (O.taken out.old) (O.faults out.old) (O.taken out.new) (O.faults out.new) result.0 }
+    ensures wire { LeavesWire (serve_words (texts words.now)) result.0 wire.old wire.new }
+    ensures usage { (result.0 ≡ 2) ↔ IsUnwanted (texts words.now) }
+{
+    match load_words(words) {
+        Some(ask) => run_load(alloc, &ask, out),
+        None => run_on_files(rt, alloc, words, files, wire, out),
+    }
+}
+
 /// Does what the words after the program's name ask for, and puts what that prints. `serve <config>` judges a configuration and
 /// serves by it over the wire, until that has nothing more. `replay <config> <recording>` judges a configuration, then replays a
 /// recording over a wire of its own, and puts the transcript of its log. `audit <config> <lines> <workers>` judges a configuration, then
-/// puts the report of a file of statements, one a line; `learn` with the same words puts the hashes of their digests. `--help` and
-/// `--version` put these texts, and touch nothing else.
+/// puts the report of a file of statements, one a line; `learn` with the same words puts the hashes of their digests.
+/// `load <start> <clients> <statements>` serves clients that follow generated scripts, over a wire of its own to a server in memory, and puts
+/// what is counted of its log. `--help` and `--version` put these texts, and touch nothing else.
 ///
 /// The wire that is handed in is for `serve` alone: any other words leave it as it was, and so does a configuration that can't be read or is
-/// refused. `serve` and a replay listen at both addresses of the configuration, that for clients first, before any other call of their wire,
+/// refused. `serve`, a replay and a load listen at both addresses of the configuration, that for clients first, before any other call of their wire,
 /// and at no others. Their logs fit the wire: moments never fall, no two links have one number, and calls name open links alone.
 /// docs/PROMISES.md says what else is so of these logs.
 ///
@@ -240,15 +271,15 @@ fn run_asked<R: Threads + Sync, W: Wire, F: Files, O: Sink>(
 ///
 /// | Status | Comes | Line |
 /// |---|---|---|
-/// | 0 | the wire had nothing more; of a replay the transcript was put, of a report all of it; the text that was asked for was put | none |
+/// | 0 | the wire had nothing more; of a replay the transcript was put, of a report all of it, of a load its six lines; the text that was asked for was put | none |
 /// | 1 | only where the configuration is refused | `config: <kind> <table name> <row> <key>` |
-/// | 2 | exactly where the words are no command, or the workers aren't 1 to 64 | the usage |
+/// | 2 | exactly where the words are no command, or the workers aren't 1 to 64, the clients 1 to 1,000, or the statements 1 to 100,000 | the usage |
 /// | 3 | only where a read failed | `read fault` |
-/// | 4 | only where the sink failed, in a replay, a report or with a text that was asked for | none |
+/// | 4 | only where the sink failed, in a replay, a report, a load or with a text that was asked for | none |
 /// | 5 | memory was refused. In `serve` what is so of a log is so but for its last call, by whose answer it was refused, and which wrote nothing | `out of memory` |
-/// | 6 | only where a port or a wait failed, in `serve` | `listen fault` |
+/// | 6 | only where a port or a wait failed, in `serve` or a load | `listen fault` |
 /// | 7 | only where the recording is refused | `recording: line <line> kind <kind>` |
-/// | 8 | only where one wake made 4,294,967,296 calls of the wire, or `serve` woke 4,611,686,018,427,387,904 times | `turns spent` |
+/// | 8 | only where one wake made 4,294,967,296 calls of the wire, `serve` woke 4,611,686,018,427,387,904 times, or a load 1,000 times for each client and statement, and 1,000 more | `turns spent` |
 pub fn run<R: Threads + Sync, W: Wire, F: Files, O: Sink>(
     rt: &R,
     alloc: Global,

@@ -15,15 +15,21 @@ use std::alloc::Global;
 /// How often the router waits at most: a thousand million times in each second of a hundred years.
 const TURNS: u64 = 4_611_686_018_427_387_904;
 
-// Serves by a configuration.
-fn attend<W: Wire>(alloc: Global, config: &Config, wire: &mut W) -> Result<(), Stop>
+/// Serves by a configuration, and waits so often at most.
+pub(crate) fn attend<W: Wire>(
+    alloc: Global,
+    config: &Config,
+    wire: &mut W,
+    turns: u64,
+) -> Result<(), Stop>
     requires fresh { (log : Log) → W.told wire.old ≡ Some log → log ≡ [] }
     requires lawful { IsLawful config.now }
     ensures ok { OnOk result (Attended config.now IsServed (W.told wire.new)) }
-    ensures err { IfErr result (λ stop. AttendStops stop config.now (W.told wire.new) (W.port_faults wire.old) (W.port_faults wire.new)) }
+    ensures err { IfErr result (λ stop. AttendStops stop turns config.now (W.told wire.new) (W.port_faults wire.old) (W.port_faults wire.new)) }
+    ensures rule { W.ruled_by wire.new ≡ W.ruled_by wire.old }
 {
     let mut core = Core::new(alloc, config)?;
-    let end = serve(alloc, &mut core, wire, TURNS);
+    let end = serve(alloc, &mut core, wire, turns);
     drop(core);
     match end {
         ServeEnd::Over => Ok(()),
@@ -47,5 +53,5 @@ pub fn serve_by<F: Files, W: Wire>(
     ensures err { IfErr result (λ stop. ServeStops stop name.now (F.held files.old) (F.faults files.old) (F.faults files.new) (W.told wire.new) (W.port_faults wire.old) (W.port_faults wire.new)) }
 {
     let config = configure(alloc, name, files)?;
-    attend(alloc, &config, wire)
+    attend(alloc, &config, wire, TURNS)
 }

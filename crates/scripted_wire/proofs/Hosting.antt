@@ -11,7 +11,7 @@ use Rattle.server_rule.specs.declared.session.Session.{Session}
 use Rattle.scripted_wire.specs.declared.hosts.Seat.{Seat}
 use Rattle.scripted_wire.specs.Hosts.{Hosted, IsTaken, RunsIn}
 
-found : {X : Type 0} (xs : List X) (i : ℕ) (x : X) → i < length xs → x ≡ get_or xs i x → slice_get xs i ≡ Some x
+pub found : {X : Type 0} (xs : List X) (i : ℕ) (x : X) → i < length xs → x ≡ get_or xs i x → slice_get xs i ≡ Some x
 found xs i x within is = slice_get-get_or xs i x within ∙ ap (λ y. Some y) (sym is)
 
 pub runs_in : {X : Type 0} (f : X → List ℕ) (step : Step) (at : ℕ) (cmd : Cmd) (servers : List X) (seats : List Seat) (seat : Seat) (server new : X) (session : Session) (reply : List (List ℕ))

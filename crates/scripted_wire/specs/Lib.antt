@@ -9,3 +9,4 @@ pub mod Links
 pub mod Sound
 pub mod Stages
 pub mod Salts
+pub mod Plays

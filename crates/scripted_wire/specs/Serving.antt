@@ -22,10 +22,12 @@ use Rattle.scripted_wire.specs.declared.asked.Asked.TheVariants as asked
 use Rattle.scripted_wire.specs.declared.did.Did.{Did}
 use Rattle.scripted_wire.specs.declared.did.Did.TheVariants as did
 use Rattle.scripted_wire.specs.declared.server_link.ServerLink.{ServerLink}
+use Rattle.scripted_wire.specs.declared.server_link.LetsIn.{LetsIn}
+use Rattle.scripted_wire.specs.declared.server_link.LetsIn.TheVariants as whom
 
 -- a link on which the server's greeting is to be read
-abbrev pub first_link : (server : ℕ) → ClientNo → (salt : List ℕ) → ServerLink
-first_link server number salt = record { client = new_client number salt 1073741824 (codes "8.0.30-scripted"); server = server; seat = None; ended = false }
+abbrev pub first_link : LetsIn → (server : ℕ) → ClientNo → (salt : List ℕ) → ServerLink
+first_link lets_in server number salt = record { client = new_client number salt 1073741824 (codes "8.0.30-scripted"); lets_in = lets_in; server = server; seat = None; ended = false }
 
 -- bytes are written there
 abbrev pub hears : List ℕ → ServerLink → ServerLink
@@ -74,7 +76,18 @@ done_by _ client = past_found client.framer.found client
 abbrev pub done : ClientState → ClientState
 done client = done_by client.stage client
 
--- The router is let in, whoever it says it is, by an OK; its session is fresh.
+-- Who logs in is let in by an OK, and its session is fresh; or it is turned away.
+
+-- one without a password answers the salt with nothing
+abbrev pub is_welcome : LetsIn → Response → Bool
+is_welcome whom.Anybody response = true
+is_welcome whom.WithoutPassword response = nat_eq (Rattle.std.specs.Prelude.length response.answer) 0
+
+abbrev pub denied : List ℕ
+denied = err_payload 1045 (codes "28000") (codes "Access denied")
+
+abbrev pub turned_away : (first : ℕ) → ServerLink → ServerLink
+turned_away first link = record (answered (spelling first denied) link) { ended = true }
 
 abbrev pub has_bit : (bit capabilities : ℕ) → Bool
 has_bit bit capabilities = not (nat_eq (bit_and capabilities bit) 0)
@@ -91,16 +104,20 @@ abbrev pub seated : ServerLink → Response → Hosted → Hosted
 seated link response hosted =
     record hosted { seats = hosted.seats ++ record { server = link.server; session = fresh response.user (asked_for response.capabilities) [] } ∷ [] }
 
-abbrev pub let_in_by : (first : ℕ) → Option Response → ServerLink → Hosted → Served
-let_in_by first None link hosted = record { link = link; hosted = hosted; did = did.Nothing }
-let_in_by first (Some response) link hosted = record {
+abbrev pub lets_in : (first : ℕ) → Response → ServerLink → Hosted → Served
+lets_in first response link hosted = record {
   link = record link { client = done (record link.client { outgoing = link.client.outgoing ++ spelling first (ok_payload 2 []) }); seat = Some (Rattle.std.specs.Prelude.length hosted.seats) };
   hosted = seated link response hosted;
   did = did.Answered;
 }
 
-abbrev pub lets_in : (first : ℕ) → ServerLink → Hosted → Served
-lets_in first link hosted = let_in_by first (login_of link.client.stage) link hosted
+abbrev pub logs_in_by : (first : ℕ) → Option Response → ServerLink → Hosted → Served
+logs_in_by first None link hosted = record { link = link; hosted = hosted; did = did.Nothing }
+logs_in_by first (Some response) link hosted =
+    if is_welcome link.lets_in response then lets_in first response link hosted else record { link = turned_away first link; hosted = hosted; did = did.Answered }
+
+abbrev pub logs_in : (first : ℕ) → ServerLink → Hosted → Served
+logs_in first link hosted = logs_in_by first (login_of link.client.stage) link hosted
 
 -- What is asked in a session is done.
 
@@ -142,7 +159,7 @@ refuses step first link hosted = refuses_in step first link.seat link hosted
 
 abbrev pub serves : Step → (closed : Bool) → ClientStep → ServerLink → Hosted → Served
 serves step closed client_step.Nothing link hosted = rests step closed link hosted
-serves step closed (client_step.Login first) link hosted = lets_in first link hosted
+serves step closed (client_step.Login first) link hosted = logs_in first link hosted
 serves step closed (client_step.Message ordinal first) link hosted = runs step first link hosted
 serves step closed (client_step.Refused first fault) link hosted = refuses step first link hosted
 

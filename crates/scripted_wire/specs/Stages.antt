@@ -9,6 +9,7 @@ use Rattle.scripted_wire.specs.Giving.{Gives}
 use Rattle.scripted_wire.specs.Links.{LinkHears, ends, has_news, link_rests, new_link, unread}
 use Rattle.scripted_wire.specs.Scripts.{first_client}
 use Rattle.scripted_wire.specs.Serving.{first_link}
+use Rattle.scripted_wire.specs.declared.server_link.LetsIn.TheVariants as whom
 use Rattle.scripted_wire.specs.declared.link.Link.{Link}
 use Rattle.scripted_wire.specs.declared.link.Peer.TheVariants as peer
 use Rattle.scripted_wire.specs.declared.script.Script.{Script}
@@ -42,7 +43,7 @@ Accepts came old new = AcceptsBy (slice_get old.waiting.scripts old.waiting.came
 -- a link to a server comes
 pub record Opens (server : ℕ) (old new : Stage) : Type 0 where
   pub frame : new ≡ record old { links = new.links }
-  pub links : new.links.items ≡ old.links.items ++ new_link (peer.Server (first_link server (record { 0 = length old.links.items }) (salt_of (length old.links.items)))) ∷ []
+  pub links : new.links.items ≡ old.links.items ++ new_link (peer.Server (first_link whom.Anybody server (record { 0 = length old.links.items }) (salt_of (length old.links.items)))) ∷ []
 
 -- the first link from this one on of which there is something new
 abbrev pub news_from : List Link → ℕ → Option ℕ

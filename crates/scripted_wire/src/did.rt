@@ -7,7 +7,7 @@ use mx_wire::Entry;
 
 /// What a server did on a link at a wake.
 #[derive(Clone, Copy)]
-pub(crate) enum Did {
+pub enum Did {
     Nothing,
     /// It answered a login.
     Answered,

@@ -19,7 +19,7 @@ pub(crate) struct Seat {
 
 /// Servers in code, and the sessions of the links to them.
 #[derive(Drop)]
-pub(crate) struct Hosts<R: TameServer> {
+pub struct Hosts<R: TameServer> {
     servers: Vec<R>,
     seats: Vec<Seat>,
 }

@@ -17,5 +17,9 @@ mod server_link;
 mod stage;
 mod waiting;
 
+pub use did::Did;
+pub use hosts::Hosts;
+pub use salt::salt_of;
 pub use script::Script;
 pub use scripted::Scripted;
+pub use server_link::{LetsIn, ServerLink};

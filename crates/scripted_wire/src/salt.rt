@@ -4,7 +4,7 @@ ghost use Rattle.mx_wire.specs.Tells.{IsSalt, IsSaltByte};
 ghost use Rattle.scripted_wire.specs.Salts.{salt_byte, salt_of};
 
 /// The salt of the link of this number. Each byte is from 1 to 127, as in a text that a NUL ends.
-pub(crate) fn salt_of(number: u64) -> [u8; 20]
+pub fn salt_of(number: u64) -> [u8; 20]
     ensures is { result ≡ salt_of number }
     ensures salted { IsSalt result }
 {

@@ -1,16 +1,20 @@
 // A wire between clients that follow scripts and servers in code.
-ghost use Rattle.std.specs.Prelude.{◌≡◌, ◌+◌, ◌≤◌, true, [], length, Some, IfSome, option_map};
+ghost use Rattle.std.specs.Prelude.{◌≡◌, ◌+◌, ◌≤◌, true, [], length, map, Some, IfSome, option_map};
 ghost use Rattle.std.specs.List.{All};
 ghost use Rattle.handshake.specs.Spelling.{IsText};
 ghost use Rattle.mx_wire.specs.Answers.{accepted_entry, opened_entry};
+ghost use Rattle.mx_wire.specs.Log.{Log as Told};
 ghost use Rattle.mx_wire.specs.Tells.{Tells};
 ghost use Rattle.mx_wire.specs.declared.entry.Entry.TheVariants as entry;
+ghost use Rattle.scripted_wire.specs.Plays.{Cast, IsPlayOf};
 
 use crate::calls::Calls;
 use crate::hosts::Hosts;
 use crate::salt::salt_of;
 use crate::script::Script;
 use crate::stage::Stage;
+use crate::waiting::Waiting;
+use http_server::Log;
 use mx_base::{Address, Bytes, LinkId, OutOfMemory, Port, ServerId, Tag};
 use mx_wire::{Accepted, Entry, Got, Listened, Opened, ToldLog, Took, Wire, Woke, read_entry};
 use server_rule::TameServer;
@@ -32,18 +36,20 @@ pub struct Scripted<R: TameServer> {
     stage: Stage,
     told: ToldLog,
     calls: Calls,
+    began: Log<Hosts<R>, Waiting>,
 }
 
 impl<R: TameServer> Model for Scripted<R> {
     ghost use Rattle.std.specs.Prelude.{length};
+    ghost use Rattle.scripted_wire.specs.Plays.{IsPlayed, cast_of};
     ghost use Rattle.scripted_wire.specs.Shown.{Shown};
     ghost use Rattle.scripted_wire.specs.Sound.{IsSound};
 
     ghost Value = { Shown };
 
-    ghost view = { λ s. record { told = s.told; failed = s.calls } };
+    ghost view = { λ s. record { cast = cast_of s.began.items; told = s.told; failed = s.calls } };
 
-    ghost invariant = { λ s. IsSound (length s.stage.links.items) s.stage.moment s.told };
+    ghost invariant = { λ s. IsSound (length s.stage.links.items) s.stage.moment s.told × IsPlayed R.step (cast_of s.began.items) (record { stage = s.stage; hosted = s.hosts }) s.told };
 }
 
 impl<R: TameServer> Scripted<R> {
@@ -53,20 +59,25 @@ impl<R: TameServer> Scripted<R> {
     pub fn new(alloc: Global, servers: Vec<R>, clients: Vec<Script>, failing: Vec<u64>) -> Self
         requires servers { All (λ server. R.tests.is_data (R.stored server) ≡ true) servers.items }
         requires clients { All (λ script. IsText script.user) clients.items }
-        ensures { result ≡ record { told = Some []; failed = record { ports = 0; links = 0 } } }
+        ensures { result ≡ record { cast = record { stored = map R.stored servers.items; scripts = clients.items }; told = Some []; failed = record { ports = 0; links = 0 } } }
     {
+        let hosts = Hosts::new(alloc, servers);
+        let stage = Stage::new(alloc, clients);
+        let began = Log::new().and(&hosts, &stage.waiting);
         Scripted {
             alloc,
-            hosts: Hosts::new(alloc, servers),
-            stage: Stage::new(alloc, clients),
+            hosts,
+            stage,
             told: ToldLog::new(alloc),
             calls: Calls::new(failing),
+            began,
         }
     }
 
-    /// The log so far, where it is told.
+    /// The log so far, where it is told. It is one that these servers and clients give.
     pub fn log(&self) -> Option<&[Entry]>
-        ensures { option_map (λ log. log.now) result ≡ self.now.told }
+        ensures told { option_map (λ log. log.now) result ≡ self.now.told }
+        ensures plays { (log : Told) → self.now.told ≡ Some log → IsPlayOf R.step self.now.cast log }
     {
         self.told.told()
     }
@@ -76,6 +87,7 @@ impl<R: TameServer> Scripted<R> {
         ensures told { Tells self.old.told (accepted_entry Port.Traffic result) self.new.told }
         ensures right { result ≡ Accepted.Failed → ⊥ }
         ensures failed { self.new.failed ≡ self.old.failed }
+        ensures cast { self.new.cast ≡ self.old.cast }
     {
         let port = Port::Traffic;
         let id = self.stage.next_link();
@@ -100,13 +112,29 @@ impl<R: TameServer> Scripted<R> {
         }
     }
 
-    // A link to the server at this place comes.
-    fn open_at(&mut self, server: ServerId, address: Address, at: usize) -> Opened
+    // No link comes.
+    fn open_fails(&mut self, server: ServerId, address: Address) -> Opened
+        ensures told { Tells self.old.told (opened_entry server address result) self.new.told }
+        ensures links { self.new.failed.links ≡ self.old.failed.links + 1 }
+        ensures ports { self.new.failed.ports ≡ self.old.failed.ports }
+        ensures cast { self.new.cast ≡ self.old.cast }
+    {
+        self.told.add(Entry::OpenFailed { server, address });
+        self.calls.fail_link();
+        Opened::Failed
+    }
+
+    // A link to the server comes, where there is one of this number.
+    fn open_to(&mut self, server: ServerId, address: Address) -> Opened
         ensures told { Tells self.old.told (opened_entry server address result) self.new.told }
         ensures right { result ≡ Opened.Failed → self.new.failed.links ≡ self.old.failed.links + 1 }
         ensures links { self.old.failed.links ≤ self.new.failed.links }
         ensures ports { self.new.failed.ports ≡ self.old.failed.ports }
+        ensures cast { self.new.cast ≡ self.old.cast }
     {
+        let Some(at) = self.hosts.index(server) else {
+            return self.open_fails(server, address);
+        };
         let id = self.stage.next_link();
         match self.stage.open(self.alloc, at) {
             Ok(()) => {
@@ -133,9 +161,9 @@ impl<R: TameServer> Wire for Scripted<R> {
 
     ghost faults = { λ wire. wire.failed.links };
 
-    ghost Rules = { Unit {0} };
+    ghost Rules = { Cast };
 
-    ghost ruled_by = { λ _. tt };
+    ghost ruled_by = { λ wire. wire.cast };
 
     ghost takes = { λ _ _ _ piece taken. taken ≡ piece };
 
@@ -166,7 +194,10 @@ impl<R: TameServer> Wire for Scripted<R> {
             self.told.stop();
             return Woke::Over;
         };
-        if self.told.is_stopped() || (!worked && self.stage.is_over()) {
+        if self.told.is_stopped() {
+            return Woke::Over;
+        }
+        if self.stage.is_done(worked) {
             self.told.add(Entry::Over);
             return Woke::Over;
         }
@@ -198,22 +229,17 @@ impl<R: TameServer> Wire for Scripted<R> {
         match port {
             Port::Traffic => self.accept_next(),
             Port::Admin => {
-                self.told.add(Entry::AcceptNothing { port });
+                self.told.add(Entry::AcceptNothing { port: Port::Admin });
                 Accepted::NotReady
             }
         }
     }
 
     fn open(&mut self, server: ServerId, address: Address) -> Opened {
-        let fails = self.calls.next_fails();
-        match self.hosts.index(server) {
-            Some(at) if !fails => self.open_at(server, address, at),
-            _ => {
-                self.told.add(Entry::OpenFailed { server, address });
-                self.calls.fail_link();
-                Opened::Failed
-            }
+        if self.calls.next_fails() {
+            return self.open_fails(server, address);
         }
+        self.open_to(server, address)
     }
 
     fn read(&mut self, link: LinkId, into: &mut [u8]) -> Got {
@@ -233,10 +259,17 @@ impl<R: TameServer> Wire for Scripted<R> {
             self.calls.fail_link();
             return Took::Failed;
         }
-        let heard = self.stage.write(self.alloc, link, piece);
-        self.told
-            .add_if(write_entry(self.alloc, link, tag, piece, heard.is_ok()));
-        Took::Took { n: piece.len() }
+        let took = Took::Took { n: piece.len() };
+        match self.stage.write(self.alloc, link, piece) {
+            Ok(()) => {
+                self.told.add_if(write_entry(self.alloc, link, tag, piece));
+                took
+            }
+            Err(_) => {
+                self.told.stop();
+                took
+            }
+        }
     }
 
     fn close(&mut self, link: LinkId) {
@@ -245,13 +278,10 @@ impl<R: TameServer> Wire for Scripted<R> {
     }
 }
 
-// The entry of a write of a whole piece, where it was heard and there is memory for it.
-fn write_entry(alloc: Global, link: LinkId, tag: Tag, piece: &[u8], heard: bool) -> Option<Entry>
+// The entry of a write of a whole piece, where there is memory for it.
+fn write_entry(alloc: Global, link: LinkId, tag: Tag, piece: &[u8]) -> Option<Entry>
     ensures { IfSome result (λ e. e ≡ entry.Wrote link tag piece.now) }
 {
-    if !heard {
-        return None;
-    }
     let bytes = Bytes::from_slice(alloc, piece).ok()?;
     Some(Entry::Wrote { link, tag, bytes })
 }

@@ -5,13 +5,14 @@ ghost use Rattle.packet_frame.specs.Packets.{spelling, spellings};
 ghost use Rattle.reply_text.specs.Replies.{err_payload, ok_payload};
 ghost use Rattle.scripted_wire.specs.Giving.{Gives, is_some_of};
 ghost use Rattle.scripted_wire.specs.Hosts.{ran};
-ghost use Rattle.scripted_wire.specs.Serving.{Served, answered, first_link, hears, link_read, asked_for, served, rests, drops, lets_in, runs, answers, replied, says, refuses};
+ghost use Rattle.scripted_wire.specs.Serving.{Served, answered, first_link, hears, link_read, asked_for, served, rests, drops, is_welcome, turned_away, logs_in, runs, answers, replied, says, refuses};
 
 use crate::asked::{Asked, read_asked};
 use crate::did::Did;
 use crate::giving::give;
 use crate::hosts::Hosts;
 use client_side::{Client, ClientStep};
+use handshake::Response;
 use mx_base::{Bytes, ClientNo, OutOfMemory};
 use mx_wire::Got;
 use packet_frame::write_message;
@@ -40,11 +41,21 @@ const PS_MULTI_RESULTS: u32 = 0x0004_0000;
 /// SERVER_STATUS_AUTOCOMMIT (client/server protocol, "SERVER_STATUS_flags_enum").
 const AUTOCOMMIT: u16 = 0x0002;
 
-/// A link to a server in code, as that sees it: the router's login and its commands, and what is to be read by the router; the
-/// place of the server, that of the session once the router is logged in, and whether the server has ended the link.
+/// Whom a server in code lets in.
+#[derive(Clone, Copy)]
+pub enum LetsIn {
+    /// Whoever it says it is.
+    Anybody,
+    /// Who answers the salt with nothing, as a user without a password does. Others get error 1045.
+    WithoutPassword,
+}
+
+/// A link to a server in code, as that sees it: the login and the commands of its other end, and what is to be read there; whom it lets
+/// in; the place of the server, that of the session once there was a login, and whether the server has ended the link.
 #[derive(Drop)]
-pub(crate) struct ServerLink {
+pub struct ServerLink {
     pub client: Client,
+    pub lets_in: LetsIn,
     pub server: usize,
     pub seat: Option<usize>,
     pub ended: bool,
@@ -58,6 +69,16 @@ fn asked_for(capabilities: u32) -> Capabilities
         found_rows: capabilities & FOUND_ROWS != 0,
         multi_results: capabilities & MULTI_RESULTS != 0 && capabilities & PS_MULTI_RESULTS != 0,
         ignore_space: capabilities & IGNORE_SPACE != 0,
+    }
+}
+
+// Whether who logs in so is let in.
+fn is_welcome(lets_in: LetsIn, response: &Response) -> bool
+    ensures { result ≡ is_welcome lets_in response.now }
+{
+    match lets_in {
+        LetsIn::Anybody => true,
+        LetsIn::WithoutPassword => response.answer.as_slice().is_empty(),
     }
 }
 
@@ -80,14 +101,16 @@ impl ServerLink {
     /// A link on which the greeting is to be read.
     pub fn new(
         alloc: Global,
+        lets_in: LetsIn,
         server: usize,
         number: ClientNo,
         salt: [u8; 20],
     ) -> Result<Self, OutOfMemory>
-        ensures { IfOk result (λ link. link ≡ first_link server number salt) }
+        ensures { IfOk result (λ link. link ≡ first_link lets_in server number salt) }
     {
         Ok(ServerLink {
             client: Client::new(alloc, number, salt, MOST_MESSAGE, VERSION)?,
+            lets_in,
             server,
             seat: None,
             ended: false,
@@ -123,7 +146,7 @@ impl ServerLink {
         !self.client.outgoing().is_empty()
     }
 
-    /// The server takes the next thing that was written whole: it lets the router in, or runs a command. On a link that the router has
+    /// The server takes the next thing that was written whole: a login, or a command, which it runs. On a link that its other end has
     /// closed, where nothing is left to run, it closes the session. Behind OutOfMemory nothing is promised.
     pub fn serve<R: TameServer>(
         &mut self,
@@ -138,7 +161,7 @@ impl ServerLink {
         }
         match self.client.next()? {
             ClientStep::Nothing => self.rest(hosts, closed),
-            ClientStep::Login { first } => self.let_in(alloc, hosts, first),
+            ClientStep::Login { first } => self.log_in(alloc, hosts, first),
             ClientStep::Message { first, .. } => self.run(alloc, hosts, first),
             ClientStep::Refused { first, .. } => self.refuse(alloc, hosts, first),
         }
@@ -186,33 +209,46 @@ impl ServerLink {
         alloc: Global,
         first: u8,
         code: u16,
+        state: &[u8; 5],
         text: &[u8],
     ) -> Result<(), OutOfMemory>
-        ensures { OnOk result (self.new ≡ answered (spelling first (err_payload code (codes "08S01") text.now)) self.old) }
+        ensures { OnOk result (self.new ≡ answered (spelling first (err_payload code state.now text.now)) self.old) }
     {
         let mut err = Vec::new(alloc);
-        let _next = write_err(&mut err, first, code, b"08S01", text)?;
+        let _next = write_err(&mut err, first, code, state, text)?;
         self.client.answer_grown(&err)
     }
 
-    // The router is let in, whoever it says it is.
-    fn let_in<R: TameServer>(
+    // Who logs in is let in, or isn't.
+    fn log_in<R: TameServer>(
         &mut self,
         alloc: Global,
         hosts: &mut Hosts<R>,
         first: u8,
     ) -> Result<Did, OutOfMemory>
         requires { HasFound self.old.client.stage self.old.client.framer.found }
-        ensures { IfOk result (λ did. record { link = self.new; hosted = hosts.new; did = did } ≡ lets_in first self.old hosts.old) }
+        ensures { IfOk result (λ did. record { link = self.new; hosted = hosts.new; did = did } ≡ logs_in first self.old hosts.old) }
     {
         let Some(response) = self.client.login() else {
             return Ok(Did::Nothing);
         };
+        if !is_welcome(self.lets_in, response) {
+            return self.turn_away(alloc, first);
+        }
         let asked = asked_for(response.capabilities);
         let seat = hosts.enter(alloc, self.server, response.user.as_slice(), asked)?;
         self.say_ok(alloc, first)?;
         self.client.done();
         self.seat = Some(seat);
+        Ok(Did::Answered)
+    }
+
+    // Who logs in isn't let in, and nothing more is heard.
+    fn turn_away(&mut self, alloc: Global, first: u8) -> Result<Did, OutOfMemory>
+        ensures { IfOk result (λ did. (self.new ≡ turned_away first self.old) × (did ≡ Did.Answered)) }
+    {
+        self.say_err(alloc, first, 1045, b"28000", b"Access denied")?;
+        self.ended = true;
         Ok(Did::Answered)
     }
 
@@ -258,7 +294,7 @@ impl ServerLink {
                 Ok(Did::Ran)
             }
             Asked::Unknown => {
-                self.say_err(alloc, first, 1047, b"Unknown command")?;
+                self.say_err(alloc, first, 1047, b"08S01", b"Unknown command")?;
                 Ok(Did::Ran)
             }
         }
@@ -308,7 +344,7 @@ impl ServerLink {
         if self.seat.is_some() {
             return self.end(hosts);
         }
-        self.say_err(alloc, first, 1043, b"Bad handshake")?;
+        self.say_err(alloc, first, 1043, b"08S01", b"Bad handshake")?;
         self.ended = true;
         Ok(Did::Answered)
     }

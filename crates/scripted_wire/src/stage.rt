@@ -1,5 +1,5 @@
 // Where the clients and the links stand.
-ghost use Rattle.std.specs.Prelude.{◌≡◌, ◌+◌, ◌<◌, ◌≤◌, length, slice_get, IfOk, IfSome, OnOk, OnErr};
+ghost use Rattle.std.specs.Prelude.{◌≡◌, ◌+◌, ◌<◌, ◌≤◌, ◌&&◌, ◌||◌, not, length, slice_get, IfOk, IfSome, OnOk, OnErr};
 ghost use Rattle.std.specs.List.{All, list_all, position};
 ghost use Rattle.std.specs.Option.{option_map};
 ghost use Rattle.handshake.specs.Spelling.{IsText};
@@ -7,6 +7,7 @@ ghost use Rattle.mx_wire.specs.Answers.{ReadsAtMost};
 ghost use Rattle.mx_wire.specs.Adds.{Adds};
 ghost use Rattle.scripted_wire.specs.Links.{has_news, link_rests, read_on};
 ghost use Rattle.scripted_wire.specs.Marks.{option_log};
+ghost use Rattle.scripted_wire.specs.Plays.{ServesTo};
 ghost use Rattle.scripted_wire.specs.Sound.{AddsMarks};
 ghost use Rattle.scripted_wire.specs.Stages.{IsFirst, KeepsLinks, Accepts, Opens, news_from, ReadsAt, Changes, closes, Writes, is_over, awake};
 
@@ -14,7 +15,7 @@ use crate::hosts::Hosts;
 use crate::link::{Link, Peer};
 use crate::salt::salt_of;
 use crate::script::Script;
-use crate::server_link::ServerLink;
+use crate::server_link::{LetsIn, ServerLink};
 use crate::waiting::Waiting;
 use mx_base::{ClientNo, LinkId, OutOfMemory};
 use mx_wire::{Entry, Got, ToldLog};
@@ -33,7 +34,8 @@ pub(crate) struct Stage {
 
 // The first link from this one on of which there is something new.
 fn news_from(links: &[Link], from: usize) -> Option<usize>
-    ensures { result ≡ news_from links.now from }
+    ensures value { result ≡ news_from links.now from }
+    ensures bound { IfSome result (λ at. at < length links.now) }
 {
     if from >= links.len() {
         return None;
@@ -50,6 +52,13 @@ fn first_news(links: &[Link]) -> Option<usize>
     ensures bound { IfSome result (λ at. at < length links.now) }
 {
     links.iter().position(|link| link.has_news())
+}
+
+// Whether one of two is so.
+fn either(one: bool, other: bool) -> bool
+    ensures { result ≡ (one || other) }
+{
+    one || other
 }
 
 // Adds a mark, where there is one.
@@ -100,7 +109,13 @@ impl Stage {
         ensures err { OnErr result (KeepsLinks self.old self.new) }
     {
         let number = self.links.len() as u64;
-        let link = ServerLink::new(alloc, server, ClientNo(number), salt_of(number))?;
+        let link = ServerLink::new(
+            alloc,
+            LetsIn::Anybody,
+            server,
+            ClientNo(number),
+            salt_of(number),
+        )?;
         self.links.push(Link::new(Peer::Server(link)))?;
         Ok(())
     }
@@ -110,6 +125,7 @@ impl Stage {
         ensures frame { self.new ≡ record self.old { next = self.new.next } }
         ensures named { option_map (λ link. link.0) result ≡ news_from self.old.links.items self.old.next }
         ensures some { IfSome result (λ link. self.new.next ≡ link.0 + 1) }
+        ensures bound { IfSome result (λ link. link.0 < length self.old.links.items) }
     {
         let at = news_from(&self.links, self.next)?;
         self.next = at + 1;
@@ -159,6 +175,7 @@ impl Stage {
         hosts: &mut Hosts<R>,
         told: &mut ToldLog,
     ) -> Result<bool, OutOfMemory>
+        ensures served { IfOk result (λ worked. ServesTo R.step (length self.old.links.items) self.old hosts.old told.old worked self.new hosts.new told.new) }
         ensures marks { OnOk result (AddsMarks (length self.old.links.items) told.old told.new) }
         ensures kept { KeepsLinks self.old self.new }
     {
@@ -166,16 +183,23 @@ impl Stage {
         for at in 0..self.links.len() {
             let did = self.links[at].serve(alloc, hosts)?;
             add_mark(told, did.mark(LinkId(at as u64)));
-            worked = worked || did.is_work();
+            worked = either(worked, did.is_work());
         }
         Ok(worked)
     }
 
-    /// Whether nothing is to come, where no server has anything to do.
-    pub fn is_over(&self) -> bool
+    // Whether nothing is to come, where no server has anything to do.
+    fn is_over(&self) -> bool
         ensures { result ≡ is_over self.now }
     {
         self.waiting.is_empty() && self.all_rest()
+    }
+
+    /// Whether nothing is to come, where servers did something or nothing.
+    pub fn is_done(&self, worked: bool) -> bool
+        ensures { result ≡ (not worked && is_over self.now) }
+    {
+        !worked && self.is_over()
     }
 
     // Whether nothing is to come of the links.

@@ -5,7 +5,7 @@ use Rattle.mx_config.specs.declared.config.Config.{Config}
 use Rattle.proxy_run.specs.declared.stop.Stop.{Stop}
 use Rattle.proxy_run.specs.declared.stop.Stop.TheVariants as stop
 use Rattle.proxy_run.specs.Replay.{Held, Configures, ConfigStops}
-use Rattle.proxy_run.specs.Serve.{AttendStops, IsEarly, IsUntouched, ServeStops}
+use Rattle.proxy_run.specs.Serve.{AttendStops, IsEarly, IsUntouched, ServeStops, most_turns}
 use Rattle.proxy_run.proofs.serving.serve_by.Goals as goal
 
 -- the configuration can't be had, and the wire wasn't touched
@@ -16,14 +16,14 @@ unconfigured stop.OutOfMemory name held rb rn told pb pn untouched stops = recor
 unconfigured _ name held rb rn told pb pn untouched stops = absurd stops
 
 -- it was served
-attended : (given : Stop) (config : Config) (name : List ℕ) (held : Held) (rb rn : ℕ) (told : Option Log) (pb pn : ℕ) → Configures name held config → AttendStops given config told pb pn → ServeStops given name held rb rn told pb pn
+attended : (given : Stop) (config : Config) (name : List ℕ) (held : Held) (rb rn : ℕ) (told : Option Log) (pb pn : ℕ) → Configures name held config → AttendStops given most_turns config told pb pn → ServeStops given name held rb rn told pb pn
 attended stop.OutOfMemory config name held rb rn told pb pn said (inl untouched) = record { either = inl untouched }
 attended stop.OutOfMemory config name held rb rn told pb pn said (inr stops) = record { either = inr (record { config = config; said = said; refused = stops }) }
 attended stop.ListenFault config name held rb rn told pb pn said stops = (record { config = config; said = said; attended = stops.0 }, stops.1)
 attended stop.TurnsSpent config name held rb rn told pb pn said stops = record { config = config; said = said; attended = stops }
 attended _ config name held rb rn told pb pn said stops = absurd stops
 
-late : (given : Stop) (config : Config) (told : Option Log) (pb pn : ℕ) → AttendStops given config told pb pn → IsEarly given → ⊥
+late : (given : Stop) (config : Config) (told : Option Log) (pb pn : ℕ) → AttendStops given most_turns config told pb pn → IsEarly given → ⊥
 late stop.ReadFault config told pb pn stops early = stops
 late (stop.BadConfig fault) config told pb pn stops early = stops
 late _ config told pb pn stops early = early

@@ -1,0 +1,4 @@
+mod Ends
+pub mod Lawful
+pub mod Saying
+pub mod Written

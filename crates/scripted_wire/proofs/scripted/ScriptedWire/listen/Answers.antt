@@ -1,0 +1,17 @@
+use Rattle.std.proofs.Common.{length, refl}
+use Rattle.mx_wire.specs.declared.entry.Entry.TheVariants as entry
+use Rattle.scripted_wire.specs.Plays.{cast_of}
+use Rattle.scripted_wire.proofs.Playing.{calm}
+use Rattle.scripted_wire.proofs.scripted.ScriptedWire.listen.Goals as goal
+
+pub invariant_of-self : goal.invariant_of-self
+invariant_of-self g c =
+    let s = c.self.inside.stage in
+    calm g.R.TameServer.step (cast_of c.self.inside.began.items) (record { stage = s; hosted = c.self.inside.hosts }) (length s.links.items) s.moment c.self.inside.told (entry.ListenFailed c.args.port) c.add.new.self c.self.invariant c.add.ensures
+    refl (λ m. refl) (record { unmarked = refl; does = refl; hosted = refl })
+
+pub invariant_of-self-2 : goal.invariant_of-self-2
+invariant_of-self-2 g c =
+    let s = c.self.inside.stage in
+    calm g.R.TameServer.step (cast_of c.self.inside.began.items) (record { stage = s; hosted = c.self.inside.hosts }) (length s.links.items) s.moment c.self.inside.told (entry.Listening c.args.port c.args.address) c.add-2.new.self c.self.invariant c.add-2.ensures
+    refl (λ m. refl) (record { unmarked = refl; does = refl; hosted = refl })
