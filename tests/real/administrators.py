@@ -26,6 +26,31 @@ def statuses(cursor):
     return [row[3] for row in rows(cursor, "SELECT * FROM runtime_mysql_servers WHERE hostgroup_id = 0")]
 
 
+class Load:
+    """Clients that say one statement after the other. Who is told an error ends, and its code is kept."""
+
+    def __init__(self, clients):
+        self.going, self.said, self.codes = True, 0, []
+        self.threads = [threading.Thread(target=self.client) for _ in range(clients)]
+        for thread in self.threads:
+            thread.start()
+        time.sleep(1)
+
+    def client(self):
+        cursor = connect().cursor()
+        while self.going:
+            code = code_of(cursor.execute, "SELECT @@port, SLEEP(0.01)")
+            if code:
+                self.codes.append(code)
+                return
+            self.said += 1
+
+    def end(self):
+        self.going = False
+        for thread in self.threads:
+            thread.join()
+
+
 def running(statement):
     """Runs a statement beside what follows; what it ended with is in the list by and by."""
     codes = []
@@ -50,6 +75,14 @@ with World(links=(5, 5)) as world:
 
     client, held = connect().cursor(), connect().cursor()
     check("the only server", rows(client, PORT_OF), ((FIRST,),))
+    admin.execute("INSERT INTO mysql_query_rules (rule_id, match_digest, destination_hostgroup, apply) VALUES (1, '^SELECT', 1, 1)")
+    check("a rule that is staged", rows(client, PORT_OF), ((FIRST,),))
+    admin.execute(RULES)
+    check("sends SELECTs to hostgroup 1, once it is loaded", rows(client, PORT_OF), ((SECOND,),))
+    check("digests", rows(admin, f"SELECT hostgroup, schemaname, username, digest_text, count_star FROM stats_mysql_query_digest WHERE digest_text = '{PORT_OF}'"),
+          (("0", "information_schema", "u", PORT_OF, "2"), ("1", "information_schema", "u", PORT_OF, "1")))
+    admin.execute("DELETE FROM mysql_query_rules")
+    admin.execute(RULES)
     held.execute("BEGIN")
     check("a transaction there", rows(held, PORT_OF), ((FIRST,),))
     admin.execute(f"INSERT INTO mysql_servers (hostgroup_id, hostname, port, max_connections) VALUES (0, '127.0.0.1', {SECOND}, 5)")
@@ -72,6 +105,22 @@ with World(links=(5, 5)) as world:
     check("it is back", {rows(cursor, PORT_OF)[0][0] for cursor in fresh}, {FIRST, SECOND})
     for cursor in fresh:
         cursor.execute("ROLLBACK")
+
+    load = Load(8)
+    with_status(admin, FIRST, "OFFLINE_SOFT")
+    time.sleep(2)
+    check("OFFLINE_SOFT under load: its links close", world.servers[0].links(), [])
+    with_status(admin, FIRST, "ONLINE")
+    time.sleep(2)
+    check("and nobody notices", (load.codes, len(world.servers[0].links()) > 0), ([], True))
+    with_status(admin, FIRST, "OFFLINE_HARD")
+    time.sleep(1)
+    said = load.said
+    time.sleep(1)
+    check("OFFLINE_HARD under load: its own clients end alone", (set(load.codes) <= {2013}, len(load.codes) <= 5, load.said > said), (True,) * 3)
+    load.end()
+    print(f"of 8 clients under load {len(load.codes)} were ended by OFFLINE_HARD, after {load.said} statements")
+    with_status(admin, FIRST, "ONLINE")
 
     with_status(admin, FIRST, "OFFLINE_SOFT")
     beside, codes = running("SELECT SLEEP(20)")

@@ -4,6 +4,7 @@
 from world import World, check, code_of, connect, end, rows
 
 SETTINGS = "SELECT DATABASE(), @@sql_mode, @@time_zone"
+COLLATIONS = "SELECT @@collation_connection, @@collation_server"
 
 with World(links=(1,)) as world:
     world.directly("CREATE DATABASE e; CREATE TABLE d.t (id INT PRIMARY KEY AUTO_INCREMENT, v TEXT);")
@@ -40,6 +41,19 @@ with World(links=(1,)) as world:
     check("a third has none", rows(connect().cursor(), "SELECT LAST_INSERT_ID()"), ((0,),))
     one.execute("INSERT INTO d.t (v) VALUES (LAST_INSERT_ID())")
     check("an INSERT reads it", world.directly("SELECT v FROM d.t ORDER BY id DESC LIMIT 1"), f"{ids[2]}\n")
+    one.execute("SET SESSION TRANSACTION ISOLATION LEVEL READ COMMITTED")
+    told = [rows(cursor, "SELECT @@tx_isolation")[0][0] for _ in range(2) for cursor in (one, two)]
+    check("each has its level of isolation", told, ["READ-COMMITTED", "REPEATABLE-READ"] * 2)
+    two.execute("SET SESSION sql_mode = 'ANSI'")
+    told = [isinstance(rows(cursor, 'SELECT "id" FROM d.t LIMIT 1')[0][0], int) for cursor in (one, two, one)]
+    check("and its quotes of names", told, [False, True, False])
+    first = rows(two, COLLATIONS)[0]
+    one.execute("SET collation_connection = 'utf8mb4_bin', collation_server = 'latin1_bin'")
+    told = [rows(cursor, COLLATIONS)[0] for _ in range(2) for cursor in (one, two)]
+    check("and its collations", told, [("utf8mb4_bin", "latin1_bin"), first] * 2)
+    one.execute("SET NAMES utf8mb4 COLLATE utf8mb4_general_ci")
+    told = [rows(cursor, COLLATIONS)[0] for _ in range(2) for cursor in (one, two)]
+    check("of which SET NAMES takes one back", told, [("utf8mb4_general_ci", "latin1_bin"), first] * 2)
     check("all that ran on one link", (len(link), world.server.links()), (1, link))
     # The step there is refused, and the link closes.
     check("a schema that isn't there", code_of(connect(database="none").cursor().execute, "DO 1"), 9104)

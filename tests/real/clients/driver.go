@@ -122,4 +122,89 @@ func main() {
 		return want(strings.TrimSuffix(found, ".0"), 42)
 	})
 	show("ping", func() error { return pool.Ping() })
+	if kind == "mysql" {
+		statements(pool)
+	}
+}
+
+// Statements that are prepared at the server: values of several types, 20 MB, a hundred at once, a transaction.
+func statements(pool *sql.DB) {
+	for _, text := range []string{"DROP TABLE IF EXISTS d.p", "CREATE TABLE d.p (i BIGINT, u BIGINT UNSIGNED, f DOUBLE, c DECIMAL(20,4), t VARCHAR(60), w DATETIME(6), n INT, b LONGBLOB) CHARACTER SET utf8mb4"} {
+		pool.Exec(text)
+	}
+	show("types", func() error {
+		s, fault := pool.Prepare("INSERT INTO d.p (i, u, f, c, t, w, n) VALUES (?, ?, ?, ?, ?, ?, ?)")
+		for _, i := range []int64{-5, 6} {
+			if fault != nil {
+				return fault
+			}
+			_, fault = s.Exec(i, uint64(18446744073709551615), 1.5, "12345678901234.5678", "grüße", "2024-02-29 12:34:56.250000", nil)
+		}
+		s, fault = pool.Prepare("SELECT i, u, f, c, t, w, n FROM d.p WHERE i = ?")
+		for _, i := range []int64{-5, 6} {
+			var found int64
+			var u uint64
+			var f float64
+			var c, t, w string
+			var n sql.NullInt64
+			if fault == nil {
+				fault = s.QueryRow(i).Scan(&found, &u, &f, &c, &t, &w, &n)
+			}
+			if fault == nil {
+				fault = want(fmt.Sprint(found, u, f, c, t, w, n.Valid), fmt.Sprint(i, uint64(18446744073709551615), 1.5, "12345678901234.5678", "grüße", "2024-02-29 12:34:56.250000", false))
+			}
+		}
+		return fault
+	})
+	show("blob", func() error {
+		whole := ""
+		for k := 0; k < 20; k++ {
+			whole += strings.Repeat(string(rune('a'+k)), 1<<20)
+		}
+		var found string
+		_, fault := pool.Exec("INSERT INTO d.p (i, b) VALUES (7, ?)", []byte(whole))
+		if fault == nil {
+			fault = pool.QueryRow("SELECT b FROM d.p WHERE i = ?", 7).Scan(&found)
+		}
+		if fault != nil {
+			return fault
+		}
+		return want(found == whole, true)
+	})
+	show("hundred", func() error {
+		all := make([]*sql.Stmt, 100)
+		var fault error
+		for k := range all {
+			if all[k], fault = pool.Prepare(fmt.Sprintf("SELECT ? + %d", k)); fault != nil {
+				return fault
+			}
+		}
+		for k := 0; k < 300; k++ {
+			var found float64
+			if fault = all[k%100].QueryRow(1000 * (k / 100)).Scan(&found); fault != nil {
+				return fault
+			}
+			if fault = want(found, float64(1000*(k/100)+k%100)); fault != nil {
+				return fault
+			}
+		}
+		return nil
+	})
+	show("undone", func() error {
+		work, fault := pool.Begin()
+		if fault == nil {
+			_, fault = work.Exec("INSERT INTO d.p (i) VALUES (?)", 99)
+		}
+		if fault == nil {
+			fault = work.Rollback()
+		}
+		var found int
+		if fault == nil {
+			fault = pool.QueryRow("SELECT COUNT(*) FROM d.p WHERE i = ?", 99).Scan(&found)
+		}
+		if fault != nil {
+			return fault
+		}
+		return want(found, 0)
+	})
 }
