@@ -46,11 +46,11 @@ record IsClosedIn (setup : Setup) (plan : Plan) (takings : List Taking) (name : 
   port : taking.client.port ≡ Traffic
   closed : IsClosed (situation_of setup plan taking)
 
-clients-port : (port : Port) → is_clients port ≡ true → port ≡ Traffic
+pub clients-port : (port : Port) → is_clients port ≡ true → port ≡ Traffic
 clients-port Traffic is = refl
 clients-port Admin is = absurd (cc)
 
-same-name : (a b : MessageName) → is_message a b ≡ true → a ≡ b
+pub same-name : (a b : MessageName) → is_message a b ≡ true → a ≡ b
 same-name a b is =
     let parts = and_parts (is_client a.client b.client) (nat_eq a.ordinal b.ordinal) is in
     λ i. record { client = client_of a.client b.client parts.0 i; ordinal = eqb-true a.ordinal b.ordinal parts.1 i }

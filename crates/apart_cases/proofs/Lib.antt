@@ -3,6 +3,7 @@ pub mod Kept
 pub mod Waiting
 pub mod Closed
 pub mod Asking
+pub mod Quiet
 pub mod Shared
 pub mod Plain
 pub mod OnClasses

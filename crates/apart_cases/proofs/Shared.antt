@@ -1,9 +1,12 @@
 -- The worked log of router_cases, where it waits, and what the router says there by itself.
-use Rattle.std.specs.Prelude.{◌≡◌, ℕ, Bool, true, false, List, [], ◌∷◌, Option, Some, None, if◌then◌else◌, refl}
-use Rattle.std.proofs.Common.{ap, subst}
+use Rattle.std.specs.Prelude.{◌≡◌, ℕ, Bool, true, false, List, [], ◌∷◌, Option, Some, None, if◌then◌else◌, length, refl}
+use Rattle.std.proofs.Common.{ap, arith, subst}
+use Rattle.std.proofs.lemmas.List.Elements.{All-nil}
+use Rattle.std.proofs.lemmas.List.Sorted.{IsPermutation-refl}
 use Rattle.client_session.specs.Errors.{connection_refused}
 use Rattle.mx_wire.specs.Moments.{AllLawful}
 use Rattle.mx_base.specs.declared.names.Port.TheVariants.{Traffic}
+use Rattle.query_rules.specs.Building.{IsCompiled}
 use Rattle.query_rules.specs.declared.rule.Rule.{Rule}
 use Rattle.private_model.specs.Names.{ClientNo, Hostgroup, MessageName}
 use Rattle.private_model.specs.Story.{Key, is_message}
@@ -20,7 +23,12 @@ use Rattle.router_cases.specs.Worked.{Stored, anybody, group, insert, log, messa
 use Rattle.router_promises.specs.Now.{at_first, now_at}
 use Rattle.router_promises.specs.Router.{home_of}
 use Rattle.router_promises.specs.Verdicts.{plain_route}
-use Rattle.apart_cases.specs.Tests.{all_closed, all_say, waits}
+use Rattle.apart_cases.specs.Tests.{all_clients, all_closed, all_say, waits}
+use Rattle.log_story.specs.Tale.{first_tale}
+use Rattle.router_promises.specs.Terms.{setup_in}
+use Rattle.core_promises.specs.Administered.{Administers, IsFirst, outcomes_at}
+use Rattle.core_promises.specs.Administers.{Administered}
+use Rattle.apart_cases.proofs.Quiet.{quiet-along}
 use Rattle.apart_cases.proofs.Asking.{judges-so}
 use Rattle.apart_cases.proofs.OnClasses.{on_classes}
 use Rattle.apart_cases.proofs.Plain.{goes-as-it-is}
@@ -56,6 +64,32 @@ closed stored = refl
 -- by the configuration's rules
 abbrev pub rules : MessageName → List Rule
 rules name = router.rules
+
+quiet : (stored : Stored) → all_clients (setup_in (terms_with stored)) plan first_tale log ≡ true
+unfolding on_logs
+quiet stored = refl
+
+-- nothing is staged at first, as there is no administrator
+abbrev nothing_staged : Administered
+nothing_staged = record { staged = record { servers = []; rules = [] }; rules = router.rules }
+
+first-none : IsFirst [] nothing_staged
+first-none = record {
+  force = refl;
+  staged = record {
+    ordered = record { same = IsPermutation-refl []; ascending = λ i j d least within. absurd (omega (arith, within)) };
+    compiled = All-nil IsCompiled;
+  };
+}
+
+pub administers-worked : (stored : Stored)
+    → Administers (outcomes_at rules plan (length log)) (setup_in (terms_with stored)) plan router.rules log
+administers-worked stored = record {
+  first = nothing_staged;
+  began = first-none;
+  last = nothing_staged;
+  along = quiet-along (outcomes_at rules plan (length log)) (setup_in (terms_with stored)) plan nothing_staged (λ name. refl) first_tale log (quiet stored);
+}
 
 pub judges-worked : (stored : Stored) → JudgesSo (terms_with stored) rules log
 judges-worked stored =

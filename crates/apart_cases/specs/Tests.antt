@@ -1,5 +1,5 @@
 -- Tests of a log: where the loop waits, while no statement is on its way; and of a message that all clients send.
-use Rattle.std.specs.Prelude.{Bool, true, false, not, ◌&&◌, ◌||◌, ◌++◌, bytes_eq, take, ℕ, zero, suc, List}
+use Rattle.std.specs.Prelude.{Bool, true, false, not, ◌&&◌, ◌||◌, ◌++◌, bytes_eq, take, ℕ, zero, suc, ◌-◌, List, [], ◌∷◌}
 use Rattle.std.specs.List.{list_all, list_any}
 use Rattle.std.specs.Option.{option_map_or}
 use Rattle.mx_base.specs.declared.names.LinkId.{LinkId}
@@ -17,14 +17,16 @@ use Rattle.log_story.specs.Plan.{Plan, Route}
 use Rattle.private_model.specs.Names.{MessageName}
 use Rattle.private_model.specs.Commands.{Reply, end_of}
 use Rattle.private_model.specs.Story.{Happening, Heard, Story, is_message}
+use Rattle.private_model.specs.View.{Setup}
 use Rattle.session_state.specs.Endings.{shows_transaction}
-use Rattle.log_story.specs.Tale.{Client, first_tale}
+use Rattle.log_story.specs.Tale.{Client, Tale, first_tale}
+use Rattle.log_story.specs.Telling.{tale_step}
 use Rattle.router_promises.specs.Due.{due_to}
 use Rattle.router_promises.specs.Dues.{is_unsent}
 use Rattle.router_promises.specs.Ends.{was_answered}
 use Rattle.router_promises.specs.Now.{Now, now_at, present_now}
 use Rattle.router_promises.specs.Rest.{is_ahead}
-use Rattle.router_promises.specs.Takings.{Taking, message_in}
+use Rattle.router_promises.specs.Takings.{Taking, message_in, takings_at}
 use Rattle.router_promises.specs.Terms.{Terms, plan_in, setup_in}
 
 -- its statement waits for a link
@@ -100,3 +102,24 @@ says_this payload plan client = list_all (λ (message : Framed). bytes_eq messag
 
 abbrev pub all_say : (payload : List ℕ) → Plan → Now → Bool
 all_say payload plan now = list_all (says_this payload plan) now.tale.clients
+
+-- Each message that an entry takes up is one of these takings, of a client.
+
+abbrev pub is_taken_in : MessageName → Taking → Bool
+is_taken_in name taking = is_message (message_in taking) name && is_clients taking.client.port
+
+abbrev pub are_taken : List Taking → Client → (k count : ℕ) → Bool
+are_taken takings client k zero = true
+are_taken takings client k (suc count) = list_any (is_taken_in (name_of client (suc k))) takings && are_taken takings client (suc k) count
+
+abbrev pub all_taken : List Taking → (before now : List Client) → Bool
+all_taken takings before [] = true
+all_taken takings [] (client ∷ clients) = are_taken takings client 0 client.taken && all_taken takings [] clients
+all_taken takings (old ∷ before) (client ∷ clients) =
+    are_taken takings client old.taken (client.taken - old.taken) && all_taken takings before clients
+
+-- so it is at each entry
+abbrev pub all_clients : Setup → Plan → Tale → Log → Bool
+all_clients setup plan tale [] = true
+all_clients setup plan tale (e ∷ log) =
+    all_taken (takings_at setup plan tale e) tale.clients (tale_step setup plan tale e).clients && all_clients setup plan (tale_step setup plan tale e) log

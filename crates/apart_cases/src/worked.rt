@@ -1,8 +1,8 @@
 // A log that keeps clients apart.
-ghost use Rattle.std.specs.Prelude.{List};
+ghost use Rattle.std.specs.Prelude.{List, length};
 ghost use Rattle.core_promises.specs.Asks.{CopiesNothing};
 ghost use Rattle.core_promises.specs.Causes.{GivesUpSo};
-ghost use Rattle.core_promises.specs.InForce.{MayRule};
+ghost use Rattle.core_promises.specs.Administered.{Administers, outcomes_at};
 ghost use Rattle.private_model.specs.Names.{MessageName};
 ghost use Rattle.query_rules.specs.declared.rule.Rule.{Rule};
 ghost use Rattle.core_promises.specs.Judges.{JudgesSo};
@@ -13,7 +13,7 @@ ghost use Rattle.mx_wire.specs.Moments.{AllLawful};
 ghost use Rattle.own_words.specs.Own.{SpeaksOwn};
 ghost use Rattle.router_cases.specs.Worked.{log, router};
 ghost use Rattle.router_promises.specs.Headline.{Keeps};
-ghost use Rattle.router_promises.specs.Terms.{Terms, plan_in};
+ghost use Rattle.router_promises.specs.Terms.{Terms, plan_in, setup_in};
 
 use promise_tests::kept_by_test;
 use router_promises::said_log;
@@ -22,7 +22,7 @@ use router_promises::said_log;
 /// what the verdict says that serves no prepared statements, and sends none to two servers.
 pub fn kept_is_apart()
     ensures { (terms : Terms) (log : Log) → Keeps terms log
-        → (rules : MessageName → List Rule) → ((name : MessageName) → MayRule terms.router.rules log (rules name))
+        → (rules : MessageName → List Rule) → Administers (outcomes_at rules (plan_in terms) (length log)) (setup_in terms) (plan_in terms) terms.router.rules log
         → SpeaksOwn rules (plan_in terms)
         → GivesUpSo terms log → AllLawful (WaitsSo terms) log → JudgesSo terms rules log
         → CopiesNothing (plan_in terms) → KeepsApart terms log }

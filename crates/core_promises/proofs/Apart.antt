@@ -33,7 +33,7 @@ use Rattle.own_words.specs.Own.{SpeaksOwn}
 use Rattle.core_promises.specs.Causes.{CausedBy}
 use Rattle.core_promises.specs.Sessions.{KeepsApart, Separates}
 use Rattle.query_rules.specs.declared.rule.Rule.{Rule}
-use Rattle.core_promises.specs.InForce.{MayRule}
+use Rattle.core_promises.specs.Administered.{AdministersBy}
 use Rattle.core_promises.specs.Judges.{JudgesBy, JudgesSo, rulebook_of}
 use Rattle.core_promises.specs.Waits.{AreDoneBy}
 use Rattle.core_promises.proofs.Verdicts.{asks-by}
@@ -81,7 +81,8 @@ single_by routes single m route is = by (routes m) refl is where
 module _ (router : Router) (log : Log) (t : Tabled) (roomy : ClientNo → Bool)
     (core : IsCore (service_of router) router.proxy.default_schema log t roomy) (classes : AreClasses router.reads)
     (single : (m : MessageName) (route : Route) → core.decided.routes m ≡ Some (Some route) → route.mirror ≡ None)
-    (rules : MessageName → List Rule) (force : (name : MessageName) → MayRule router.rules log (rules name))
+    (rules : MessageName → List Rule)
+    (administers : AdministersBy rules router.proxy.default_schema core.decided router.rules log)
     (judges : JudgesBy (rulebook_of router) rules router.proxy.default_schema core.decided log) (speaks : SpeaksOwn rules (plan_of core.decided))
     (caused : CausedBy router.proxy.wait_ms router.proxy.default_schema core.decided log)
     (waited : AreDoneBy router.proxy.default_schema core.decided log)
@@ -130,7 +131,7 @@ module _ (router : Router) (log : Log) (t : Tabled) (roomy : ClientNo → Bool)
           due = safe.written;
           copies = single_by core.decided.routes single;
           rules = rules;
-          force = force;
+          administers = administers (setup_in terms) its_key plan (itself core.decided (length log)) fitting;
           asks = asks-by terms rules log judged;
           judges = judged;
           speaks = speaks;

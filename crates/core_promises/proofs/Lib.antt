@@ -16,3 +16,4 @@ pub mod Statements
 pub mod Knowing
 pub mod Ruling
 pub mod Forgetting
+pub mod Made

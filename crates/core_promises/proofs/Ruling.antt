@@ -15,8 +15,9 @@ use Rattle.core_laws.specs.clients.Found.{desk_up}
 use Rattle.core_laws.specs.clients.Turns.{Answers, Choice, Goes, Halt, IsTurn, Turns}
 use Rattle.message_judge.specs.declared.caller.Prepared.{Prepared}
 use Rattle.core_promises.proofs.Knowing.{KnowsMore, routed_within, told_within}
+use Rattle.core_promises.specs.Administers.{Administered}
 use Rattle.core_promises.specs.Judges.{Rulebook}
-use Rattle.core_promises.specs.Ruled.{AreKept, AreRuled, IsKept, IsRuled, Ruling, known_as, known_by, situation_at}
+use Rattle.core_promises.specs.Ruled.{AreKeptBy, AreRuled, IsKept, IsRuled, Ruling, known_as, known_by, situation_at}
 
 -- What stood under a number stands there, and under those that were given before the entry nothing else does.
 pub record HasKeys (since : ℕ) (keys more : (key : ℕ) → Option Key) : Type 0 where
@@ -31,19 +32,13 @@ some_there None some = absurd (true≢false (sym some))
 some_there (Some a) some = (a, refl)
 
 module _ (book : Rulebook) (since : ℕ) (keys more : (key : ℕ) → Option Key) (has : HasKeys since keys more) where
-  abbrev pub before : Ruling
-  before = record { book = book; since = since; keys = keys }
-
-  abbrev pub behind : Ruling
-  behind = record { book = book; since = since; keys = more }
-
   -- what is kept was so before
-  kept_at : (s : Statement) → IsKept behind s → IsKept before s
+  kept_at : (s : Statement) → IsKept since more s → IsKept since keys s
   kept_at s kept =
       let key = some_there (more s.prepared.key) kept.there in
       record { early = kept.early; there = ap is_some (has.back s.prepared.key key.0 kept.early key.1) }
 
-  pub kept_before : (statements : ClientStatements) → AreKept behind statements → AreKept before statements
+  pub kept_before : (statements : ClientStatements) → AreKeptBy since more statements → AreKeptBy since keys statements
   kept_before statements kept number s some at = kept_at s (kept number s some at)
 
   -- what is known of it
@@ -58,18 +53,18 @@ module _ (book : Rulebook) (since : ℕ) (keys more : (key : ℕ) → Option Key
   by_number None one is = none_is one is
   by_number (Some s) one is = by_key s (keys s.prepared.key) refl one is
 
-  key_back : (s : Statement) → IsKept behind s → (found : Option Key) → more s.prepared.key ≡ found → (one : Prepared)
+  key_back : (s : Statement) → IsKept since more s → (found : Option Key) → more s.prepared.key ≡ found → (one : Prepared)
       → option_map (λ (key : Key). known_as key s) found ≡ Some one → known_by keys s ≡ Some one
   key_back s kept None at one is = none_is one is
   key_back s kept (Some key) at one is = ap (option_map (λ (key : Key). known_as key s)) (has.back s.prepared.key key kept.early at) ∙ is
 
-  number_back : (statements : ClientStatements) → AreKept behind statements → (number : ℕ) → 0 < number → (found : Option Statement)
+  number_back : (statements : ClientStatements) → AreKeptBy since more statements → (number : ℕ) → 0 < number → (found : Option Statement)
       → statement_at statements number ≡ found → (one : Prepared) → option_and_then (known_by more) found ≡ Some one
       → option_and_then (known_by keys) found ≡ Some one
   number_back statements kept number some None at one is = none_is one is
   number_back statements kept number some (Some s) at one is = key_back s (kept number s some at) (more s.prepared.key) refl one is
 
-  pub knows_more : (desk : Desk) → AreKept behind desk.seat.statements → KnowsMore (situation_at keys desk) (situation_at more desk)
+  pub knows_more : (desk : Desk) → AreKeptBy since more desk.seat.statements → KnowsMore (situation_at keys desk) (situation_at more desk)
   knows_more desk kept = record {
     port = refl;
     user = refl;
@@ -82,18 +77,31 @@ module _ (book : Rulebook) (since : ℕ) (keys more : (key : ℕ) → Option Key
     given = λ number is. is;
   }
 
-  module _ (setup : Setup) (default : List ℕ) (c : ClientNo) where
-    pub ruled_more : (choice : Choice) (old new : Tabled) (turn : IsTurn choice setup default c old new)
-        → IsRuled before choice setup default c old new turn → IsRuled behind choice setup default c old new turn
-    ruled_more (Goes route keyed) old new turn ruled = λ kept.
-        routed_within book _ _ (knows_more (desk_up setup default turn.up.row) kept) keys more has.each c turn.up.message.payload route
-        (ruled (kept_before (desk_up setup default turn.up.row).seat.statements kept))
-    ruled_more (Answers payloads) old new turn ruled = λ kept.
-        told_within book _ _ (knows_more (desk_up setup default turn.up.row) kept) c turn.up.message.payload payloads
-        (ruled (kept_before (desk_up setup default turn.up.row).seat.statements kept))
+  abbrev before : (was is : Administered) → Ruling
+  before was is = record { book = book; since = since; keys = keys; was = was; is = is }
 
-    pub are_ruled_more : (choices : List Choice) (halt : Halt) (old new : Tabled) (turns : Turns choices halt setup default c old new)
-        → AreRuled before choices halt setup default c old new turns → AreRuled behind choices halt setup default c old new turns
-    are_ruled_more [] halt old new turns ruled = tt
-    are_ruled_more (choice ∷ others) halt old new turns ruled =
-        (ruled_more choice old turns.0 turns.1 ruled.0, are_ruled_more others halt turns.0 new turns.2 ruled.1)
+  abbrev behind : (was is : Administered) → Ruling
+  behind was is = record { book = book; since = since; keys = more; was = was; is = is }
+
+  module _ (setup : Setup) (default : List ℕ) (c : ClientNo) where
+    pub ruled_more : (was is : Administered) (choice : Choice) (old new : Tabled) (turn : IsTurn choice setup default c old new)
+        → IsRuled (before was is) choice setup default c old new turn → IsRuled (behind was is) choice setup default c old new turn
+    ruled_more was is (Goes route keyed) old new turn ruled = (
+      λ kept. routed_within book _ _ (knows_more (desk_up setup default turn.up.row) kept) keys more has.each c turn.up.message.payload route
+          (ruled.0 (kept_before (desk_up setup default turn.up.row).seat.statements kept)),
+      ruled.1,
+    )
+    ruled_more was is (Answers payloads) old new turn ruled = (
+      λ kept. told_within book _ _ (knows_more (desk_up setup default turn.up.row) kept) c turn.up.message.payload payloads
+          (ruled.0 (kept_before (desk_up setup default turn.up.row).seat.statements kept)),
+      ruled.1,
+    )
+
+    pub are_ruled_more : (was is : Administered) (choices : List Choice) (halt : Halt) (old new : Tabled)
+        (turns : Turns choices halt setup default c old new) → AreRuled (before was is) choices halt setup default c old new turns
+        → AreRuled (behind was is) choices halt setup default c old new turns
+    are_ruled_more was is [] halt old new turns ruled = ruled
+    are_ruled_more was is (choice ∷ others) halt old new turns ruled = (
+      ruled.0,
+      (ruled_more was ruled.0 choice old turns.0 turns.1 ruled.1.0, are_ruled_more ruled.0 is others halt turns.0 new turns.2 ruled.1.1),
+    )

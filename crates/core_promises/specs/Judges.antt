@@ -32,7 +32,6 @@ use Rattle.message_judge.specs.Judging.{judged, verdict_by}
 use Rattle.message_judge.specs.declared.caller.Caller.{Caller}
 use Rattle.message_judge.specs.declared.caller.Prepared.{Prepared}
 use Rattle.message_judge.specs.declared.caller.Standing.{Standing}
-use Rattle.core_promises.specs.Administers.{IsAdminAnswer}
 use Rattle.core_promises.specs.Statements.{is_given, number_named, statement_of}
 
 -- What messages are judged by: rules, each user's default hostgroup, and the hostgroups of servers in their order.
@@ -122,10 +121,10 @@ pub record IsVerdictFor (book : Rulebook) (situation : Situation) (c : ClientNo)
   pub number : (n : ℕ) → known.standing.next_number ≡ Some n → situation.given n ≡ false
   pub is : verdict ≡ verdict_on book.rules known payload
 
--- It is answered by the router with these: a client as the verdict says, and an administrator by what is staged and runs.
+-- It is answered by the router with these as the verdict says; what an administrator is answered is said along the log, by what is staged.
 abbrev pub IsToldAt : Port → Rulebook → Situation → ClientNo → (payload : List ℕ) → (payloads : List (List ℕ)) → Type 0
 IsToldAt Traffic book situation c payload payloads = IsVerdictFor book situation c payload (Tells payloads)
-IsToldAt Admin book situation c payload payloads = IsAdminAnswer payload payloads
+IsToldAt Admin book situation c payload payloads = Unit {0}
 
 abbrev pub IsToldFor : Rulebook → Situation → ClientNo → (payload : List ℕ) → (payloads : List (List ℕ)) → Type 0
 IsToldFor book situation c payload payloads = IsToldAt situation.port book situation c payload payloads

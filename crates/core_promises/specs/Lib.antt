@@ -2,6 +2,7 @@ pub mod Asks
 pub mod Statements
 pub mod Administers
 pub mod InForce
+pub mod Administered
 pub mod Judges
 pub mod Ruled
 pub mod Causes

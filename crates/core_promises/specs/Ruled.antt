@@ -18,6 +18,7 @@ use Rattle.core_laws.specs.clients.Found.{desk_up, user_in}
 use Rattle.core_laws.specs.clients.Turns.{Answers, Choice, Goes, Halt, IsTurn, Turns}
 use Rattle.router_promises.specs.Statements.{are_types}
 use Rattle.message_judge.specs.declared.caller.Prepared.{Prepared}
+use Rattle.core_promises.specs.Administers.{Administered, Makes}
 use Rattle.core_promises.specs.Judges.{IsRoutedFor, IsToldFor, Rulebook, Situation}
 
 -- what the core serves by
@@ -59,24 +60,42 @@ situation_at keys desk = record {
 abbrev pub situation_up : (keys : (key : ℕ) → Option Key) → Setup → (default : List ℕ) → Client → Situation
 situation_up keys setup default row = situation_at keys (desk_up setup default row)
 
--- the rules, and the texts that are kept by their numbers, of which those up to `since` were given before the entry
+-- the rules; the texts that are kept by their numbers, of which those up to `since` were given before the entry; and what administrators work on,
+-- before and behind
 pub record Ruling : Type 0 where
   pub book : Rulebook
   pub since : ℕ
   pub keys : (key : ℕ) → Option Key
+  pub was : Administered
+  pub is : Administered
 
-abbrev pub ruling_of : Service → (since : ℕ) → (keys : (key : ℕ) → Option Key) → Ruling
-ruling_of service since keys = record { book = book_of service; since = since; keys = keys }
+abbrev pub ruling_of : Service → (since : ℕ) → (keys : (key : ℕ) → Option Key) → (was is : Administered) → Ruling
+ruling_of service since keys was is = record { book = book_of service; since = since; keys = keys; was = was; is = is }
+
+-- up to a state between, and from it on
+
+abbrev pub until : Ruling → Administered → Ruling
+until ruling then = record ruling { is = then }
+
+abbrev pub from : Ruling → Administered → Ruling
+from ruling then = record ruling { was = then }
+
+-- nothing was made
+abbrev pub MakesNothing : Ruling → Type 0
+MakesNothing ruling = ruling.is ≡ ruling.was
 
 -- The text of each statement that a client has is kept since before the entry.
 
-pub record IsKept (ruling : Ruling) (statement : Statement) : Type 0 where
-  pub early : statement.prepared.key ≤ ruling.since
-  pub there : is_some (ruling.keys statement.prepared.key) ≡ true
+pub record IsKept (since : ℕ) (keys : (key : ℕ) → Option Key) (statement : Statement) : Type 0 where
+  pub early : statement.prepared.key ≤ since
+  pub there : is_some (keys statement.prepared.key) ≡ true
+
+abbrev pub AreKeptBy : (since : ℕ) → (keys : (key : ℕ) → Option Key) → ClientStatements → Type 0
+AreKeptBy since keys statements =
+    (number : ℕ) (statement : Statement) → 0 < number → statement_at statements number ≡ Some statement → IsKept since keys statement
 
 abbrev pub AreKept : Ruling → ClientStatements → Type 0
-AreKept ruling statements =
-    (number : ℕ) (statement : Statement) → 0 < number → statement_at statements number ≡ Some statement → IsKept ruling statement
+AreKept ruling statements = AreKeptBy ruling.since ruling.keys statements
 
 -- this choice is what the verdict says of a message
 abbrev pub IsChoiceFor : Choice → Rulebook → Situation → (keys : (key : ℕ) → Option Key) → ClientNo → (payload : List ℕ) → Type 0
@@ -87,14 +106,18 @@ IsChoiceFor (Answers payloads) book situation keys c payload = IsToldFor book si
 abbrev pub IsRuled : Ruling → (choice : Choice) → (setup : Setup) → (default : List ℕ) → (c : ClientNo) → (old new : Tabled)
     → IsTurn choice setup default c old new → Type 0
 IsRuled ruling (Goes route keyed) setup default c old new turn =
-    AreKept ruling (desk_up setup default turn.up.row).seat.statements
-    → IsChoiceFor (Goes route keyed) ruling.book (situation_up ruling.keys setup default turn.up.row) ruling.keys c turn.up.message.payload
+    (AreKept ruling (desk_up setup default turn.up.row).seat.statements
+    → IsChoiceFor (Goes route keyed) ruling.book (situation_up ruling.keys setup default turn.up.row) ruling.keys c turn.up.message.payload)
+    × MakesNothing ruling
 IsRuled ruling (Answers payloads) setup default c old new turn =
-    AreKept ruling (desk_up setup default turn.up.row).seat.statements
-    → IsChoiceFor (Answers payloads) ruling.book (situation_up ruling.keys setup default turn.up.row) ruling.keys c turn.up.message.payload
+    (AreKept ruling (desk_up setup default turn.up.row).seat.statements
+    → IsChoiceFor (Answers payloads) ruling.book (situation_up ruling.keys setup default turn.up.row) ruling.keys c turn.up.message.payload)
+    × Makes (desk_up setup default turn.up.row).seat.port turn.up.message.payload (Some payloads) ruling.was ruling.is
 
 abbrev pub AreRuled : Ruling → (choices : List Choice) → (halt : Halt) → (setup : Setup) → (default : List ℕ) → (c : ClientNo) → (old new : Tabled)
     → Turns choices halt setup default c old new → Type 0
-AreRuled ruling [] halt setup default c old new turns = Unit {0}
+AreRuled ruling [] halt setup default c old new turns = MakesNothing ruling
 AreRuled ruling (choice ∷ others) halt setup default c old new turns =
-    IsRuled ruling choice setup default c old turns.0 turns.1 × AreRuled ruling others halt setup default c turns.0 new turns.2
+    (then : Administered)
+    × (IsRuled (until ruling then) choice setup default c old turns.0 turns.1
+    × AreRuled (from ruling then) others halt setup default c turns.0 new turns.2)

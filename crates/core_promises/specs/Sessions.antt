@@ -1,5 +1,5 @@
 -- What the router promises of its clients' sessions: no client sees another's.
-use Rattle.std.specs.Prelude.{ℕ, List}
+use Rattle.std.specs.Prelude.{ℕ, length, List}
 use Rattle.mx_config.specs.declared.config.Config.{Config}
 use Rattle.log_story.specs.Said.{IsSaidLog}
 use Rattle.mx_wire.specs.Log.{Log}
@@ -10,7 +10,7 @@ use Rattle.query_rules.specs.declared.rule.Rule.{Rule}
 use Rattle.own_words.specs.Own.{SpeaksOwn}
 use Rattle.core_promises.specs.Asks.{AsksSo, CopiesNothing}
 use Rattle.core_promises.specs.Causes.{GivesUpSo}
-use Rattle.core_promises.specs.InForce.{MayRule}
+use Rattle.core_promises.specs.Administered.{Administers, outcomes_at}
 use Rattle.core_promises.specs.Judges.{JudgesSo}
 use Rattle.core_promises.specs.Waits.{WaitsSo}
 use Rattle.router_promises.specs.Due.{DueSo}
@@ -21,7 +21,8 @@ use Rattle.router_promises.specs.Terms.{AreWhoTheySay, Decided, IsRouters, Terms
 -- The log is one of a wire. Of each moment: clients are who they say, and begin where they say; each question's bytes are a front of its
 -- spelling, and nothing begins on a link before what was begun there is whole; the story is lawful, so that no session is lent that another's
 -- is in; and each client's bytes are a front of what it is due. What a server is asked for a client is the client's own text, or what the rules
--- make of it. What becomes of each message is what the verdict says, by rules that may be in force. What the router says by itself are its own words, whatever it decided; and
+-- make of it. What becomes of each message is what the verdict says, by the rules in force before its entry: those of the configuration, or that an
+-- administrator loaded last; and each administrator is answered by the rows that administrators staged. What the router says by itself are its own words, whatever it decided; and
 -- a statement is given up for a cause. At each wait all is done but lending.
 pub record KeepsApart (terms : Terms) (log : Log) : Type 0 where
   pub router : IsRouters terms
@@ -31,7 +32,7 @@ pub record KeepsApart (terms : Terms) (log : Log) : Type 0 where
   pub lawful : AtEachMoment (IsLawfulSo terms) log
   pub due : AtEachMoment (DueSo terms) log
   pub rules : MessageName → List Rule
-  pub force : (name : MessageName) → MayRule terms.router.rules log (rules name)
+  pub administers : Administers (outcomes_at rules (plan_in terms) (length log)) (setup_in terms) (plan_in terms) terms.router.rules log
   pub asks : AsksSo terms rules log
   pub copies : CopiesNothing (plan_in terms)
   pub judges : JudgesSo terms rules log

@@ -2,7 +2,6 @@
 ghost use Rattle.std.specs.Prelude.{◌≡◌, ◌≢◌, ◌<◌, ℕ, false, true, List, [], ◌∷◌, slice_index_or, Option, Some, None};
 ghost use Rattle.std.specs.Option.{option_and_then};
 ghost use Rattle.core_promises.specs.Asks.{IsTextOf};
-ghost use Rattle.core_promises.specs.InForce.{has_administrator};
 ghost use Rattle.core_promises.specs.Judges.{IsClosed, IsOpenIn, IsRoutedFor, Rulebook, Situation, rulebook_of, situation_of, transaction_of};
 ghost use Rattle.core_promises.specs.Sessions.{KeepsApart};
 ghost use Rattle.core_promises.specs.Statements.{number_named};
@@ -122,12 +121,6 @@ pub fn goes_elsewhere()
 pub fn leaves_its_transaction()
     ensures { (terms : Terms) (text : List ℕ) (route : Route) (sends : SendsBy terms (com_query ∷ text) route) (hostgroup : Hostgroup)
         → AsTaken sends.up (IsOpenIn hostgroup) → route.hostgroup ≢ hostgroup → ⊥ }
-{}
-
-/// Messages are judged by other rules than the configuration's, and no administrator came.
-pub fn changes_its_rules()
-    ensures { (terms : Terms) (log : Log) (keeps : KeepsApart terms log) (name : MessageName) → has_administrator log ≡ false
-        → keeps.rules name ≢ terms.router.rules → ⊥ }
 {}
 
 /// An administrator's message goes to a server.

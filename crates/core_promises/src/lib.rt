@@ -1,12 +1,17 @@
 //! What the core over shared links promises of clients' sessions: that no client sees another's.
 #![tactic(auto)]
 
+mod administering;
 mod asking;
 mod giving;
 mod judging;
 mod sessions;
 mod waiting;
 
+pub use administering::{
+    changes_its_rules, forces_what_wasnt_loaded, judges_by_other_rules, loads_other_rules,
+    shows_what_wasnt_staged, stages_what_it_refused,
+};
 pub use asking::{asks_other_texts, copies_a_message, rewrites_without_rules};
 pub use giving::{
     answers_what_it_sends, gives_up_at_any_time, gives_up_for_anothers_link, gives_up_too_soon,
@@ -14,11 +19,11 @@ pub use giving::{
 };
 pub use judging::{
     answers_a_choice, answers_a_ping_otherwise, answers_for_a_server, answers_nothing,
-    changes_its_rules, forgets_what_was_prepared, gives_a_number_again, goes_elsewhere,
-    goes_past_a_rule, goes_past_a_rule_of_its_user, leaves_its_transaction, runs_elsewhere,
-    runs_what_wasnt_prepared, sends_another_command, sends_for_an_administrator,
-    sends_what_is_refused, situations_are_promised, verdicts_ask, verdicts_give_new_numbers,
-    verdicts_go_home, verdicts_run_what_was_prepared, verdicts_stay_in_transactions,
+    forgets_what_was_prepared, gives_a_number_again, goes_elsewhere, goes_past_a_rule,
+    goes_past_a_rule_of_its_user, leaves_its_transaction, runs_elsewhere, runs_what_wasnt_prepared,
+    sends_another_command, sends_for_an_administrator, sends_what_is_refused,
+    situations_are_promised, verdicts_ask, verdicts_give_new_numbers, verdicts_go_home,
+    verdicts_run_what_was_prepared, verdicts_stay_in_transactions,
 };
 pub use sessions::{apart_is_private, cores_keep_apart};
 pub use waiting::{

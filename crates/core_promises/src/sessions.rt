@@ -3,7 +3,7 @@ ghost use Rattle.std.specs.Prelude.{◌≡◌, Bool, List, None, Some};
 ghost use Rattle.core_tables.specs.Tables.{Tabled};
 ghost use Rattle.core_promises.specs.Sessions.{KeepsApart, Separates};
 ghost use Rattle.core_promises.specs.Causes.{CausedBy};
-ghost use Rattle.core_promises.specs.InForce.{MayRule};
+ghost use Rattle.core_promises.specs.Administered.{AdministersBy};
 ghost use Rattle.core_promises.specs.Judges.{JudgesBy, rulebook_of};
 ghost use Rattle.core_promises.specs.Waits.{AreDoneBy};
 ghost use Rattle.own_words.specs.Own.{SpeaksOwn};
@@ -27,13 +27,13 @@ ghost use Rattle.server_rule.specs.Servers.{Step, Tests};
 use log_story::written_is_private;
 
 /// Where tables stand for a log of a wire, as a core by what a router serves, no message goes to two servers, what becomes of each is what the
-/// verdict says by rules that may be in force, what was decided to be said are the router's own words, what is given up has a cause, and at each wait all was done but lending,
+/// verdict says by the rules in force, each administrator is answered by what is staged, what was decided to be said are the router's own words, what is given up has a cause, and at each wait all was done but lending,
 /// the router keeps its clients apart in that log.
 pub fn cores_keep_apart()
     ensures { (router : Router) (log : Log) (t : Tabled) (roomy : ClientNo → Bool)
         → (core : IsCore (service_of router) router.proxy.default_schema log t roomy) → AreClasses router.reads
         → ((m : MessageName) (route : Route) → core.decided.routes m ≡ Some (Some route) → route.mirror ≡ None)
-        → (rules : MessageName → List Rule) → ((name : MessageName) → MayRule router.rules log (rules name))
+        → (rules : MessageName → List Rule) → AdministersBy rules router.proxy.default_schema core.decided router.rules log
         → JudgesBy (rulebook_of router) rules router.proxy.default_schema core.decided log → SpeaksOwn rules (plan_of core.decided)
         → CausedBy router.proxy.wait_ms router.proxy.default_schema core.decided log
         → AreDoneBy router.proxy.default_schema core.decided log

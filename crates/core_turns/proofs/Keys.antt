@@ -10,8 +10,9 @@ use Rattle.router_promises.specs.Verdicts.{Verdict}
 use Rattle.client_session.specs.Setups.{Setup}
 use Rattle.core_tables.specs.Tables.{Tabled}
 use Rattle.core_laws.specs.clients.Turns.{Answers, Choice, Goes, Halt, IsTurn, Keyed, Turns}
+use Rattle.core_promises.specs.Administers.{Administered}
 use Rattle.core_promises.specs.Judges.{IsVerdictFor, Rulebook}
-use Rattle.core_promises.specs.Ruled.{AreKept, AreRuled, IsRuled, Ruling, situation_at}
+use Rattle.core_promises.specs.Ruled.{AreKeptBy, AreRuled, IsRuled, Ruling, situation_at}
 use Rattle.core_promises.proofs.Knowing.{verdict_within}
 use Rattle.core_promises.proofs.Ruling.{HasKeys, are_ruled_more, knows_more, ruled_more}
 use Rattle.core_texts.specs.Texts.{AreMore, key_at}
@@ -21,8 +22,8 @@ use Rattle.core_turns.specs.Taken.{AreUnder}
 use Rattle.core_turns.specs.Turned.{IsSaid}
 
 -- by the texts that are kept
-abbrev pub ruled_by : Rulebook → Texts → Ruling
-ruled_by book texts = record { book = book; since = texts.since; keys = key_at texts }
+abbrev pub ruled_by : Rulebook → Texts → (was is : Administered) → Ruling
+ruled_by book texts was is = record { book = book; since = texts.since; keys = key_at texts; was = was; is = is }
 
 pub keys_of : (old new : Texts) → AreMore old new → HasKeys new.since (key_at old) (key_at new)
 keys_of old new more = record { each = more.kept; back = λ number key early at. from number key early (more.fresh number key at) } where
@@ -57,25 +58,26 @@ more_along a b c one more = record {
 -- Turns stand by more texts.
 
 module _ (book : Rulebook) (old new : Texts) (more : AreMore old new) (setup : Setup) (default : List ℕ) (c : ClientNo) where
-  abbrev since_now : ℕ → Ruling
-  since_now since = record { book = book; since = since; keys = key_at old }
+  abbrev since_now : (was is : Administered) → ℕ → Ruling
+  since_now was is since = record { book = book; since = since; keys = key_at old; was = was; is = is }
 
-  pub turn_more : (choice : Choice) (from to : Tabled) (turn : IsTurn choice setup default c from to)
-      → IsRuled (ruled_by book old) choice setup default c from to turn → IsRuled (ruled_by book new) choice setup default c from to turn
-  turn_more choice from to turn ruled =
-      ruled_more book new.since (key_at old) (key_at new) (keys_of old new more) setup default c choice from to turn
-      (subst (λ (since : ℕ). IsRuled (since_now since) choice setup default c from to turn) (sym more.since) ruled)
+  pub turn_more : (was is : Administered) (choice : Choice) (from to : Tabled) (turn : IsTurn choice setup default c from to)
+      → IsRuled (ruled_by book old was is) choice setup default c from to turn → IsRuled (ruled_by book new was is) choice setup default c from to turn
+  turn_more was is choice from to turn ruled =
+      ruled_more book new.since (key_at old) (key_at new) (keys_of old new more) setup default c was is choice from to turn
+      (subst (λ (since : ℕ). IsRuled (since_now was is since) choice setup default c from to turn) (sym more.since) ruled)
 
-  pub turns_more : (choices : List Choice) (halt : Halt) (from to : Tabled) (turns : Turns choices halt setup default c from to)
-      → AreRuled (ruled_by book old) choices halt setup default c from to turns → AreRuled (ruled_by book new) choices halt setup default c from to turns
-  turns_more choices halt from to turns ruled =
-      are_ruled_more book new.since (key_at old) (key_at new) (keys_of old new more) setup default c choices halt from to turns
-      (subst (λ (since : ℕ). AreRuled (since_now since) choices halt setup default c from to turns) (sym more.since) ruled)
+  pub turns_more : (was is : Administered) (choices : List Choice) (halt : Halt) (from to : Tabled)
+      (turns : Turns choices halt setup default c from to) → AreRuled (ruled_by book old was is) choices halt setup default c from to turns
+      → AreRuled (ruled_by book new was is) choices halt setup default c from to turns
+  turns_more was is choices halt from to turns ruled =
+      are_ruled_more book new.since (key_at old) (key_at new) (keys_of old new more) setup default c was is choices halt from to turns
+      (subst (λ (since : ℕ). AreRuled (since_now was is since) choices halt setup default c from to turns) (sym more.since) ruled)
 
 -- so does what is said of statements whose texts are kept
 
 module _ (book : Rulebook) (old new : Texts) (more : AreMore old new) where
-  pub more_verdict : (desk : Desk) → AreKept (ruled_by book new) desk.seat.statements → (c : ClientNo) (payload : List ℕ) (verdict : Verdict)
+  pub more_verdict : (desk : Desk) → AreKeptBy new.since (key_at new) desk.seat.statements → (c : ClientNo) (payload : List ℕ) (verdict : Verdict)
       → IsVerdictFor book (situation_at (key_at old) desk) c payload verdict → IsVerdictFor book (situation_at (key_at new) desk) c payload verdict
   more_verdict desk kept c payload verdict is =
       verdict_within book (situation_at (key_at old) desk) (situation_at (key_at new) desk)
@@ -90,6 +92,12 @@ module _ (book : Rulebook) (old new : Texts) (more : AreMore old new) where
   more_some number None at is = absurd (true≢false (sym is))
   more_some number (Some key) at is = ap is_some (more.kept number key at)
 
-  pub more_said : (c : ClientNo) (choice : Choice) → IsSaid (ruled_by book old) c choice → IsSaid (ruled_by book new) c choice
-  more_said c (Goes route keyed) said = (said.0, more_under keyed said.1, λ numbered. more_some route.key (key_at old route.key) refl (said.2 numbered))
-  more_said c (Answers payloads) said = said
+  pub more_said : (was is then now : Administered) (c : ClientNo) (choice : Choice) → IsSaid (ruled_by book old was is) c choice
+      → IsSaid (ruled_by book new then now) c choice
+  more_said was is then now c (Goes route keyed) said =
+      (said.0, more_under keyed said.1, λ numbered. more_some route.key (key_at old route.key) refl (said.2 numbered))
+  more_said was is then now c (Answers payloads) said = said
+
+pub same_said : (book : Rulebook) (texts : Texts) (was is then now : Administered) (c : ClientNo) (choice : Choice)
+    → IsSaid (ruled_by book texts was is) c choice → IsSaid (ruled_by book texts then now) c choice
+same_said book texts = more_said book texts texts (same_texts texts)

@@ -7,7 +7,8 @@ use Rattle.mx_base.specs.declared.names.ClientNo.{ClientNo}
 use Rattle.mx_base.specs.declared.names.LinkId.{LinkId}
 use Rattle.packet_frame.specs.Packets.{Framed}
 use Rattle.core_promises.specs.Judges.{Rulebook}
-use Rattle.core_promises.specs.Ruled.{Ruling}
+use Rattle.core_promises.specs.Administers.{Administered}
+use Rattle.core_promises.specs.Ruled.{Ruling, from}
 use Rattle.server_side.specs.Account.{Account}
 use Rattle.handshake.specs.declared.response.Response.{Response}
 use Rattle.client_session.specs.Accounts.{account_of}
@@ -39,7 +40,7 @@ use Rattle.marked_tables.proofs.Going.{goes_along, still_goes}
 use Rattle.core_turns.specs.Turned.{HasChosen, HasGone, IsRuledTurn, IsSaid, IsToEnd, IsToQuit, MayLeaveBy, RuledTurns, StopsSo, TurnsUntil, halt_of, is_away}
 use Rattle.core_turns.specs.declared.turn.Stop.{Stop}
 use Rattle.core_turns.specs.declared.turn.Stop.TheVariants as stops
-use Rattle.core_turns.proofs.Keys.{more_along, more_said, ruled_by, same_texts, turn_more}
+use Rattle.core_turns.proofs.Keys.{more_along, more_said, ruled_by, same_said, same_texts, turn_more}
 use Rattle.core_turns.proofs.Turning.{both-same, chosen-some, not-away, seated-there}
 
 -- Who is told at a look that it ends has ended.
@@ -168,96 +169,110 @@ LeavesBy stops.Rests c now new = IsSame new now
 LeavesBy stops.Ends c now new = IsSame new (left_in c ended now)
 LeavesBy (stops.Quits flag) c now new = leaving.Quits flag c now new
 
-module _ (ruling : Ruling) (service : Service) (default : List ℕ) (c : ClientNo) where
-  pub leaves-so : (stop : Stop) (choices : List Choice) (old now new : Tabled) → LeavesBy stop c now new
+module _ (service : Service) (default : List ℕ) (c : ClientNo) where
+  pub leaves-so : (ruling : Ruling) (stop : Stop) (choices : List Choice) (old now new : Tabled) → LeavesBy stop c now new
       → TurnsUntil ruling choices (halt_of stop) service default c old now → RuledTurns ruling choices (halt_of stop) service default c old new
-  leaves-so stop (choice ∷ others) old now new leaves is =
-      let rest : RuledTurns ruling others (halt_of stop) service default c is.0 new = leaves-so stop others is.0 now new leaves is.2 in
-      ((is.0, is.1.0, rest.0), (is.1.1, rest.1))
-  leaves-so stops.Waits [] old now new leaves is = (record { row = is.row; there = is.there; waits = is.waits; same = both-same leaves is.same }, tt)
-  leaves-so stops.Rests [] old now new leaves is = (record { row = is.row; looks = is.looks; same = both-same leaves is.same }, tt)
-  leaves-so stops.Ends [] old now new leaves is = (ends-so service default c old now new is leaves, tt)
-  leaves-so (stops.Quits flag) [] old now new leaves is = (quits-so service default c flag old now new is leaves, tt)
+  leaves-so ruling stop (choice ∷ others) old now new leaves is =
+      let rest : RuledTurns (from ruling is.1) others (halt_of stop) service default c is.0 new =
+      leaves-so (from ruling is.1) stop others is.0 now new leaves is.2.1 in
+      ((is.0, is.2.0.0, rest.0), (is.1, (is.2.0.1, rest.1)))
+  leaves-so ruling stops.Waits [] old now new leaves is =
+      (record { row = is.0.row; there = is.0.there; waits = is.0.waits; same = both-same leaves is.0.same }, is.1)
+  leaves-so ruling stops.Rests [] old now new leaves is = (record { row = is.0.row; looks = is.0.looks; same = both-same leaves is.0.same }, is.1)
+  leaves-so ruling stops.Ends [] old now new leaves is = (ends-so service default c old now new is.0 leaves, is.1)
+  leaves-so ruling (stops.Quits flag) [] old now new leaves is = (quits-so service default c flag old now new is.0 leaves, is.1)
 
   -- a message is up where it quits
-  pub may-leave : (stop : Stop) (choices : List Choice) (old now : Tabled) → TurnsUntil ruling choices (halt_of stop) service default c old now
+  pub may-leave : (ruling : Ruling) (stop : Stop) (choices : List Choice) (old now : Tabled) → TurnsUntil ruling choices (halt_of stop) service default c old now
       → MayLeaveBy stop (now.clients c)
-  may-leave stop (choice ∷ others) old now is = may-leave stop others is.0 now is.2
-  may-leave stops.Waits [] old now is = tt
-  may-leave stops.Rests [] old now is = tt
-  may-leave stops.Ends [] old now is = tt
-  may-leave (stops.Quits flag) [] old now is =
-      subst IsUpOr (sym (seated-there service default c old now is.up.row is.up.looks.there is.up.same))
-      (record { found = subst (λ (o : Option Framed). IsSome o) (sym is.up.found) refl; past_login = is.past_login })
+  may-leave ruling stop (choice ∷ others) old now is = may-leave (from ruling is.1) stop others is.0 now is.2.1
+  may-leave ruling stops.Waits [] old now is = tt
+  may-leave ruling stops.Rests [] old now is = tt
+  may-leave ruling stops.Ends [] old now is = tt
+  may-leave ruling (stops.Quits flag) [] old now is =
+      subst IsUpOr (sym (seated-there service default c old now is.0.up.row is.0.up.looks.there is.0.up.same))
+      (record { found = subst (λ (o : Option Framed). IsSome o) (sym is.0.up.found) refl; past_login = is.0.past_login })
 
 -- Turns that are behind a client, whatever comes behind them, and whatever texts there are more by then.
-pub record HasTurned (book : Rulebook) (texts : Texts) (service : Service) (default : List ℕ) (c : ClientNo) (old now : Tabled) : Type 0 where
+pub record HasTurned (book : Rulebook) (texts : Texts) (was is : Administered) (service : Service) (default : List ℕ) (c : ClientNo) (old now : Tabled) : Type 0 where
   pub choices : List Choice
-  pub said : All (IsSaid (ruled_by book texts) c) choices
-  pub onward : (later : Texts) → AreMore texts later → (others : List Choice) (halt : Halt) (new : Tabled)
-      → TurnsUntil (ruled_by book later) others halt service default c now new → TurnsUntil (ruled_by book later) (choices ++ others) halt service default c old new
+  pub said : All (IsSaid (ruled_by book texts was is) c) choices
+  pub onward : (later : Texts) → AreMore texts later → (last : Administered) (others : List Choice) (halt : Halt) (new : Tabled)
+      → TurnsUntil (ruled_by book later is last) others halt service default c now new
+      → TurnsUntil (ruled_by book later was last) (choices ++ others) halt service default c old new
 
 -- The loop's invariant, and what stands behind it.
 
-pub record IsGoing (book : Rulebook) (first texts : Texts) (service : Service) (default : List ℕ) (c : ClientNo) (old now : MarkedTables) : Type 0 where
-  pub turned : HasTurned book texts service default c (tables_of old.tables) (tables_of now.tables)
+pub record IsGoing (book : Rulebook) (first texts : Texts) (was is : Administered) (service : Service) (default : List ℕ) (c : ClientNo)
+    (old now : MarkedTables) : Type 0 where
+  pub turned : HasTurned book texts was is service default c (tables_of old.tables) (tables_of now.tables)
   pub there : IsSome ((tables_of now.tables).clients c)
   pub goes : GoesOn old now
   pub more : AreMore first texts
 
 -- a turn that was made stands by more texts
-more-turn : (book : Rulebook) (texts later : Texts) → AreMore texts later → (choice : Choice) (service : Service) (default : List ℕ) (c : ClientNo) (old new : Tabled)
-    → IsRuledTurn (ruled_by book texts) choice service default c old new → IsRuledTurn (ruled_by book later) choice service default c old new
-more-turn book texts later more choice service default c old new is = (is.0, turn_more book texts later more service default c choice old new is.0 is.1)
+more-turn : (book : Rulebook) (texts later : Texts) → AreMore texts later → (was is : Administered) (choice : Choice) (service : Service) (default : List ℕ)
+    (c : ClientNo) (old new : Tabled) → IsRuledTurn (ruled_by book texts was is) choice service default c old new
+    → IsRuledTurn (ruled_by book later was is) choice service default c old new
+more-turn book texts later more was is choice service default c old new so =
+    (so.0, turn_more book texts later more service default c was is choice old new so.0 so.1)
 
 module _ (book : Rulebook) (service : Service) (default : List ℕ) (c : ClientNo) where
-  none-turned : (texts : Texts) (old : Tabled) → HasTurned book texts service default c old old
-  none-turned texts old = record { choices = []; said = All-nil (IsSaid (ruled_by book texts) c); onward = λ later more others halt new is. is }
+  none-turned : (texts : Texts) (was : Administered) (old : Tabled) → HasTurned book texts was was service default c old old
+  none-turned texts was old =
+      record { choices = []; said = All-nil (IsSaid (ruled_by book texts was was) c); onward = λ later more last others halt new so. so }
 
-  one-more : (texts more : Texts) → AreMore texts more → (old now later : Tabled) → HasTurned book texts service default c old now
-      → HasChosen (ruled_by book more) service default c now later → HasTurned book more service default c old later
-  one-more texts more comes old now later turned chosen = record {
+  one-more : (texts more : Texts) → AreMore texts more → (was is next : Administered) (old now later : Tabled)
+      → HasTurned book texts was is service default c old now → HasChosen (ruled_by book more is next) service default c now later
+      → HasTurned book more was next service default c old later
+  one-more texts more comes was is next old now later turned chosen = record {
     choices = turned.choices ++ chosen.choice ∷ [];
-    said = All-push (IsSaid (ruled_by book more) c) turned.choices chosen.choice
-        (All-weaker (IsSaid (ruled_by book texts) c) (IsSaid (ruled_by book more) c) (λ choice said. more_said book texts more comes c choice said) turned.choices turned.said) chosen.said;
-    onward = λ last lasts others halt new is.
-        subst (λ (all : List Choice). TurnsUntil (ruled_by book last) all halt service default c old new) (sym (append_assoc turned.choices (chosen.choice ∷ []) others))
-        (turned.onward last (more_along texts more last comes lasts) (chosen.choice ∷ others) halt new
-        (later, more-turn book more last lasts chosen.choice service default c now later chosen.turns, is));
+    said = All-push (IsSaid (ruled_by book more was next) c) turned.choices chosen.choice
+        (All-weaker (IsSaid (ruled_by book texts was is) c) (IsSaid (ruled_by book more was next) c)
+        (λ choice said. more_said book texts more comes was is was next c choice said) turned.choices turned.said)
+        (same_said book more is next was next c chosen.choice chosen.said);
+    onward = λ last lasts end others halt new so.
+        subst (λ (all : List Choice). TurnsUntil (ruled_by book last was end) all halt service default c old new)
+        (sym (append_assoc turned.choices (chosen.choice ∷ []) others))
+        (turned.onward last (more_along texts more last comes lasts) end (chosen.choice ∷ others) halt new
+        (later, next, (more-turn book more last lasts is next chosen.choice service default c now later chosen.turns, so)));
   }
 
-  pub begins : (texts : Texts) (m : MarkedTables) → is_away ((tables_of m.tables).clients c) ≡ false → IsGoing book texts texts service default c m m
-  begins texts m going = record {
-    turned = none-turned texts (tables_of m.tables);
+  pub begins : (texts : Texts) (was : Administered) (m : MarkedTables) → is_away ((tables_of m.tables).clients c) ≡ false
+      → IsGoing book texts texts was was service default c m m
+  begins texts was m going = record {
+    turned = none-turned texts was (tables_of m.tables);
     there = not-away ((tables_of m.tables).clients c) going;
     goes = still_goes m;
     more = same_texts texts;
   }
 
-  pub goes-on : (first texts more : Texts) (old now later : MarkedTables) → IsGoing book first texts service default c old now
-      → HasChosen (ruled_by book more) service default c (tables_of now.tables) (tables_of later.tables) → GoesOn now later → AreMore texts more
-      → IsGoing book first more service default c old later
-  goes-on first texts more old now later going chosen goes comes = record {
-    turned = one-more texts more comes (tables_of old.tables) (tables_of now.tables) (tables_of later.tables) going.turned chosen;
-    there = chosen-some (ruled_by book more) service default c (tables_of now.tables) (tables_of later.tables) chosen;
+  pub goes-on : (first texts more : Texts) (was is next : Administered) (old now later : MarkedTables)
+      → IsGoing book first texts was is service default c old now
+      → HasChosen (ruled_by book more is next) service default c (tables_of now.tables) (tables_of later.tables) → GoesOn now later → AreMore texts more
+      → IsGoing book first more was next service default c old later
+  goes-on first texts more was is next old now later going chosen goes comes = record {
+    turned = one-more texts more comes was is next (tables_of old.tables) (tables_of now.tables) (tables_of later.tables) going.turned chosen;
+    there = chosen-some (ruled_by book more is next) service default c (tables_of now.tables) (tables_of later.tables) chosen;
     goes = goes_along old now later going.goes goes;
     more = more_along first texts more going.more comes;
   }
 
-  pub gone-so : (stop : Stop) (first texts more : Texts) (old now new : MarkedTables) → is_away ((tables_of old.tables).clients c) ≡ false
-      → IsGoing book first texts service default c old now → AreMore texts more
-      → StopsSo (halt_of stop) service default c (tables_of now.tables) (tables_of new.tables)
-      → HasGone TurnsUntil stop (ruled_by book more) service default c (tables_of old.tables) (tables_of new.tables)
-  gone-so stop first texts more old now new present going comes is =
-      let said : All (IsSaid (ruled_by book more) c) going.turned.choices =
-      All-weaker (IsSaid (ruled_by book texts) c) (IsSaid (ruled_by book more) c) (λ choice said. more_said book texts more comes c choice said)
-      going.turned.choices going.turned.said in
+  pub gone-so : (stop : Stop) (first texts more : Texts) (was is last : Administered) (old now new : MarkedTables)
+      → is_away ((tables_of old.tables).clients c) ≡ false → IsGoing book first texts was is service default c old now → AreMore texts more
+      → StopsSo (halt_of stop) service default c (tables_of now.tables) (tables_of new.tables) × (last ≡ is)
+      → HasGone TurnsUntil stop (ruled_by book more was last) service default c (tables_of old.tables) (tables_of new.tables)
+  gone-so stop first texts more was is last old now new present going comes so =
+      let said : All (IsSaid (ruled_by book more was last) c) going.turned.choices =
+      All-weaker (IsSaid (ruled_by book texts was is) c) (IsSaid (ruled_by book more was last) c)
+      (λ choice said. more_said book texts more comes was is was last c choice said) going.turned.choices going.turned.said in
       record {
         going = present;
         choices = going.turned.choices ++ [];
-        said = All-append (IsSaid (ruled_by book more) c) going.turned.choices [] said (All-nil (IsSaid (ruled_by book more) c));
-        turned = going.turned.onward more comes [] (halt_of stop) (tables_of new.tables) is;
+        said = All-append (IsSaid (ruled_by book more was last) c) going.turned.choices [] said (All-nil (IsSaid (ruled_by book more was last) c));
+        turned = going.turned.onward more comes last [] (halt_of stop) (tables_of new.tables) so;
       }
 
-  pub gone-leaves : (texts : Texts) (stop : Stop) (old new : Tabled) → HasGone TurnsUntil stop (ruled_by book texts) service default c old new → MayLeaveBy stop (new.clients c)
-  gone-leaves texts stop old new gone = may-leave (ruled_by book texts) service default c stop gone.choices old new gone.turned
+  pub gone-leaves : (texts : Texts) (was is : Administered) (stop : Stop) (old new : Tabled)
+      → HasGone TurnsUntil stop (ruled_by book texts was is) service default c old new → MayLeaveBy stop (new.clients c)
+  gone-leaves texts was is stop old new gone = may-leave service default c (ruled_by book texts was is) stop gone.choices old new gone.turned

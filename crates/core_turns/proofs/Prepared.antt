@@ -35,6 +35,7 @@ use Rattle.core_texts.specs.declared.texts.Texts.{Texts}
 use Rattle.core_stands.specs.Stands.{IsKeyedFor, IsTextAt}
 use Rattle.core_laws.proofs.OfTaking.Joining.{noted_there}
 use Rattle.core_laws.specs.clients.Turns.{AreKeyed, Keyed}
+use Rattle.core_promises.specs.Administers.{Administered}
 use Rattle.core_promises.specs.Judges.{Rulebook}
 use Rattle.core_promises.specs.Ruled.{situation_at}
 use Rattle.core_texts.specs.Texts.{AreMore, key_at}
@@ -147,17 +148,17 @@ prepares_as text class hostgroup multiplex key number row classed some = record 
   whole = tt;
 }
 
-pub due_prepared : (book : Rulebook) (judged texts : Texts) → AreMore judged texts → (ordinal flag since : ℕ) (hostgroup : Hostgroup) (text : List ℕ)
+pub due_prepared : (book : Rulebook) (made : Administered) (judged texts : Texts) → AreMore judged texts → (ordinal flag since : ℕ) (hostgroup : Hostgroup) (text : List ℕ)
     (multiplex : Option Bool) (class : Class) (c : ClientNo) (old new : Tabled)
     → OnUp c old (λ row message. (nat_eq (byte_of message.payload) com_prepare ≡ true) × (class ≡ class_of text))
     → OnUp c old (λ row message. IsInMemory row.desk.seat.statements message.payload)
     → IsDueToPrepare ordinal flag since hostgroup text multiplex class c texts old new
     → OnUp c old (λ row message. row.desk.seat.port ≡ Traffic
     → IsPreparedSo book (situation_at (key_at judged) row.desk) (next_number row.desk.seat.statements) c message.payload hostgroup text multiplex
-    → IsDueThere hostgroup ordinal (ruled_by book texts) c row message old new)
-due_prepared book judged texts more ordinal flag since hostgroup text multiplex class c old new verdict memory due =
+    → IsDueThere hostgroup ordinal (ruled_by book texts made made) c row message old new)
+due_prepared book made judged texts more ordinal flag since hostgroup text multiplex class c old new verdict memory due =
     on-up old c due.row (λ row message. row.desk.seat.port ≡ Traffic → IsPreparedSo book (situation_at (key_at judged) row.desk) (next_number row.desk.seat.statements) c message.payload hostgroup text multiplex
-    → IsDueThere hostgroup ordinal (ruled_by book texts) c row message old new) due.there
+    → IsDueThere hostgroup ordinal (ruled_by book texts made made) c row message old new) due.there
     (λ message found port promised.
     let row_is : due.due.row ≡ due.row = same_Some due.due.row due.row (sym due.due.there ∙ due.there) in
     let asked : asked_in due.row.desk.seat.statements message.payload (Some text) ≡ Some (Says due.due.command) =
@@ -193,6 +194,7 @@ due_prepared book judged texts more ordinal flag since hostgroup text multiplex 
         port = port;
         is = more_verdict book judged texts more due.row.desk kept c message.payload _ promised.ruled;
       };
+      nothing = refl;
       flag = flag;
       command = due.due.command;
       work = prepare_work ordinal hostgroup since multiplex due.key (forms.Prepare class) (spelling 0 (text_payload due.due.command));

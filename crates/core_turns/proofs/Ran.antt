@@ -40,6 +40,7 @@ use Rattle.core_texts.specs.Texts.{AreMore, key_at}
 use Rattle.core_texts.specs.declared.texts.Texts.{Texts}
 use Rattle.core_laws.proofs.OfTaking.Joining.{noted_there}
 use Rattle.core_laws.specs.clients.Turns.{AreBoundSo, Keyed}
+use Rattle.core_promises.specs.Administers.{Administered}
 use Rattle.core_promises.specs.Judges.{IsVerdictFor, Rulebook}
 use Rattle.core_promises.specs.Ruled.{known_as, situation_at}
 use Rattle.core_promises.specs.Statements.{number_named}
@@ -213,7 +214,7 @@ run-asked setup prepared prepared_key number key stands args number_is at stays 
 
 -- So a statement is due that executes it.
 
-module _ (book : Rulebook) (judged texts : Texts) (more : AreMore judged texts) (ordinal flag since : ℕ) (hostgroup : Hostgroup) (multiplex : Option Bool)
+module _ (book : Rulebook) (made : Administered) (judged texts : Texts) (more : AreMore judged texts) (ordinal flag since : ℕ) (hostgroup : Hostgroup) (multiplex : Option Bool)
     (named : Named) (c : ClientNo) (old new : Tabled) where
   abbrev prepared : Prepared
   prepared = named.prepared
@@ -259,7 +260,7 @@ module _ (book : Rulebook) (judged texts : Texts) (more : AreMore judged texts) 
     same : stays ≡ true → due.key ≡ named.key
     same = same-by stays texts named.key prepared stands due.key due.keyed
 
-    pub ran-there : due.row.desk.seat.port ≡ Traffic → IsRuledRun due.row message → IsDueThere hostgroup ordinal (ruled_by book texts) c due.row message old new
+    pub ran-there : due.row.desk.seat.port ≡ Traffic → IsRuledRun due.row message → IsDueThere hostgroup ordinal (ruled_by book texts made made) c due.row message old new
     ran-there port ruled = record {
       route = run_route hostgroup multiplex due.key;
       keyed = first ∷ second ∷ [];
@@ -278,6 +279,7 @@ module _ (book : Rulebook) (judged texts : Texts) (more : AreMore judged texts) 
         port = port;
         is = more_verdict book judged texts more due.row.desk kept c message.payload _ ruled;
       };
+      nothing = refl;
       flag = flag;
       command = run_command prepared stands due.due.args;
       work = run_work ordinal hostgroup since multiplex due.key (forms.Text prepared.class) due.due.args;
@@ -313,9 +315,9 @@ module _ (book : Rulebook) (judged texts : Texts) (more : AreMore judged texts) 
   pub due_run : OnUp c old (λ row message. (named_in judged row.desk.seat.statements message.payload ≡ Some named) × IsExecute prepared message.payload)
       → OnUp c old (λ row message. IsInMemory row.desk.seat.statements message.payload)
       → IsDueToRun ordinal flag since hostgroup multiplex named.key prepared c texts old new
-      → OnUp c old (λ row message. row.desk.seat.port ≡ Traffic → IsRuledRun row message → IsDueThere hostgroup ordinal (ruled_by book texts) c row message old new)
+      → OnUp c old (λ row message. row.desk.seat.port ≡ Traffic → IsRuledRun row message → IsDueThere hostgroup ordinal (ruled_by book texts made made) c row message old new)
   due_run verdict memory due =
-      on-up old c due.row (λ row message. row.desk.seat.port ≡ Traffic → IsRuledRun row message → IsDueThere hostgroup ordinal (ruled_by book texts) c row message old new) due.there
+      on-up old c due.row (λ row message. row.desk.seat.port ≡ Traffic → IsRuledRun row message → IsDueThere hostgroup ordinal (ruled_by book texts made made) c row message old new) due.there
       (λ message found.
       let on = verdict due.row due.there message found in
       ran-there due message found on.0 on.1 (memory due.row due.there message found))

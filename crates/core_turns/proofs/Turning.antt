@@ -79,15 +79,18 @@ module _ (service : Service) (default : List ℕ) (c : ClientNo) (old between : 
   module _ (ruling : Ruling) (ordinal : ℕ) (message : Framed) (able : IsLookable false row) (looks : IsLookedAt service default c old row (next.Message ordinal))
       (found : found_of after ≡ Some message) (past : (turn service default row.desk.seat).client.stage ≡ Commands) (new : Tabled) where
     taken-up : (turned : Turn) → IsTakenUp turned ordinal ruling c after message between new → IsTurned turned ruling service default c old new
-    taken-up (turns.Stops (stops.Quits flag)) is = record {
-      up = record { row = row; ordinal = ordinal; looks = looks; same = both-same is.same same; message = message; found = found };
-      past_login = past;
-      quits_only = is.quits_only;
-      lives = able.able.lives;
-    }
-    taken-up (turns.Stops stops.Waits) is = absurd is
-    taken-up (turns.Stops stops.Rests) is = absurd is
-    taken-up (turns.Stops stops.Ends) is = absurd is
+    taken-up (turns.Stops (stops.Quits flag)) is = (
+      record {
+        up = record { row = row; ordinal = ordinal; looks = looks; same = both-same is.0.same same; message = message; found = found };
+        past_login = past;
+        quits_only = is.0.quits_only;
+        lives = able.able.lives;
+      },
+      is.1,
+    )
+    taken-up (turns.Stops stops.Waits) is = absurd is.0
+    taken-up (turns.Stops stops.Rests) is = absurd is.0
+    taken-up (turns.Stops stops.Ends) is = absurd is.0
     taken-up turns.Answered is = (
       is.payloads,
       is.own,
@@ -102,7 +105,7 @@ module _ (service : Service) (default : List ℕ) (c : ClientNo) (old between : 
           noted = is.noted;
           makes = makes-so (is_reset message) is.flag is.packets is.statements new able.able.lives is.makes;
         },
-        is.ruled,
+        (is.ruled, is.made),
       ),
     )
     taken-up (turns.Due hostgroup) is = record {
@@ -129,6 +132,7 @@ module _ (service : Service) (default : List ℕ) (c : ClientNo) (old between : 
       under = is.under;
       prepares = is.prepares;
       ruled = is.ruled;
+      nothing = is.nothing;
     }
 
   pub rests-there : IsLookable false row → next.Nothing ≡ next_of service default (old.clients c) → RestsThere service default c old between
@@ -209,7 +213,7 @@ module _ (ruling : Ruling) (service : Service) (default : List ℕ) (c : ClientN
   answered-choice is = record { choice = Answers is.0; said = is.1; turns = is.2 }
 
   pub due-choice : (hostgroup : Hostgroup) → IsTurned (turns.Due hostgroup) ruling service default c old new → HasChosen ruling service default c old new
-  due-choice hostgroup is = record { choice = Goes is.route is.keyed; said = (is.single, is.under, is.prepares); turns = (is.goes, is.ruled) }
+  due-choice hostgroup is = record { choice = Goes is.route is.keyed; said = (is.single, is.under, is.prepares); turns = (is.goes, (is.ruled, is.nothing)) }
 
   pub chosen-some : HasChosen ruling service default c old new → IsSome (new.clients c)
   chosen-some is = turn-some is.choice service default c old new is.turns.0

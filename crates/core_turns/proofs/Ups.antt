@@ -29,7 +29,8 @@ use Rattle.core_tables.specs.Tables.{IsSame, Tabled, client_put}
 use Rattle.core_tables.specs.Taking.{AreNotedIn, IsDue, IsUpOr, found_of, text_work}
 use Rattle.core_tables.specs.declared.client.Client.{Client}
 use Rattle.core_promises.specs.Judges.{IsRoutedFor, IsToldFor, IsVerdictFor, Rulebook}
-use Rattle.core_promises.specs.Ruled.{Ruling, situation_at}
+use Rattle.core_promises.specs.Administers.{Makes}
+use Rattle.core_promises.specs.Ruled.{MakesNothing, Ruling, situation_at}
 use Rattle.core_turns.specs.Judged.{IsSendable, goes_with, route_by}
 use Rattle.core_turns.specs.Taken.{IsAnswered, IsDueThere, Keys, OnUp, answered_so}
 use Rattle.core_laws.proofs.OfTaking.Joining.{keyed_so, noted_there, whole_so}
@@ -80,17 +81,19 @@ pub answer-so : (anew : Bool) (ruling : Ruling) (c : ClientNo) (flag : ℕ) (pac
     → IsOwnAnswer ruling.book.rules c payloads → OnUp c old (λ row message. packets ≡ spellings row.desk.seat.first payloads)
     → OnUp c old (λ row message. anew ≡ nat_eq (slice_index_or message.payload 0 0) 0x1F)
     → AreNotedIn true (old.clients c) statements → IsSame new (answered_so anew c flag packets statements old)
-    → OnUp c old (λ row message. IsToldFor ruling.book (situation_at ruling.keys row.desk) c message.payload payloads → IsAnswered ruling c row message old new)
-answer-so anew ruling c flag packets statements payloads old new own spelt is noted made = λ row there message found ruled. record {
+    → OnUp c old (λ row message. IsToldFor ruling.book (situation_at ruling.keys row.desk) c message.payload payloads
+    → Makes row.desk.seat.port message.payload (Some payloads) ruling.was ruling.is → IsAnswered ruling c row message old new)
+answer-so anew ruling c flag packets statements payloads old new own spelt is noted written = λ row there message found ruled made. record {
   payloads = payloads;
   own = own;
   ruled = λ kept. ruled;
+  made = made;
   flag = flag;
   packets = packets;
   statements = statements;
   spelt = spelt row there message found;
   noted = noted_there true old c row message statements there found noted;
-  makes = subst (λ (b : Bool). IsSame new (answered_so b c flag packets statements old)) (is row there message found) made;
+  makes = subst (λ (b : Bool). IsSame new (answered_so b c flag packets statements old)) (is row there message found) written;
 }
 
 -- It goes to a server.
@@ -132,13 +135,13 @@ unkeyed book keys row c payload hostgroup text multiplex port ruled = record {
   is = ruled;
 }
 
-pub due-there : (ruling : Ruling) (hostgroup : Hostgroup) (ordinal flag since : ℕ) (text : Option (List ℕ)) (multiplex : Option Bool) (form : Form) (c : ClientNo) (old new : Tabled)
+pub due-there : (ruling : Ruling) → MakesNothing ruling → (hostgroup : Hostgroup) (ordinal flag since : ℕ) (text : Option (List ℕ)) (multiplex : Option Bool) (form : Form) (c : ClientNo) (old new : Tabled)
     → OnUp c old (λ row message. IsSendable message.payload text form)
     → IsDue flag text (text_work ordinal hostgroup since multiplex form) c old new
     → OnUp c old (λ row message. row.desk.seat.port ≡ Traffic
     → IsVerdictFor ruling.book (situation_at ruling.keys row.desk) c message.payload (goes_with (route_by hostgroup text multiplex) None)
     → IsDueThere hostgroup ordinal ruling c row message old new)
-due-there ruling hostgroup ordinal flag since text multiplex form c old new sendable due =
+due-there ruling nothing hostgroup ordinal flag since text multiplex form c old new sendable due =
     on-up old c due.row (λ row message. row.desk.seat.port ≡ Traffic
     → IsVerdictFor ruling.book (situation_at ruling.keys row.desk) c message.payload (goes_with (route_by hostgroup text multiplex) None)
     → IsDueThere hostgroup ordinal ruling c row message old new) due.there
@@ -160,6 +163,7 @@ due-there ruling hostgroup ordinal flag since text multiplex form c old new send
       under = All-nil (λ (one : Keyed). ruling.keys one.number ≡ Some one.key);
       prepares = λ numbered. absurd (let none : 0 < 0 = numbered in omega (arith, none));
       ruled = λ kept. unkeyed ruling.book ruling.keys due.row c message.payload hostgroup text multiplex port ruled;
+      nothing = nothing;
       flag = flag;
       command = due.command;
       work = text_work ordinal hostgroup since multiplex form (spelling 0 (text_payload due.command));

@@ -21,7 +21,8 @@ use Rattle.core_tables.specs.Tables.{IsSame, Tabled, client_changed}
 use Rattle.core_tables.specs.Taking.{answers, begins_anew, found_of, goes}
 use Rattle.core_tables.specs.declared.client.Client.{Client}
 use Rattle.core_promises.specs.Judges.{IsRoutedFor, IsToldFor}
-use Rattle.core_promises.specs.Ruled.{AreKept, Ruling, situation_at}
+use Rattle.core_promises.specs.Administers.{Makes}
+use Rattle.core_promises.specs.Ruled.{AreKept, MakesNothing, Ruling, situation_at}
 use Rattle.core_turns.specs.declared.turn.Stop.{Stop}
 use Rattle.core_turns.specs.declared.turn.Stop.TheVariants as stops
 use Rattle.core_turns.specs.declared.turn.Turn.{Turn}
@@ -50,6 +51,7 @@ pub record IsAnswered (ruling : Ruling) (c : ClientNo) (row : Client) (message :
   pub payloads : List (List ℕ)
   pub own : IsOwnAnswer ruling.book.rules c payloads
   pub ruled : AreKept ruling row.desk.seat.statements → IsToldFor ruling.book (situation_at ruling.keys row.desk) c message.payload payloads
+  pub made : Makes row.desk.seat.port message.payload (Some payloads) ruling.was ruling.is
   pub flag : ℕ
   pub packets : List ℕ
   pub statements : ClientStatements
@@ -67,6 +69,7 @@ pub record IsDueThere (hostgroup : Hostgroup) (ordinal : ℕ) (ruling : Ruling) 
   pub prepares : 0 < route.number → is_some (ruling.keys route.key) ≡ true
   pub ruled : AreKept ruling row.desk.seat.statements
       → IsRoutedFor ruling.book (situation_at ruling.keys row.desk) ruling.keys c message.payload route
+  pub nothing : MakesNothing ruling
   pub flag : ℕ
   pub command : Command
   pub work : Work
@@ -93,6 +96,6 @@ IsStopped (stops.Quits flag) message old new = IsQuit message old new
 IsStopped _ message old new = ⊥
 
 abbrev pub IsTakenUp : Turn → (ordinal : ℕ) → Ruling → ClientNo → Client → Framed → (old new : Tabled) → Type 0
-IsTakenUp (turns.Stops stop) ordinal ruling c row message old new = IsStopped stop message old new
+IsTakenUp (turns.Stops stop) ordinal ruling c row message old new = IsStopped stop message old new × MakesNothing ruling
 IsTakenUp turns.Answered ordinal ruling c row message old new = IsAnswered ruling c row message old new
 IsTakenUp (turns.Due hostgroup) ordinal ruling c row message old new = IsDueThere hostgroup ordinal ruling c row message old new

@@ -19,7 +19,8 @@ use Rattle.core_tables.specs.declared.client.Client.{Client}
 use Rattle.core_laws.specs.clients.Turns.{Answers, Choice, ComesUp, Ends, Goes, GoesBy, Halt, IsLookedAt, IsTurn, Keyed, MayLeave, Quits, Rests, RestsThere, Turns, Waits, WaitsThere, waits_at}
 use Rattle.core_promises.specs.Judges.{IsRoutedFor}
 use Rattle.core_laws.specs.clients.Found.{desk_up}
-use Rattle.core_promises.specs.Ruled.{AreKept, AreRuled, IsRuled, Ruling, situation_up}
+use Rattle.core_promises.specs.Administers.{Administered}
+use Rattle.core_promises.specs.Ruled.{AreKept, AreRuled, IsRuled, MakesNothing, Ruling, from, situation_up, until}
 use Rattle.core_turns.specs.Taken.{AreUnder}
 use Rattle.core_turns.specs.declared.turn.Stop.{Stop}
 use Rattle.core_turns.specs.declared.turn.Stop.TheVariants as stops
@@ -83,9 +84,10 @@ IsRuledTurn ruling choice service default c old new =
     (turn : IsTurn choice service default c old new) × IsRuled ruling choice service default c old new turn
 
 abbrev pub TurnsUntil : TurnsBy
-TurnsUntil ruling [] halt service default c old new = StopsSo halt service default c old new
+TurnsUntil ruling [] halt service default c old new = StopsSo halt service default c old new × MakesNothing ruling
 TurnsUntil ruling (choice ∷ others) halt service default c old new =
-    (between : Tabled) × IsRuledTurn ruling choice service default c old between × TurnsUntil ruling others halt service default c between new
+    (between : Tabled) × (then : Administered)
+    × (IsRuledTurn (until ruling then) choice service default c old between × TurnsUntil (from ruling then) others halt service default c between new)
 
 -- By what code says of it.
 
@@ -106,9 +108,10 @@ pub record IsDueIn (hostgroup : Hostgroup) (ruling : Ruling) (service : Service)
   pub prepares : 0 < route.number → is_some (ruling.keys route.key) ≡ true
   pub ruled : AreKept ruling (desk_up service default goes.up.row).seat.statements
       → IsRoutedFor ruling.book (situation_up ruling.keys service default goes.up.row) ruling.keys c goes.up.message.payload route
+  pub nothing : MakesNothing ruling
 
 abbrev pub IsTurned : Turn → Ruling → Service → (default : List ℕ) → ClientNo → (old new : Tabled) → Type 0
-IsTurned (turns.Stops stop) ruling service default c old new = StopsSo (halt_of stop) service default c old new
+IsTurned (turns.Stops stop) ruling service default c old new = StopsSo (halt_of stop) service default c old new × MakesNothing ruling
 IsTurned turns.Answered ruling service default c old new =
     (payloads : List (List ℕ)) × IsOwnAnswer ruling.book.rules c payloads × IsRuledTurn ruling (Answers payloads) service default c old new
 IsTurned (turns.Due hostgroup) ruling service default c old new = IsDueIn hostgroup ruling service default c old new
@@ -128,7 +131,7 @@ pub record HasChosen (ruling : Ruling) (service : Service) (default : List ℕ) 
 
 abbrev pub HasGoneFurther : Option Stop → Ruling → Service → (default : List ℕ) → ClientNo → (old new : Tabled) → Type 0
 HasGoneFurther None ruling service default c old new = HasChosen ruling service default c old new
-HasGoneFurther (Some stop) ruling service default c old new = StopsSo (halt_of stop) service default c old new
+HasGoneFurther (Some stop) ruling service default c old new = StopsSo (halt_of stop) service default c old new × MakesNothing ruling
 
 pub record HasGone (turns : TurnsBy) (stop : Stop) (ruling : Ruling) (service : Service) (default : List ℕ) (c : ClientNo) (old new : Tabled) : Type 0 where
   pub going : is_away (old.clients c) ≡ false
@@ -141,7 +144,7 @@ pub record IsAbsent (c : ClientNo) (old new : Tabled) : Type 0 where
   pub same : IsSame new old
 
 abbrev pub HasGoneOn : TurnsBy → Option Went → Ruling → Service → (default : List ℕ) → ClientNo → (old new : Tabled) → Type 0
-HasGoneOn turns None ruling service default c old new = IsAbsent c old new
+HasGoneOn turns None ruling service default c old new = IsAbsent c old new × MakesNothing ruling
 HasGoneOn turns (Some went) ruling service default c old new = HasGone turns went.stop ruling service default c old new
 
 -- what a client is by which code has it leave
@@ -155,5 +158,5 @@ MayLeaveIf (Some went) row = MayLeaveBy went.stop row
 
 -- where somebody is there
 abbrev pub IsTurnedIf : Option Turn → Ruling → Service → (default : List ℕ) → ClientNo → (old new : Tabled) → Type 0
-IsTurnedIf None ruling service default c old new = IsAbsent c old new
+IsTurnedIf None ruling service default c old new = IsAbsent c old new × MakesNothing ruling
 IsTurnedIf (Some turn) ruling service default c old new = (is_away (old.clients c) ≡ false) × IsTurned turn ruling service default c old new

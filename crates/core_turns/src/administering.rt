@@ -1,5 +1,5 @@
 // What administrators are answered.
-ghost use Rattle.std.specs.Prelude.{◌≡◌, ℕ, IfOk, OnOk};
+ghost use Rattle.std.specs.Prelude.{◌≡◌, ℕ, IfOk, List, OnOk};
 ghost use Rattle.admin_port.specs.Answers.{HasWholeTable, reply_of};
 ghost use Rattle.admin_port.specs.Answers.Reply.{Loads};
 ghost use Rattle.admin_port.specs.declared.statement.StagedTable.TheVariants as tables;
@@ -7,14 +7,15 @@ ghost use Rattle.core_tables.specs.Tables.{tables_of};
 ghost use Rattle.core_tables.specs.Taking.{IsUpOr};
 ghost use Rattle.marked_tables.specs.Goes.{GoesOn};
 ghost use Rattle.mx_base.specs.declared.names.Port.TheVariants.{Admin};
-ghost use Rattle.core_promises.specs.Administers.{IsDone, IsStatementAnswer};
-ghost use Rattle.core_promises.specs.Ruled.{Ruling};
-ghost use Rattle.core_turns.specs.Administering.{IsReplied, IsWritten, port_for};
-ghost use Rattle.core_turns.specs.Taken.{IsTakenUp, OnUp};
+ghost use Rattle.core_promises.specs.Administers.{IsStatementAnswer};
+ghost use Rattle.core_promises.specs.Judges.{Rulebook};
+ghost use Rattle.core_service.specs.Serves.{rules_in};
+ghost use Rattle.query_rules.specs.declared.rule.Rule.{Rule};
+ghost use Rattle.core_turns.specs.Administering.{CarriesOut, IsReplied, IsWritten, administered, port_for};
+ghost use Rattle.core_turns.specs.Taken.{IsTakenUp, Keys, OnUp};
 
 use crate::administrator::Administrator;
 use crate::answering::tell;
-use crate::loaded::Loaded;
 use crate::turn::{Stop, Turn};
 use admin_port::{
     AdminCommand, Answer, Refusal, Running, StagedTable, answer_text, read_command, write_answer,
@@ -25,7 +26,7 @@ use hostgroups::{Servers, ServersFault};
 use marked_tables::MarkedTables;
 use message_judge::{OwnError, Told, write_told};
 use mx_base::{Bytes, ClientNo, OutOfMemory, Port};
-use query_rules::{RuleFault, RuleRow};
+use query_rules::{RuleFault, RuleRow, Rules};
 use std::alloc::Global;
 
 /// AUTOCOMMIT (client/server protocol, "Status Flags"): an administrator is in no transaction.
@@ -52,7 +53,7 @@ fn load_servers(
     admin: &mut Administrator,
     servers: &mut Servers,
 ) -> Result<Answer, OutOfMemory>
-    ensures done { IfOk result (λ answer. IsDone (Loads tables.Servers) (reply_of answer)) }
+    ensures done { IfOk result (λ answer. (force : List Rule) → CarriesOut (Loads tables.Servers) (reply_of answer) force admin.old admin.new) }
     ensures whole { IfOk result HasWholeTable }
 {
     let rows = admin.staged.servers().to_vec(alloc)?;
@@ -76,11 +77,11 @@ fn copies(alloc: Global, rows: &[RuleRow]) -> Result<Vec<RuleRow>, OutOfMemory> 
 
 // The staged rules come in force behind the event.
 fn load_rules(alloc: Global, admin: &mut Administrator) -> Result<Answer, OutOfMemory>
-    ensures done { IfOk result (λ answer. IsDone (Loads tables.Rules) (reply_of answer)) }
+    ensures done { IfOk result (λ answer. (force : List Rule) → CarriesOut (Loads tables.Rules) (reply_of answer) force admin.old admin.new) }
     ensures whole { IfOk result HasWholeTable }
 {
     let rows = copies(alloc, admin.staged.rules())?;
-    match Loaded::of(alloc, admin.staged.rules()) {
+    match Rules::build(alloc, admin.staged.rules()) {
         Ok(rules) => {
             admin.rules = Some(rows);
             admin.loaded = Some(rules);
@@ -88,6 +89,22 @@ fn load_rules(alloc: Global, admin: &mut Administrator) -> Result<Answer, OutOfM
         }
         Err(RuleFault::OutOfMemory) => Err(OutOfMemory),
         Err(_) => Ok(Answer::Refused(Refusal::Rule)),
+    }
+}
+
+// The staged rows of a table are put in force.
+fn load(
+    alloc: Global,
+    table: StagedTable,
+    admin: &mut Administrator,
+    servers: &mut Servers,
+) -> Result<Answer, OutOfMemory>
+    ensures done { IfOk result (λ answer. (force : List Rule) → CarriesOut (Loads table) (reply_of answer) force admin.old admin.new) }
+    ensures whole { IfOk result HasWholeTable }
+{
+    match table {
+        StagedTable::Servers => load_servers(alloc, admin, servers),
+        StagedTable::Rules => load_rules(alloc, admin),
     }
 }
 
@@ -99,17 +116,18 @@ fn carry_out(
     servers: &mut Servers,
 ) -> Result<Answer, OutOfMemory>
     requires { HasWholeTable answer }
-    ensures done { IfOk result (λ done. IsDone (reply_of answer) (reply_of done)) }
+    ensures done { IfOk result (λ done. (force : List Rule) → CarriesOut (reply_of answer) (reply_of done) force admin.old admin.new) }
     ensures whole { IfOk result HasWholeTable }
 {
     match answer {
-        Answer::Load(StagedTable::Servers) => load_servers(alloc, admin, servers),
-        Answer::Load(StagedTable::Rules) => load_rules(alloc, admin),
+        Answer::Load(table) => load(alloc, table, admin, servers),
         Answer::Shutdown => {
             admin.shuts = true;
             Ok(Answer::Shutdown)
         }
-        other => Ok(other),
+        Answer::Done => Ok(Answer::Done),
+        Answer::Rows(table) => Ok(Answer::Rows(table)),
+        Answer::Refused(refusal) => Ok(Answer::Refused(refusal)),
     }
 }
 
@@ -121,7 +139,8 @@ fn answer_for(
     service: &Service,
     servers: &mut Servers,
 ) -> Result<Answer, OutOfMemory>
-    ensures said { IfOk result (λ answer. IsStatementAnswer text.now (reply_of answer)) }
+    ensures said { IfOk result (λ answer. IsStatementAnswer text.now (administered (rules_in service.now) admin.old)
+        (administered (rules_in service.now) admin.new) (reply_of answer)) }
     ensures whole { IfOk result HasWholeTable }
 {
     let answer = answer_text(alloc, text, &mut admin.staged, running)?;
@@ -138,7 +157,8 @@ fn write_statement(
     service: &Service,
     servers: &mut Servers,
 ) -> Result<(), OutOfMemory>
-    ensures { OnOk result (IsReplied text.now first out.old.items out.new.items) }
+    ensures { OnOk result (IsReplied text.now (administered (rules_in service.now) admin.old) (administered (rules_in service.now) admin.new)
+        first out.old.items out.new.items) }
 {
     let answer = answer_for(alloc, text, admin, running, service, servers)?;
     let _ = write_answer(out, first, &answer)?;
@@ -157,7 +177,8 @@ fn write_reply(
     service: &Service,
     servers: &mut Servers,
 ) -> Result<bool, OutOfMemory>
-    ensures { IfOk result (λ answered. IsWritten answered payload.now first out.old.items out.new.items) }
+    ensures { IfOk result (λ answered. IsWritten answered payload.now (administered (rules_in service.now) admin.old)
+        (administered (rules_in service.now) admin.new) first out.old.items out.new.items) }
 {
     match read_command(payload) {
         AdminCommand::Quit => return Ok(false),
@@ -197,7 +218,8 @@ fn append_reply(
 ) -> Result<bool, OutOfMemory>
     requires { IsUpOr ((tables_of tables.now).clients client) }
     ensures { IfOk result (λ answered. OnUp client (tables_of tables.now)
-        (λ row message. IsWritten answered message.payload row.desk.seat.first out.old.items out.new.items)) }
+        (λ row message. IsWritten answered message.payload (administered (rules_in service.now) admin.old)
+        (administered (rules_in service.now) admin.new) row.desk.seat.first out.old.items out.new.items)) }
 {
     let Some(row) = tables.clients.get(&client.0) else {
         unreachable!()
@@ -228,8 +250,14 @@ pub(crate) fn administer(
 ) -> Result<Turn, OutOfMemory>
     requires up { IsUpOr ((tables_of marked.old.tables).clients client) }
     requires port { OnUp client (tables_of marked.old.tables) (λ row message. row.desk.seat.port ≡ Admin) }
-    ensures is { IfOk result (λ turn. (ruling : Ruling) (ordinal : ℕ) → OnUp client (tables_of marked.old.tables)
-        (λ row message. IsTakenUp turn ordinal ruling client row message (tables_of marked.old.tables) (tables_of marked.new.tables))) }
+    ensures is { IfOk result (λ turn. (book : Rulebook) (since : ℕ) (keys : Keys) (ordinal : ℕ) → OnUp client (tables_of marked.old.tables)
+        (λ row message. IsTakenUp turn ordinal (record {
+          book = book;
+          since = since;
+          keys = keys;
+          was = administered (rules_in service.now) admin.old;
+          is = administered (rules_in service.now) admin.new;
+        }) client row message (tables_of marked.old.tables) (tables_of marked.new.tables))) }
     ensures goes { OnOk result (GoesOn marked.old marked.new) }
 {
     let mut packets = Vec::new(alloc);

@@ -1,5 +1,5 @@
 // The router answers a message itself.
-ghost use Rattle.std.specs.Prelude.{◌≡◌, ℕ, List, nat_eq, slice_index_or, IfOk, OnOk};
+ghost use Rattle.std.specs.Prelude.{◌≡◌, ℕ, List, Some, nat_eq, slice_index_or, IfOk, OnOk};
 ghost use Rattle.log_story.specs.Plan.{com_reset};
 ghost use Rattle.packet_frame.specs.Packets.{spellings};
 ghost use Rattle.core_laws.specs.taking.Takes as takes;
@@ -8,6 +8,7 @@ ghost use Rattle.core_tables.specs.Taking.{IsUpOr};
 ghost use Rattle.marked_tables.specs.Goes.{GoesOn};
 ghost use Rattle.message_judge.specs.Told.{IsOwnTold, payloads_of};
 ghost use Rattle.own_words.specs.Own.{IsOwnAnswer};
+ghost use Rattle.core_promises.specs.Administers.{Makes};
 ghost use Rattle.core_promises.specs.Judges.{IsToldFor};
 ghost use Rattle.core_promises.specs.Ruled.{Ruling, situation_at};
 ghost use Rattle.core_turns.specs.Taken.{IsAnswered, OnUp};
@@ -72,6 +73,7 @@ pub(crate) fn tell(
         → OnUp client (tables_of marked.old.tables) (λ row message. packets.now ≡ spellings row.desk.seat.first payloads)
         → OnUp client (tables_of marked.old.tables)
         (λ row message. IsToldFor ruling.book (situation_at ruling.keys row.desk) client message.payload payloads
+        → Makes row.desk.seat.port message.payload (Some payloads) ruling.was ruling.is
         → IsAnswered ruling client row message (tables_of marked.old.tables) (tables_of marked.new.tables))) }
     ensures goes { OnOk result (GoesOn marked.old marked.new) }
 {
@@ -94,6 +96,7 @@ pub(crate) fn answer(
     ensures is { OnOk result ((ruling : Ruling) → IsOwnTold ruling.book.rules told.now
         → OnUp client (tables_of marked.old.tables)
         (λ row message. IsToldFor ruling.book (situation_at ruling.keys row.desk) client message.payload (payloads_of client.0 told.now)
+        → Makes row.desk.seat.port message.payload (Some (payloads_of client.0 told.now)) ruling.was ruling.is
         → IsAnswered ruling client row message (tables_of marked.old.tables) (tables_of marked.new.tables))) }
     ensures goes { OnOk result (GoesOn marked.old marked.new) }
 {

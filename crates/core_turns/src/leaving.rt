@@ -1,11 +1,12 @@
 // A client leaves, or goes on and leaves.
 ghost use Rattle.std.specs.Prelude.{ℕ, IfOk, List, OnOk};
 ghost use Rattle.client_session.specs.Setups as setups;
-ghost use Rattle.core_promises.specs.Ruled.{Ruling, ruling_of};
+ghost use Rattle.core_promises.specs.Ruled.{Ruling};
+ghost use Rattle.core_turns.specs.Administering.{ruling_by};
 ghost use Rattle.core_tables.specs.Tables.{Tabled, tables_of};
 ghost use Rattle.core_laws.specs.clients.Turns.{Choice};
 ghost use Rattle.marked_tables.specs.Goes.{GoesOn};
-ghost use Rattle.core_texts.specs.Texts.{AreMore, key_at};
+ghost use Rattle.core_texts.specs.Texts.{AreMore};
 ghost use Rattle.core_turns.specs.Turned.{HasGoneOn, MayLeaveBy, RuledTurns, TurnsUntil, halt_of};
 
 use crate::administrator::Administrator;
@@ -50,7 +51,7 @@ pub fn take_turns(
     alloc: Global,
     client: ClientNo,
 ) -> Result<Option<Went>, OutOfMemory>
-    ensures is { IfOk result (λ went. HasGoneOn RuledTurns went (ruling_of service.now texts.new.since (key_at texts.new)) service.now.setup service.now.default_schema
+    ensures is { IfOk result (λ went. HasGoneOn RuledTurns went (ruling_by service.now texts.new admin.old admin.new) service.now.setup service.now.default_schema
         client (tables_of marked.old.tables) (tables_of marked.new.tables)) }
     ensures goes { OnOk result (GoesOn marked.old marked.new) }
     ensures more { OnOk result (AreMore texts.old texts.new) }

@@ -6,7 +6,6 @@ mod administrator;
 mod answering;
 mod judged;
 mod leaving;
-mod loaded;
 mod looking;
 mod onward;
 mod preparing;
@@ -16,7 +15,6 @@ mod turn;
 
 pub use administrator::Administrator;
 pub use leaving::{leave, take_turns};
-pub use loaded::Loaded;
 pub use onward::go_on;
 pub use taking::take_next;
 pub use turn::{Stop, Turn, Went};

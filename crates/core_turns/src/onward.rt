@@ -1,9 +1,9 @@
 // A client's messages are taken up, as many as can be.
 ghost use Rattle.std.specs.Prelude.{IfOk, IsSome, OnOk};
-ghost use Rattle.core_promises.specs.Ruled.{ruling_of};
+ghost use Rattle.core_turns.specs.Administering.{ruling_by};
 ghost use Rattle.core_tables.specs.Tables.{tables_of};
 ghost use Rattle.marked_tables.specs.Goes.{GoesOn};
-ghost use Rattle.core_texts.specs.Texts.{AreMore, key_at};
+ghost use Rattle.core_texts.specs.Texts.{AreMore};
 ghost use Rattle.core_turns.specs.Turned.{HasGoneFurther, HasGoneOn, MayLeaveIf, TurnsUntil};
 
 use crate::administrator::Administrator;
@@ -32,7 +32,7 @@ fn go_further(
     due: &mut Option<Hostgroup>,
 ) -> Result<Option<Stop>, OutOfMemory>
     requires there { IsSome ((tables_of marked.old.tables).clients client) }
-    ensures is { IfOk result (λ stop. HasGoneFurther stop (ruling_of service.now texts.new.since (key_at texts.new)) service.now.setup service.now.default_schema
+    ensures is { IfOk result (λ stop. HasGoneFurther stop (ruling_by service.now texts.new admin.old admin.new) service.now.setup service.now.default_schema
         client (tables_of marked.old.tables) (tables_of marked.new.tables)) }
     ensures there { OnOk result (IsSome ((tables_of marked.new.tables).clients client)) }
     ensures goes { OnOk result (GoesOn marked.old marked.new) }
@@ -64,7 +64,7 @@ pub fn go_on(
     alloc: Global,
     client: ClientNo,
 ) -> Result<Option<Went>, OutOfMemory>
-    ensures is { IfOk result (λ went. HasGoneOn TurnsUntil went (ruling_of service.now texts.new.since (key_at texts.new)) service.now.setup service.now.default_schema
+    ensures is { IfOk result (λ went. HasGoneOn TurnsUntil went (ruling_by service.now texts.new admin.old admin.new) service.now.setup service.now.default_schema
         client (tables_of marked.old.tables) (tables_of marked.new.tables)) }
     ensures leaves { IfOk result (λ went. MayLeaveIf went ((tables_of marked.new.tables).clients client)) }
     ensures goes { OnOk result (GoesOn marked.old marked.new) }

@@ -8,8 +8,10 @@ ghost use Rattle.core_tables.specs.Taking.{IsUpOr};
 ghost use Rattle.marked_tables.specs.Goes.{GoesOn};
 ghost use Rattle.stmt_map.specs.Client.{next_number};
 ghost use Rattle.core_promises.specs.Judges.{IsVerdictFor};
-ghost use Rattle.core_promises.specs.Ruled.{Ruling, book_of, ruling_of, situation_at};
+ghost use Rattle.core_promises.specs.Administers.{Administered};
+ghost use Rattle.core_promises.specs.Ruled.{MakesNothing, Ruling, book_of, ruling_of, situation_at};
 ghost use Rattle.core_texts.specs.Texts.{AreMore, key_at};
+ghost use Rattle.core_turns.specs.Administering.{ruling_by};
 ghost use Rattle.core_turns.specs.Judged.{IsAsPromised, IsOwnVerdict, IsSendable, IsVerdictOn, goes_with, route_by};
 ghost use Rattle.core_turns.specs.Preparing.{IsInMemory, named_in};
 ghost use Rattle.core_turns.specs.Taken.{IsDueThere, IsTakenUp, OnUp};
@@ -88,7 +90,7 @@ fn becomes_due(
     requires up { IsUpOr ((tables_of marked.old.tables).clients client) }
     requires sendable { OnUp client (tables_of marked.old.tables)
         (λ row message. IsSendable message.payload text form) }
-    ensures is { OnOk result ((ruling : Ruling) → OnUp client (tables_of marked.old.tables)
+    ensures is { OnOk result ((ruling : Ruling) → MakesNothing ruling → OnUp client (tables_of marked.old.tables)
         (λ row message. row.desk.seat.port ≡ Traffic
         → IsVerdictFor ruling.book (situation_at ruling.keys row.desk) client message.payload (goes_with (route_by hostgroup text multiplex) None)
         → IsDueThere hostgroup ordinal ruling client row message (tables_of marked.old.tables) (tables_of marked.new.tables))) }
@@ -115,8 +117,8 @@ fn serve(
 ) -> Result<Turn, OutOfMemory>
     requires up { IsUpOr ((tables_of marked.old.tables).clients client) }
     requires port { OnUp client (tables_of marked.old.tables) (λ row message. row.desk.seat.port ≡ Traffic) }
-    ensures is { IfOk result (λ turn. OnUp client (tables_of marked.old.tables)
-        (λ row message. IsTakenUp turn ordinal (ruling_of service.now texts.new.since (key_at texts.new)) client row message
+    ensures is { IfOk result (λ turn. (made : Administered) → OnUp client (tables_of marked.old.tables)
+        (λ row message. IsTakenUp turn ordinal (ruling_of service.now texts.new.since (key_at texts.new) made made) client row message
         (tables_of marked.old.tables) (tables_of marked.new.tables))) }
     ensures goes { OnOk result (GoesOn marked.old marked.new) }
     ensures more { OnOk result (AreMore texts.old texts.new) }
@@ -187,7 +189,7 @@ pub(crate) fn take_up(
 ) -> Result<Turn, OutOfMemory>
     requires up { IsUpOr ((tables_of marked.old.tables).clients client) }
     ensures is { IfOk result (λ turn. OnUp client (tables_of marked.old.tables)
-        (λ row message. IsTakenUp turn ordinal (ruling_of service.now texts.new.since (key_at texts.new)) client row message
+        (λ row message. IsTakenUp turn ordinal (ruling_by service.now texts.new admin.old admin.new) client row message
         (tables_of marked.old.tables) (tables_of marked.new.tables))) }
     ensures goes { OnOk result (GoesOn marked.old marked.new) }
     ensures more { OnOk result (AreMore texts.old texts.new) }

@@ -1,9 +1,9 @@
 // A client's next message is taken up.
 ghost use Rattle.std.specs.Prelude.{IfOk, IsSome, OnOk};
-ghost use Rattle.core_promises.specs.Ruled.{ruling_of};
+ghost use Rattle.core_turns.specs.Administering.{ruling_by};
 ghost use Rattle.core_tables.specs.Tables.{tables_of};
 ghost use Rattle.marked_tables.specs.Goes.{GoesOn};
-ghost use Rattle.core_texts.specs.Texts.{AreMore, key_at};
+ghost use Rattle.core_texts.specs.Texts.{AreMore};
 ghost use Rattle.core_turns.specs.Turned.{IsTurned, IsTurnedIf};
 
 use crate::administrator::Administrator;
@@ -33,7 +33,7 @@ pub(crate) fn take_there(
     client: ClientNo,
 ) -> Result<Turn, OutOfMemory>
     requires there { IsSome ((tables_of marked.old.tables).clients client) }
-    ensures is { IfOk result (λ turn. IsTurned turn (ruling_of service.now texts.new.since (key_at texts.new)) service.now.setup service.now.default_schema client
+    ensures is { IfOk result (λ turn. IsTurned turn (ruling_by service.now texts.new admin.old admin.new) service.now.setup service.now.default_schema client
         (tables_of marked.old.tables) (tables_of marked.new.tables)) }
     ensures goes { OnOk result (GoesOn marked.old marked.new) }
     ensures more { OnOk result (AreMore texts.old texts.new) }
@@ -66,7 +66,7 @@ pub fn take_next(
     alloc: Global,
     client: ClientNo,
 ) -> Result<Option<Turn>, OutOfMemory>
-    ensures is { IfOk result (λ turn. IsTurnedIf turn (ruling_of service.now texts.new.since (key_at texts.new)) service.now.setup service.now.default_schema
+    ensures is { IfOk result (λ turn. IsTurnedIf turn (ruling_by service.now texts.new admin.old admin.new) service.now.setup service.now.default_schema
         client (tables_of marked.old.tables) (tables_of marked.new.tables)) }
     ensures goes { OnOk result (GoesOn marked.old marked.new) }
     ensures more { OnOk result (AreMore texts.old texts.new) }

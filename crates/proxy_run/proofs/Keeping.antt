@@ -1,5 +1,5 @@
 -- A core that stands for a log keeps clients apart in it, and so it did where memory was refused.
-use Rattle.std.specs.Prelude.{◌≡◌, ◌⊎◌, ◌&&◌, ℕ, Bool, true, false, List, [], ◌∷◌, ◌++◌, None, Option, Some, unwrap_or}
+use Rattle.std.specs.Prelude.{◌≡◌, ◌⊎◌, ◌&&◌, ℕ, Bool, true, false, length, List, [], ◌∷◌, ◌++◌, None, Option, Some, unwrap_or}
 use Rattle.std.proofs.Common.{refl, sym, ap, ◌∙◌, subst, inl, inr, append_assoc, append-nil}
 use Rattle.std.proofs.lemmas.Option.{none-some}
 use Rattle.client_session.specs.Setups.{Setup}
@@ -16,7 +16,9 @@ use Rattle.core_promises.specs.Ruled.{book_of}
 use Rattle.core_promises.specs.Waits.{AreDoneBy}
 use Rattle.core_service.specs.Serves.{ServesBy}
 use Rattle.query_rules.specs.Passing.{rules_of}
-use Rattle.core_promises.specs.InForce.{MayRule, has_administrator}
+use Rattle.core_promises.specs.InForce.{has_administrator}
+use Rattle.core_promises.specs.Administered.{AdministersBy, outcomes_at}
+use Rattle.core_promises.specs.Administers.{Administered}
 use Rattle.core_service.specs.declared.service.Service.{Service}
 use Rattle.core_texts.specs.declared.texts.Texts.{Texts}
 use Rattle.core_tables.specs.Tables.{Tabled}
@@ -75,9 +77,9 @@ book-is config service by = λ i. record { rules = rules_of service.configured; 
 -- what a router of a log has, by how clients log in, the default schema, and what messages are judged by
 record Served (setup : Setup) (wait_ms : ℕ) (default : List ℕ) (book : Rulebook) (log : Log) (t : Tabled) (roomy : ClientNo → Bool) : Type 0 where
   rules : MessageName → List Rule
-  force : (name : MessageName) → MayRule book.rules log (rules name)
   core : IsCore setup default log t roomy
   single : (m : MessageName) (route : Route) → core.decided.routes m ≡ Some (Some route) → route.mirror ≡ None
+  administers : AdministersBy rules default core.decided book.rules log
   judges : JudgesBy book rules default core.decided log
   speaks : SpeaksOwn rules (plan_of core.decided)
   caused : CausedBy wait_ms default core.decided log
@@ -92,12 +94,19 @@ speaks_so rules d spoken = record { own = λ m answer is. own m answer (d.own m)
   own m answer (Some None) there is = absurd (none-some answer is)
   own m answer (Some (Some other)) there is = spoken.own m answer (there ∙ ap Some is)
 
-served_by : (service : Service) (texts : Texts) (log : Log) (t : Tabled) (roomy : ClientNo → Bool) → IsRouter service texts log t roomy
+served_by : (service : Service) (texts : Texts) (admin : Administered) (log : Log) (t : Tabled) (roomy : ClientNo → Bool)
+    → IsRouter service texts admin log t roomy
     → Served service.setup service.wait_ms service.default_schema (record (book_of service) { rules = rules_of service.configured }) log t roomy
-served_by service texts log t roomy is = record {
+served_by service texts admin log t roomy is = record {
   core = is.core;
   rules = is.rules;
-  force = is.ruled.each;
+  administers = λ setup codes plan of fits. record {
+    first = is.first;
+    began = is.began;
+    last = admin;
+    along = is.administers setup codes plan of fits (outcomes_at is.rules plan (length log))
+        (λ client seated k less. record { judged = refl; answered = λ unrouted. refl });
+  };
   single = is.recorded.alone;
   judges = is.judged;
   speaks = speaks_so is.rules is.core.decided is.spoken;
@@ -105,19 +114,19 @@ served_by service texts log t roomy is = record {
   waited = is.waited;
 }
 
-apart_of : (config : Config) (service : Service) (texts : Texts) (log : Log) (t : Tabled) (roomy : ClientNo → Bool) → ServesBy config service
-    → IsRouter service texts log t roomy → ServesApart config log
-apart_of config service texts log t roomy by stands =
+apart_of : (config : Config) (service : Service) (texts : Texts) (admin : Administered) (log : Log) (t : Tabled) (roomy : ClientNo → Bool) → ServesBy config service
+    → IsRouter service texts admin log t roomy → ServesApart config log
+apart_of config service texts admin log t roomy by stands =
     let router : Router = router_by config service in
     let kept : Served service.setup service.wait_ms service.default_schema (rulebook_of router) log t roomy =
     subst (λ (book : Rulebook). Served service.setup service.wait_ms service.default_schema book log t roomy) (book-is config service by)
-    (served_by service texts log t roomy stands) in
+    (served_by service texts admin log t roomy stands) in
     let is : Served (service_of router) config.proxy.wait_ms config.proxy.default_schema (rulebook_of router) log t roomy =
     rw (by.setup, by.wait_ms, by.default_schema) at kept in
     record {
       router = router;
       configured = configured_by config service by;
-      separates = apart router log t roomy is.core classes is.single is.rules is.force is.judges is.speaks is.caused is.waited (fits-of log stands.lawful);
+      separates = apart router log t roomy is.core classes is.single is.rules is.administers is.judges is.speaks is.caused is.waited (fits-of log stands.lawful);
     }
 
 -- what is loaded is none of the configuration's
@@ -142,7 +151,7 @@ pub record Ran (config : Config) (log : Log) : Type 0 where
 pub ran-of : (config : Config) (core : Core) (log : Log) → ServesBy config (unloaded core) → IsStanding core log → Ran config log
 ran-of config core log by stands =
     let router = stands.stands.router in
-    record { fits = fits-of log router.lawful; serves = apart_of config core.service _ log _ _ (loaded-by config core by) router }
+    record { fits = fits-of log router.lawful; serves = apart_of config core.service _ _ log _ _ (loaded-by config core by) router }
 
 right-of : (a b : Bool) → (a && b) ≡ true → b ≡ true
 right-of true b both = both

@@ -3,7 +3,9 @@ pub mod Recording
 pub mod Covering
 pub mod Situated
 pub mod Kept
+pub mod Stating
 pub mod Judging
+pub mod Administering
 pub mod Keeping
 pub mod Speaking
 pub mod Planning

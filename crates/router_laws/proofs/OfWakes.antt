@@ -11,6 +11,7 @@ pub mod Homed
 pub mod Called
 pub mod Given
 pub mod Fated
+pub mod States
 pub mod Judged
 pub mod Entered
 pub mod Woken

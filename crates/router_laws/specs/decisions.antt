@@ -7,6 +7,7 @@ pub mod Speaks
 pub mod Judges
 pub mod Causes
 pub mod Force
+pub mod Administering
 pub mod Held
 pub mod Routers
 pub mod Goings

@@ -17,7 +17,7 @@ use Rattle.marked_tables.specs.Goes.{GoesOn}
 use Rattle.marked_tables.specs.declared.marked.MarkedTables.{MarkedTables}
 use Rattle.shared_core.specs.Parts.{ForgetsBy}
 use Rattle.shared_core.specs.Says.{IsAskedFor}
-use Rattle.shared_core.specs.Stands.{ActsBy, ActsSo, Chooses, Forgets, IsClosed, PartsFor, Shown, StandsBy, StandsStill}
+use Rattle.shared_core.specs.Stands.{ActsBy, ActsSo, Chooses, Forgets, IsClosed, PartsFor, Shown, StandsBy, StandsStill, work_of}
 use Rattle.shared_core.specs.Stands.{parted, shown, tables, tables_in, without_client, without_link}
 use Rattle.shared_core.specs.declared.router.Router.{Router}
 use Rattle.shared_core.proofs.Machining.{acts_from, acts_shown, parted_stands, stands_as}
@@ -70,18 +70,19 @@ forgets_both old mid new first left closing next left_then closed = record {
   roomy = next.roomy ∙ first.roomy;
   came = next.came ∙ first.came;
   texts = next.texts ∙ first.texts;
+  work = next.work ∙ first.work;
 }
 
 pub forgets_client : (r now : Router) (c : ClientNo) → Some c ≡ r.leaving → IsSame (tables now) (forgotten c (tables r)) → GoesOn r.marked now.marked
-    → now.roomy ≡ r.roomy → now.came ≡ r.came → now.texts ≡ r.texts → ForgetsBy (without_client r.leaving) r now
-forgets_client r now c leaving same goes roomy came texts =
+    → now.roomy ≡ r.roomy → now.came ≡ r.came → now.texts ≡ r.texts → work_of now ≡ work_of r → ForgetsBy (without_client r.leaving) r now
+forgets_client r now c leaving same goes roomy came texts work =
     subst (λ (l : Option ClientNo). ForgetsBy (without_client l) r now) leaving
-    (record { tables = same; goes = goes; roomy = roomy; came = came; texts = texts })
+    (record { tables = same; goes = goes; roomy = roomy; came = came; texts = texts; work = work })
 
 pub forgets_link : (r lost now : Router) (l : LinkId) → Some l ≡ r.closing → IsSame (tables lost) (lost_in l (tables r))
     → IsSame (tables now) (unlinked l (tables lost)) → GoesOn r.marked lost.marked → GoesOn lost.marked now.marked → now.roomy ≡ r.roomy
-    → now.came ≡ r.came → now.texts ≡ r.texts → ForgetsBy (without_link r.closing) r now
-forgets_link r lost now l closing first next goes goes_then roomy came texts =
+    → now.came ≡ r.came → now.texts ≡ r.texts → work_of now ≡ work_of r → ForgetsBy (without_link r.closing) r now
+forgets_link r lost now l closing first next goes goes_then roomy came texts work =
     subst (λ (found : Option LinkId). ForgetsBy (without_link found) r now) closing
     (record {
       tables = same_by (tables now) (unlinked l (lost_in l (tables r)))
@@ -90,6 +91,7 @@ forgets_link r lost now l closing first next goes goes_then roomy came texts =
       roomy = roomy;
       came = came;
       texts = texts;
+      work = work;
     })
 
 -- or none was
@@ -97,12 +99,12 @@ forgets_link r lost now l closing first next goes goes_then roomy came texts =
 pub forgets_no_client : (r : Router) → None ≡ r.leaving → ForgetsBy (without_client r.leaving) r (record r { leaving = None })
 forgets_no_client r leaving =
     subst (λ (l : Option ClientNo). ForgetsBy (without_client l) r (record r { leaving = None })) leaving
-    (record { tables = same_by (tables r) (tables r) refl; goes = still_goes r.marked; roomy = refl; came = refl; texts = refl })
+    (record { tables = same_by (tables r) (tables r) refl; goes = still_goes r.marked; roomy = refl; came = refl; texts = refl; work = refl })
 
 pub forgets_no_link : (r : Router) → None ≡ r.closing → ForgetsBy (without_link r.closing) r (record r { closing = None })
 forgets_no_link r closing =
     subst (λ (l : Option LinkId). ForgetsBy (without_link l) r (record r { closing = None })) closing
-    (record { tables = same_by (tables r) (tables r) refl; goes = still_goes r.marked; roomy = refl; came = refl; texts = refl })
+    (record { tables = same_by (tables r) (tables r) refl; goes = still_goes r.marked; roomy = refl; came = refl; texts = refl; work = refl })
 
 -- What is asked for behind that.
 
@@ -110,7 +112,7 @@ pub forgotten_stands : (old mid : Router) → Forgets old mid → (service : Ser
     → PartsFor service log (shown mid)
 forgotten_stands old mid forgets service log was =
     parted_stands service log (shown mid) forgets.closed
-    (stands_as service log (tables mid) (shown old) (shown mid) forgets.roomy forgets.came forgets.texts
+    (stands_as service log (tables mid) (shown old) (shown mid) forgets.roomy forgets.came forgets.texts forgets.work
     (subst (λ (t : Tabled). StandsBy service log t (shown old)) (sym (tables_are (tables mid) (parted (shown old)) forgets.tables)) was))
 
 pub next_acts : (old mid acted new : Router) (result : Option Act) → Forgets old mid → ActsSo mid acted result → shown new ≡ shown acted

@@ -1,3 +1,4 @@
+use Rattle.shared_core.proofs.Clients.{settled_rules}
 -- Statements are given up and clients are called: what the router makes of that carries it over the entry.
 use Rattle.std.specs.Prelude.{◌≡◌, ◌<◌, ◌||◌, ℕ, Bool, true, false, All, is_some, map, nat_eq, not, if◌then◌else◌, List, [], ◌∷◌, ◌++◌, Option, Some, None}
 use Rattle.std.specs.Option.{option_map}
@@ -41,11 +42,12 @@ use Rattle.router_laws.proofs.OfWakes.Settled.{same_itself}
 use Rattle.router_laws.proofs.OfDecisions.Learning.{learned}
 use Rattle.core_texts.specs.declared.texts.Texts.{Texts}
 use Rattle.core_texts.specs.Texts.{AreMore, HasBegun, key_at}
+use Rattle.core_promises.specs.Administers.{Administered}
 use Rattle.shared_core.proofs.Causing.{late_by, late_more, refused_by}
 use Rattle.shared_core.proofs.Coming.{come_as, come_on}
 use Rattle.shared_core.specs.Causes.{given_with, is_late, is_refused}
-use Rattle.shared_core.specs.Follows.{AreRising, HasAnswered, HaveFollowed, is_of}
-use Rattle.shared_core.specs.Stands.{Carries, CarriesWhere, is_roomy, tables}
+use Rattle.shared_core.specs.Follows.{AreRising, HasAnswered, HaveFollowed, Made, is_of, made_by}
+use Rattle.shared_core.specs.Stands.{Carries, CarriesWhere, IsSettled, is_roomy, tables, work_of, worked}
 use Rattle.shared_core.specs.Wakes.{AreCalled, HasFailed, HasWoken, HaveGivenUp, IsWaiting}
 use Rattle.shared_core.specs.declared.roomy.Roomy.{Roomy}
 use Rattle.shared_core.specs.declared.router.Router.{Router}
@@ -161,10 +163,10 @@ given_since wait_ms now_ms came first roomy called old new more given = record {
   kept = λ c has. given.kept c (more c has);
 }
 
-pub have_woken : (service : Service) (texts : Texts) (now_ms : ℕ) (came : Bool) (roomy called : Roomy) (clients : List ClientNo) (old mid new : Tabled)
-    → HaveGivenUp service.wait_ms now_ms came roomy called old mid → AreCalled called clients mid → HaveFollowed service texts clients mid new
-    → HasWoken service texts now_ms came roomy old new
-have_woken service texts now_ms came roomy called clients old mid new given are followed = record {
+pub have_woken : (service : Service) (made : Made) (now_ms : ℕ) (came : Bool) (roomy called : Roomy) (clients : List ClientNo) (old mid new : Tabled)
+    → HaveGivenUp service.wait_ms now_ms came roomy called old mid → AreCalled called clients mid → HaveFollowed service made clients mid new
+    → HasWoken service made now_ms came roomy old new
+have_woken service made now_ms came roomy called clients old mid new given are followed = record {
   given = given.given;
   callers = followed.callers;
   links = followed.links;
@@ -182,8 +184,8 @@ have_woken service texts now_ms came roomy called clients old mid new given are 
   ruled = followed.ruled;
 }
 
-pub none_fails : (service : Service) (texts : Texts) (t : Tabled) → HasFailed service texts t t
-none_fails service texts t = record {
+pub none_fails : (service : Service) (made : Made) → made.is ≡ made.was → (t : Tabled) → HasFailed service made t t
+none_fails service made nothing t = record {
   given = [];
   callers = [];
   links = [];
@@ -208,12 +210,12 @@ none_fails service texts t = record {
       freed = same_itself t;
     };
   };
-  ruled = tt;
+  ruled = nothing;
 }
 
-pub one_fails : (service : Service) (texts : Texts) (up : GiveUp) (old mid new : Tabled) → is_refused up.why ≡ true → IsWaiting up.client old
-    → HasAnswered up.client up.why old mid → HaveFollowed service texts (up.client ∷ []) mid new → HasFailed service texts old new
-one_fails service texts up old mid new refused waiting answered followed = record {
+pub one_fails : (service : Service) (made : Made) (up : GiveUp) (old mid new : Tabled) → is_refused up.why ≡ true → IsWaiting up.client old
+    → HasAnswered up.client up.why old mid → HaveFollowed service made (up.client ∷ []) mid new → HasFailed service made old new
+one_fails service made up old mid new refused waiting answered followed = record {
   given = given_with up ∷ [];
   callers = followed.callers;
   links = followed.links;
@@ -244,40 +246,43 @@ there_one c why old mid waiting answered =
 -- The router is carried over the entry.
 
 abbrev pub Fails : Type 0
-Fails = (service : Service) (texts : Texts) (log : Log) (t now : Tabled) (roomy : ClientNo → Bool) (given : List GivenUp)
-    (callers : List Caller) (links : List LinkId) (server : ServerId) (address : Address) → (router : IsRouter service texts log t roomy)
+Fails = (service : Service) (texts : Texts) (admin is : Administered) (log : Log) (t now : Tabled) (roomy : ClientNo → Bool) (given : List GivenUp)
+    (callers : List Caller) (links : List LinkId) (server : ServerId) (address : Address) → (router : IsRouter service texts admin log t roomy)
     → MayFollow log (OpenFailed server address) → (fails : FailsSo service.setup service.default_schema given callers links t now) → All IsGivenOurs given → AreRefused given
     → All (IsCallerOurs (rules_in service) texts) callers
-    → AreRuledAll (ruling_of service texts.since (key_at texts)) callers service.setup service.default_schema fails.late fails.calls.turned fails.calls.going
+    → AreRuledAll (ruling_of service texts.since (key_at texts) admin is) callers service.setup service.default_schema fails.late fails.calls.turned fails.calls.going
     → AreHeldSince texts service.default_schema router.core.decided log
-    → IsRouter service texts (with_entry log (OpenFailed server address)) now roomy
+    → admin.rules ≡ rules_in service → IsRouter service texts is (with_entry log (OpenFailed server address)) now roomy
 
-pub fails_carries : Fails → (service : Service) (server : ServerId) (old new : Router) → HasFailed service new.texts (tables old) (tables new)
-    → new.roomy ≡ old.roomy → new.came ≡ old.came → AreMore old.texts new.texts → HasBegun old.texts → (address : Address) → Carries service (OpenFailed server address) old new
-fails_carries law service server old new failed roomy came more begun address =
+pub fails_carries : Fails → (service : Service) (server : ServerId) (old new : Router) → HasFailed service (made_by service old new) (tables old) (tables new)
+    → new.roomy ≡ old.roomy → new.came ≡ old.came → AreMore old.texts new.texts → HasBegun old.texts → (address : Address) → IsSettled old
+    → Carries service (OpenFailed server address) old new
+fails_carries law service server old new failed roomy came more begun address loaded =
     carries_since service old new roomy came more begun (OpenFailed server address) refl (λ log may is.
-    law service new.texts log (tables old) (tables new) (is_roomy old.roomy) failed.given failed.callers failed.links server address
-    is.router may failed.so failed.given_ours failed.refused failed.ours failed.ruled is.since)
+    law service new.texts (worked service (work_of old)) (worked service (work_of new)) log (tables old) (tables new) (is_roomy old.roomy) failed.given failed.callers failed.links server address
+    is.router may failed.so failed.given_ours failed.refused failed.ours failed.ruled is.since (settled_rules service old loaded))
 
 abbrev pub Wakes : Type 0
-Wakes = (service : Service) (texts : Texts) (log : Log) (t now : Tabled) (roomy room : ClientNo → Bool) (given : List GivenUp)
-    (callers : List Caller) (links : List LinkId) (until_ms now_ms : ℕ) → (router : IsRouter service texts log t roomy) → MayFollow log (Woke until_ms now_ms)
+Wakes = (service : Service) (texts : Texts) (admin is : Administered) (log : Log) (t now : Tabled) (roomy room : ClientNo → Bool) (given : List GivenUp)
+    (callers : List Caller) (links : List LinkId) (until_ms now_ms : ℕ) → (router : IsRouter service texts admin log t roomy) → MayFollow log (Woke until_ms now_ms)
     → IsDrainedFor t log → (wakes : WakesSo service.setup service.default_schema given callers links roomy t now) → All IsGivenOurs given
     → AreLate service.wait_ms now_ms (has_administrator log) given
     → All (IsCallerOurs (rules_in service) texts) callers
-    → AreRuledAll (ruling_of service texts.since (key_at texts)) callers service.setup service.default_schema wakes.late wakes.calls.turned wakes.calls.going
+    → AreRuledAll (ruling_of service texts.since (key_at texts) admin is) callers service.setup service.default_schema wakes.late wakes.calls.turned wakes.calls.going
     → AreHeldSince texts service.default_schema router.core.decided log
-    → IsRouter service texts (with_entry log (Woke until_ms now_ms)) now room
+    → admin.rules ≡ rules_in service → IsRouter service texts is (with_entry log (Woke until_ms now_ms)) now room
 
 pub wakes_carries : Wakes → (service : Service) (now_ms : ℕ) (old new : Router)
-    → HasWoken service new.texts now_ms old.came.administrator old.roomy (tables old) (tables new)
-    → new.came ≡ old.came → AreMore old.texts new.texts → HasBegun old.texts → (until_ms : ℕ) → CarriesWhere (IsDrainedFor (tables old)) service (Woke until_ms now_ms) old new
-wakes_carries law service now_ms old new woken came more begun until_ms log drained may stands = record {
-  router = law service new.texts log (tables old) (tables new) (is_roomy old.roomy) (is_roomy new.roomy) woken.given woken.callers
+    → HasWoken service (made_by service old new) now_ms old.came.administrator old.roomy (tables old) (tables new)
+    → new.came ≡ old.came → AreMore old.texts new.texts → HasBegun old.texts → (until_ms : ℕ) → IsSettled old
+    → CarriesWhere (IsDrainedFor (tables old)) service (Woke until_ms now_ms) old new
+wakes_carries law service now_ms old new woken came more begun until_ms loaded log drained may stands = record {
+  router = law service new.texts (worked service (work_of old)) (worked service (work_of new)) log (tables old) (tables new) (is_roomy old.roomy) (is_roomy new.roomy) woken.given woken.callers
       woken.links until_ms now_ms learnt.router may drained woken.so woken.given_ours
-      (late_more service.wait_ms now_ms old.came.administrator (has_administrator log) stands.counted.administrator woken.given woken.late) woken.ours woken.ruled learnt.since;
+      (late_more service.wait_ms now_ms old.came.administrator (has_administrator log) stands.counted.administrator woken.given woken.late) woken.ours woken.ruled
+      learnt.since (settled_rules service old loaded);
   counted = come_as (with_entry log (Woke until_ms now_ms)) old.came new.came came (come_on log (Woke until_ms now_ms ∷ []) old.came refl stands.counted);
 }
   where
-    learnt : IsLearned service new.texts log (tables old) (is_roomy old.roomy)
-    learnt = learned service old.texts new.texts log (tables old) (is_roomy old.roomy) stands.router begun more
+    learnt : IsLearned service new.texts (worked service (work_of old)) log (tables old) (is_roomy old.roomy)
+    learnt = learned service old.texts new.texts (worked service (work_of old)) log (tables old) (is_roomy old.roomy) stands.router begun more

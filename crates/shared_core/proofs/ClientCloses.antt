@@ -36,10 +36,11 @@ use Rattle.router_laws.specs.quiet.Quiet.{is_quiet}
 use Rattle.router_laws.specs.waits.Drained.{IsDrainedAt}
 use Rattle.router_laws.specs.routers.Somehow.{AreLinked, IsLinked}
 use Rattle.core_texts.specs.declared.texts.Texts.{Texts}
+use Rattle.core_promises.specs.Administers.{Administered}
 use Rattle.shared_core.proofs.Coming.{come_on}
 use Rattle.shared_core.specs.Came.{HaveCome}
 use Rattle.shared_core.specs.Parts.{MayPart, is_homeless}
-use Rattle.shared_core.specs.Stands.{ActsSo, IsClosed, PartsFor, Shown, StandsBy}
+use Rattle.shared_core.specs.Stands.{ActsSo, IsClosed, PartsFor, Shown, StandsBy, work_of, worked}
 use Rattle.shared_core.specs.Stands.{is_roomy, parted, shown, tables, without_link}
 use Rattle.shared_core.specs.declared.router.Router.{Router}
 use Rattle.shared_core.proofs.ClientRows.{left_again}
@@ -143,20 +144,20 @@ mark_comes (_ ∷ marks) are = absurd are.0
 -- The laws by which the router goes on.
 
 abbrev pub Quiets : Type 0
-Quiets = (service : Service) (texts : Texts) (log : Log) (e : Entry) (t : Tabled) (roomy : ClientNo → Bool) → IsRouter service texts log t roomy
-    → MayFollow log e → is_quiet e ≡ true → IsDrainedAt t log e → IsRouter service texts (with_entry log e) t roomy
+Quiets = (service : Service) (texts : Texts) (admin : Administered) (log : Log) (e : Entry) (t : Tabled) (roomy : ClientNo → Bool) → IsRouter service texts admin log t roomy
+    → MayFollow log e → is_quiet e ≡ true → IsDrainedAt t log e → IsRouter service texts admin (with_entry log e) t roomy
 
 abbrev pub Marks : Type 0
-Marks = (service : Service) (texts : Texts) (log marks : Log) (t : Tabled) (roomy : ClientNo → Bool) → IsRouter service texts log t roomy
-    → AreMarks marks → length (log ++ marks) < 281474976710656 → IsRouter service texts (log ++ marks) t roomy
+Marks = (service : Service) (texts : Texts) (admin : Administered) (log marks : Log) (t : Tabled) (roomy : ClientNo → Bool) → IsRouter service texts admin log t roomy
+    → AreMarks marks → length (log ++ marks) < 281474976710656 → IsRouter service texts admin (log ++ marks) t roomy
 
 abbrev pub Parts : Type 0
-Parts = (service : Service) (texts : Texts) (log : Log) (t now : Tabled) (roomy : ClientNo → Bool) (link : LinkId) (c : ClientNo)
-    → IsRouter service texts log t roomy → MayFollow log (entry.Closed link) → PartsSo link c t now
-    → IsRouter service texts (with_entry log (entry.Closed link)) now roomy
+Parts = (service : Service) (texts : Texts) (admin : Administered) (log : Log) (t now : Tabled) (roomy : ClientNo → Bool) (link : LinkId) (c : ClientNo)
+    → IsRouter service texts admin log t roomy → MayFollow log (entry.Closed link) → PartsSo link c t now
+    → IsRouter service texts admin (with_entry log (entry.Closed link)) now roomy
 
 abbrev pub Linked : Type 0
-Linked = (service : Service) (texts : Texts) (log : Log) (t : Tabled) (roomy : ClientNo → Bool) → IsRouter service texts log t roomy → AreLinked t
+Linked = (service : Service) (texts : Texts) (admin : Administered) (log : Log) (t : Tabled) (roomy : ClientNo → Bool) → IsRouter service texts admin log t roomy → AreLinked t
 
 pub record Laws : Type 0 where
   pub writes : ClientWrites
@@ -167,9 +168,9 @@ pub record Laws : Type 0 where
   pub linked : Linked
 
 -- An entry behind which it is there still, on the same link.
-pub record IsBehind (service : Service) (texts : Texts) (log : Log) (e : Entry) (c : ClientNo) (row : Client) (t : Tabled) (roomy : ClientNo → Bool) : Type 0 where
+pub record IsBehind (service : Service) (texts : Texts) (admin : Administered) (log : Log) (e : Entry) (c : ClientNo) (row : Client) (t : Tabled) (roomy : ClientNo → Bool) : Type 0 where
   pub row_then : Client
-  pub router : IsRouter service texts (with_entry log e) (client_put c (Some row_then) t) roomy
+  pub router : IsRouter service texts admin (with_entry log e) (client_put c (Some row_then) t) roomy
   pub over : is_ended row_then.desk.seat.phase ≡ true
   pub link_is : row_then.desk.seat.link ≡ row.desk.seat.link
   pub none : accepted_links (e ∷ []) ≡ []
@@ -188,10 +189,10 @@ module _ (laws : Laws) (old : Router) (link : LinkId) (c : ClientNo) (row : Clie
   abbrev new : Router
   new = record old { leaving = Some c }
 
-  parts_so : (service : Service) (log : Log) → IsRouter service texts log (forgotten c t) roomy
+  parts_so : (service : Service) (log : Log) → IsRouter service texts (worked service (work_of old)) log (forgotten c t) roomy
       → HaveCome log old.came → PartsFor service log (shown new)
   parts_so service log router counted = record {
-    router = subst (λ (now : Tabled). IsRouter service texts log now roomy)
+    router = subst (λ (now : Tabled). IsRouter service texts (worked service (work_of old)) log now roomy)
         (sym (ap (λ (l : Option LinkId). without_link l (forgotten c t)) closed.link)) router;
     counted = counted;
   }
@@ -200,20 +201,20 @@ module _ (laws : Laws) (old : Router) (link : LinkId) (c : ClientNo) (row : Clie
       → PartsFor service (log ++ entry.Closed link ∷ []) (shown new)
   plain service log may was =
       parts_so service (log ++ entry.Closed link ∷ [])
-      (laws.parts service old.texts log t (forgotten c t) roomy link c was.router may (record {
+      (laws.parts service old.texts (worked service (work_of old)) log t (forgotten c t) roomy link c was.router may (record {
         row = row;
         its = record { numbered = numbered; there = there };
         over = is.over;
         same = same_by (forgotten c t) (forgotten c t) refl;
       })) (come_on log (entry.Closed link ∷ []) old.came refl was.counted)
 
-  ends : (service : Service) (log : Log) (e : Entry) (marks : Log) → IsBehind service old.texts log e c row t roomy → StandsBy service log t (shown old) → AreMarks marks
+  ends : (service : Service) (log : Log) (e : Entry) (marks : Log) → IsBehind service old.texts (worked service (work_of old)) log e c row t roomy → StandsBy service log t (shown old) → AreMarks marks
       → MayFollow (log ++ e ∷ [] ++ marks) (entry.Closed link) → PartsFor service (log ++ e ∷ [] ++ marks ++ entry.Closed link ∷ []) (shown new)
   ends service log e marks behind was are may =
       let few : length (with_entry log e ++ marks) < 281474976710656 = let bounded = may.bounded in omega (arith, bounded) in
       parts_so service (log ++ e ∷ [] ++ marks ++ entry.Closed link ∷ [])
-      (laws.parts service old.texts (with_entry log e ++ marks) (client_put c (Some behind.row_then) t) (forgotten c t) roomy link c
-      (laws.marks service old.texts (with_entry log e) marks (client_put c (Some behind.row_then) t) roomy behind.router are few) may
+      (laws.parts service old.texts (worked service (work_of old)) (with_entry log e ++ marks) (client_put c (Some behind.row_then) t) (forgotten c t) roomy link c
+      (laws.marks service old.texts (worked service (work_of old)) (with_entry log e) marks (client_put c (Some behind.row_then) t) roomy behind.router are few) may
       (record {
         row = behind.row_then;
         its = record { numbered = numbered; there = put_same c (Some behind.row_then) t };
@@ -226,9 +227,9 @@ module _ (laws : Laws) (old : Router) (link : LinkId) (c : ClientNo) (row : Clie
   -- Its farewell is written, in part or whole.
 
   wrote_so : (tag : Tag) (bytes : List ℕ) → IsPartOf (sends_on old.marked link) tag bytes → (service : Service) (log : Log)
-      → MayFollow log (entry.Wrote link tag bytes) → StandsBy service log t (shown old) → IsBehind service old.texts log (entry.Wrote link tag bytes) c row t roomy
+      → MayFollow log (entry.Wrote link tag bytes) → StandsBy service log t (shown old) → IsBehind service old.texts (worked service (work_of old)) log (entry.Wrote link tag bytes) c row t roomy
   wrote_so tag bytes part service log may was =
-      let linked : IsLinked link c t = laws.linked service old.texts log t roomy was.router link c numbered in
+      let linked : IsLinked link c t = laws.linked service old.texts (worked service (work_of old)) log t roomy was.router link c numbered in
       let to : IsSentTo t c part.sent = sent_to old.marked link c linked.aside numbered part.sent part.is in
       let both : Some to.row ≡ Some row = sym to.there ∙ there in
       let same : to.row ≡ row = cc in
@@ -237,7 +238,7 @@ module _ (laws : Laws) (old : Router) (link : LinkId) (c : ClientNo) (row : Clie
       front_of part.front.0 row.desk.seat.outbox.due bytes (part.front.1 ∙ ap (λ (xs : List ℕ). take part.front.0 xs) due) in
       record {
         row_then = seated (wrote (length bytes)) row;
-        router = laws.writes service old.texts log t (client_put c (Some (seated (wrote (length bytes)) row)) t) roomy roomy link tag bytes
+        router = laws.writes service old.texts (worked service (work_of old)) log t (client_put c (Some (seated (wrote (length bytes)) row)) t) roomy roomy link tag bytes
             (length bytes) c was.router may (record {
               row = row;
               its = record { numbered = numbered; there = there };
@@ -261,11 +262,11 @@ module _ (laws : Laws) (old : Router) (link : LinkId) (c : ClientNo) (row : Clie
       by false apart = refl
 
   nothing_so : (service : Service) (log : Log) → MayFollow log (entry.WriteNothing link) → StandsBy service log t (shown old)
-      → IsBehind service old.texts log (entry.WriteNothing link) c row t roomy
+      → IsBehind service old.texts (worked service (work_of old)) log (entry.WriteNothing link) c row t roomy
   nothing_so service log may was = record {
     row_then = row;
-    router = subst (λ (now : Tabled). IsRouter service texts (with_entry log (entry.WriteNothing link)) now roomy) (sym put_itself)
-        (laws.quiet service old.texts log (entry.WriteNothing link) t roomy was.router may refl tt);
+    router = subst (λ (now : Tabled). IsRouter service texts (worked service (work_of old)) (with_entry log (entry.WriteNothing link)) now roomy) (sym put_itself)
+        (laws.quiet service old.texts (worked service (work_of old)) log (entry.WriteNothing link) t roomy was.router may refl tt);
     over = is.over;
     link_is = refl;
     none = refl;
@@ -286,11 +287,11 @@ module _ (laws : Laws) (old : Router) (link : LinkId) (c : ClientNo) (row : Clie
       ∙ (λ i. client_put c (Some (left_row stays row)) (record t { links = left_links i }))
 
   failed_so : (service : Service) (log : Log) → MayFollow log (entry.WriteFailed link) → StandsBy service log t (shown old)
-      → IsBehind service old.texts log (entry.WriteFailed link) c row t roomy
+      → IsBehind service old.texts (worked service (work_of old)) log (entry.WriteFailed link) c row t roomy
   failed_so service log may was = record {
     row_then = left_row stays row;
-    router = subst (λ (now : Tabled). IsRouter service texts (with_entry log (entry.WriteFailed link)) now roomy) left_so
-        (laws.again service old.texts log (entry.WriteFailed link) t (left_in c stays t) roomy link c was.router may (inr (inr refl))
+    router = subst (λ (now : Tabled). IsRouter service texts (worked service (work_of old)) (with_entry log (entry.WriteFailed link)) now roomy) left_so
+        (laws.again service old.texts (worked service (work_of old)) log (entry.WriteFailed link) t (left_in c stays t) roomy link c was.router may (inr (inr refl))
         (left_again link c t (left_in c stays t) numbered (record { row = row; there = there; is = is.over }) is.lives
         (same_by (left_in c stays t) (left_in c stays t) refl)));
     over = is.over;
@@ -301,7 +302,7 @@ module _ (laws : Laws) (old : Router) (link : LinkId) (c : ClientNo) (row : Clie
   -- Whatever the farewell's write answers.
 
   abbrev Offers : Entry → Type 0
-  Offers e = (service : Service) (log : Log) → MayFollow log e → StandsBy service log t (shown old) → IsBehind service old.texts log e c row t roomy
+  Offers e = (service : Service) (log : Log) → MayFollow log e → StandsBy service log t (shown old) → IsBehind service old.texts (worked service (work_of old)) log e c row t roomy
 
   offers_by : (e : Entry) → IsFarewell (sends_on old.marked link) link e → Offers e
   offers_by (entry.Wrote to tag bytes) told = subst (λ (l : LinkId). Offers (entry.Wrote l tag bytes)) (sym told.0) (wrote_so tag bytes told.1)

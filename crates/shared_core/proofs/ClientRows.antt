@@ -34,7 +34,7 @@ use Rattle.router_laws.specs.clients.Speaks.{IsLinkOf, next_ordinal}
 use Rattle.router_laws.specs.wakes.Calling as calling
 use Rattle.core_texts.specs.declared.texts.Texts.{Texts}
 use Rattle.shared_core.specs.Clients.{HasLeftAtOnce, HasLeftGoing, HasRow, HasSpoken, IsBusy}
-use Rattle.shared_core.specs.Follows.{HasFollowed, HasGone, is_of}
+use Rattle.shared_core.specs.Follows.{HasFollowed, HasGone, Made, is_of}
 use Rattle.shared_core.specs.Rows.{HasLives}
 
 put_same : (c : ClientNo) (row : Option Client) (t : Tabled) → (client_put c row t).clients c ≡ row
@@ -52,15 +52,15 @@ got_phase phase.LoggingIn bytes seat = refl
 got_phase (phase.Serving account) bytes seat = refl
 got_phase phase.Ended bytes seat = refl
 
-pub spoken : (service : Service) (texts : Texts) (link : LinkId) (bytes : List ℕ) (c : ClientNo) (t heard new : Tabled) → IsSame heard (spoke c bytes t)
-    → (is_going (heard.clients c) ≡ true → HasFollowed service texts c false heard new) → (row : Client) → IsLinkOf link c row t
-    → is_ended row.desk.seat.phase ≡ false → HasSpoken service texts link bytes c t new
-spoken service texts link bytes c t heard new hears follows row its going =
+pub spoken : (service : Service) (made : Made) (link : LinkId) (bytes : List ℕ) (c : ClientNo) (t heard new : Tabled) → IsSame heard (spoke c bytes t)
+    → (is_going (heard.clients c) ≡ true → HasFollowed service made c false heard new) → (row : Client) → IsLinkOf link c row t
+    → is_ended row.desk.seat.phase ≡ false → HasSpoken service made link bytes c t new
+spoken service made link bytes c t heard new hears follows row its going =
     let row_then : heard.clients c ≡ Some (seated (got bytes) row) =
     hears.clients c ∙ put_same c (option_map (seated (got bytes)) (t.clients c)) t ∙ ap (option_map (seated (got bytes))) its.there in
     let goes : is_going (heard.clients c) ≡ true =
     ap is_going row_then ∙ ap not (ap is_ended (got_phase row.desk.seat.phase bytes row.desk.seat) ∙ going) in
-    let followed : HasFollowed service texts c false heard new = follows goes in
+    let followed : HasFollowed service made c false heard new = follows goes in
     record {
       ordinal = next_ordinal row;
       choices = followed.choices;
@@ -222,11 +222,11 @@ serves phase.LoggingIn b is = refl
 serves (phase.Serving account) b is = refl
 serves phase.Ended b is = absurd (true≢false (sym is))
 
-pub left_going : (service : Service) (texts : Texts) (link : LinkId) (c : ClientNo) (links : List LinkId) (t left between new : Tabled) → t.numbers link ≡ Some c
+pub left_going : (service : Service) (made : Made) (link : LinkId) (c : ClientNo) (links : List LinkId) (t left between new : Tabled) → t.numbers link ≡ Some c
     → (has : HasRow (λ (row : Client). is_at_rest row ≡ true) c t) → HasLives has.row.desk → calling.AreHomesOf (is_of (c ∷ [])) links t
     → IsSame left (left_in c begun_anew t) → IsSame between (all_freed links left)
-    → (is_going (between.clients c) ≡ true → HasGone service texts c true between new) → HasLeftGoing service texts link c t new
-left_going service texts link c links t left between new numbered has lives homes leaves freed goes =
+    → (is_going (between.clients c) ≡ true → HasGone service made c true between new) → HasLeftGoing service made link c t new
+left_going service made link c links t left between new numbered has lives homes leaves freed goes =
     let row : Client = has.row in
     let there : t.clients c ≡ Some row = has.there in
     let rests : is_at_rest row ≡ true = has.is in
@@ -237,7 +237,7 @@ left_going service texts link c links t left between new numbered has lives home
     let going : is_going (between.clients c) ≡ true =
     ap is_going then_on.there ∙ ap (λ (seat : Seat). not (is_ended seat.phase)) then_on.seat_is
     ∙ ap not (serves row.desk.seat.phase row.desk.seat.answered rests) in
-    let gone : HasGone service texts c true between new = goes going in
+    let gone : HasGone service made c true between new = goes going in
     record {
       links = links;
       ordinal = next_ordinal row;

@@ -1,3 +1,7 @@
+use Rattle.query_rules.specs.declared.rules.Rules.{Rules}
+use Rattle.query_rules.specs.Passing.{rules_of}
+use Rattle.shared_core.proofs.Keeping.{keeps_but}
+use Rattle.shared_core.proofs.Carrying.{worked_same}
 -- Clients come, speak, and are lost: what the router makes of that carries it over the entry.
 use Rattle.std.specs.Prelude.{◌≡◌, ◌⊎◌, ◌<◌, ◌≤◌, ◌^◌, ◌+◌, ◌-◌, ◌&&◌, ℕ, not, min, Bool, true, false, All, length, List, [], ◌∷◌, Option, Some, None, OnOk, Result, Ok, Err}
 use Rattle.std.specs.Option.{option_map_or}
@@ -45,12 +49,13 @@ use Rattle.router_laws.proofs.OfDecisions.Learning.{learned, learns}
 use Rattle.core_texts.specs.declared.texts.Texts.{Texts}
 use Rattle.core_texts.specs.Texts.{AreMore, HasBegun, key_at}
 use Rattle.core_texts.proofs.Keeping.{itself_more, more_on}
+use Rattle.core_promises.specs.Administers.{Administered}
 use Rattle.shared_core.proofs.Coming.{administrator_then, come_as, come_on}
 use Rattle.shared_core.specs.Came.{HaveCome, came_then}
 use Rattle.shared_core.proofs.Entrants.{lacking, lacks_itself, logging_in, others_lack, router_still}
 use Rattle.shared_core.specs.Clients.{HasLeftAtOnce, HasLeftGoing, HasSpoken}
-use Rattle.shared_core.specs.Follows.{Keeps}
-use Rattle.shared_core.specs.Stands.{Carries, Loses, Moves, StandsFor, is_roomy, tables}
+use Rattle.shared_core.specs.Follows.{Keeps, KeepsBut, made_by}
+use Rattle.shared_core.specs.Stands.{Carries, IsSettled, Loses, Moves, StandsFor, is_roomy, tables, work_of, worked}
 use Rattle.shared_core.specs.declared.roomy.Roomy.{Roomy}
 use Rattle.shared_core.specs.declared.router.Router.{Router}
 use Rattle.client_seat.specs.Numbers.{number_in}
@@ -58,51 +63,51 @@ use Rattle.client_seat.specs.Numbers.{number_in}
 -- The laws by which a router goes on.
 
 abbrev pub Comes : Type 0
-Comes = (service : Service) (texts : Texts) (log : Log) (t now : Tabled) (roomy : ClientNo → Bool) (port : Port) (link : LinkId)
-    (salt : List ℕ) (c : ClientNo) → IsRouter service texts log t roomy → MayFollow log (entry.Accepted port link salt)
+Comes = (service : Service) (texts : Texts) (admin : Administered) (log : Log) (t now : Tabled) (roomy : ClientNo → Bool) (port : Port) (link : LinkId)
+    (salt : List ℕ) (c : ClientNo) → IsRouter service texts admin log t roomy → MayFollow log (entry.Accepted port link salt)
     → c.0 ≡ length (accepted_links log) + 1 → ComesSo Served service.setup port link salt c t now
-    → IsRouter service texts (with_entry log (entry.Accepted port link salt)) now roomy
+    → IsRouter service texts admin (with_entry log (entry.Accepted port link salt)) now roomy
 
 abbrev pub Away : Type 0
-Away = (service : Service) (texts : Texts) (log : Log) (t now : Tabled) (roomy : ClientNo → Bool) (port : Port) (link : LinkId)
-    (salt : List ℕ) (c : ClientNo) → IsRouter service texts log t roomy → MayFollow log (entry.Accepted port link salt)
+Away = (service : Service) (texts : Texts) (admin : Administered) (log : Log) (t now : Tabled) (roomy : ClientNo → Bool) (port : Port) (link : LinkId)
+    (salt : List ℕ) (c : ClientNo) → IsRouter service texts admin log t roomy → MayFollow log (entry.Accepted port link salt)
     → c.0 ≡ length (accepted_links log) + 1 → ComesSo TurnedAway service.setup port link salt c t now
-    → IsRouter service texts (with_entry log (entry.Accepted port link salt)) now roomy
+    → IsRouter service texts admin (with_entry log (entry.Accepted port link salt)) now roomy
 
 abbrev pub Speaks : Type 0
-Speaks = (service : Service) (texts : Texts) (log : Log) (t now : Tabled) (roomy room : ClientNo → Bool) (link : LinkId) (bytes : List ℕ)
+Speaks = (service : Service) (texts : Texts) (admin is : Administered) (log : Log) (t now : Tabled) (roomy room : ClientNo → Bool) (link : LinkId) (bytes : List ℕ)
     (c : ClientNo) (ordinal : ℕ) (choices : List Choice) (halt : Halt) (parting : Parting) (links : List LinkId)
-    → (router : IsRouter service texts log t roomy) → MayFollow log (entry.Got link bytes)
+    → (router : IsRouter service texts admin log t roomy) → MayFollow log (entry.Got link bytes)
     → (so : SpeaksSo service.setup service.default_schema link bytes c ordinal choices halt parting links t now)
     → All (IsOurs (rules_in service) texts c) choices → IsPartingOurs parting
     → OthersLack c roomy room
-    → AreRuled (ruling_of service texts.since (key_at texts)) choices halt service.setup service.default_schema c so.heard so.follows.turned so.follows.turns
+    → AreRuled (ruling_of service texts.since (key_at texts) admin is) choices halt service.setup service.default_schema c so.heard so.follows.turned so.follows.turns
     → AreHeldSince texts service.default_schema router.core.decided log
-    → IsRouter service texts (with_entry log (entry.Got link bytes)) now room
+    → admin.rules ≡ rules_in service → IsRouter service texts is (with_entry log (entry.Got link bytes)) now room
 
 abbrev pub Again : Type 0
-Again = (service : Service) (texts : Texts) (log : Log) (e : Entry) (t now : Tabled) (roomy : ClientNo → Bool) (link : LinkId) (c : ClientNo)
-    → IsRouter service texts log t roomy → MayFollow log e → IsLossOf link e → LeavesAgain link c t now
-    → IsRouter service texts (with_entry log e) now roomy
+Again = (service : Service) (texts : Texts) (admin : Administered) (log : Log) (e : Entry) (t now : Tabled) (roomy : ClientNo → Bool) (link : LinkId) (c : ClientNo)
+    → IsRouter service texts admin log t roomy → MayFollow log e → IsLossOf link e → LeavesAgain link c t now
+    → IsRouter service texts admin (with_entry log e) now roomy
 
 abbrev pub AtOnce : Type 0
-AtOnce = (service : Service) (texts : Texts) (log : Log) (e : Entry) (t now : Tabled) (roomy room : ClientNo → Bool) (link : LinkId)
-    (c : ClientNo) (links : List LinkId) → IsRouter service texts log t roomy → MayFollow log e → IsLossOf link e
-    → LeavesAtOnce link links c roomy t now → OthersLack c roomy room → IsRouter service texts (with_entry log e) now room
+AtOnce = (service : Service) (texts : Texts) (admin : Administered) (log : Log) (e : Entry) (t now : Tabled) (roomy room : ClientNo → Bool) (link : LinkId)
+    (c : ClientNo) (links : List LinkId) → IsRouter service texts admin log t roomy → MayFollow log e → IsLossOf link e
+    → LeavesAtOnce link links c roomy t now → OthersLack c roomy room → IsRouter service texts admin (with_entry log e) now room
 
 abbrev pub Going : Type 0
-Going = (service : Service) (texts : Texts) (log : Log) (e : Entry) (t now : Tabled) (roomy room : ClientNo → Bool) (link : LinkId)
+Going = (service : Service) (texts : Texts) (admin is : Administered) (log : Log) (e : Entry) (t now : Tabled) (roomy room : ClientNo → Bool) (link : LinkId)
     (c : ClientNo) (links : List LinkId) (ordinal : ℕ) (choices : List Choice) (halt : Halt) (parting : Parting)
-    → (router : IsRouter service texts log t roomy) → MayFollow log e → IsLossOf link e
+    → (router : IsRouter service texts admin log t roomy) → MayFollow log e → IsLossOf link e
     → (so : LeavesGoing service.setup service.default_schema link links ordinal choices halt parting c t now)
     → All (IsOurs (rules_in service) texts c) choices → IsPartingOurs parting
     → OthersLack c roomy room
-    → AreRuled (ruling_of service texts.since (key_at texts)) choices halt service.setup service.default_schema c so.between so.follows.turned so.follows.turns
+    → AreRuled (ruling_of service texts.since (key_at texts) admin is) choices halt service.setup service.default_schema c so.between so.follows.turned so.follows.turns
     → AreHeldSince texts service.default_schema router.core.decided log
-    → IsRouter service texts (with_entry log e) now room
+    → admin.rules ≡ rules_in service → IsRouter service texts is (with_entry log e) now room
 
 abbrev pub Linked : Type 0
-Linked = (service : Service) (texts : Texts) (log : Log) (t : Tabled) (roomy : ClientNo → Bool) → IsRouter service texts log t roomy → AreLinked t
+Linked = (service : Service) (texts : Texts) (admin : Administered) (log : Log) (t : Tabled) (roomy : ClientNo → Bool) → IsRouter service texts admin log t roomy → AreLinked t
 
 -- both hold, if there was memory
 pub on_both : {X E : Type 0} {A B C : Type 0} (r : Result X E) → (A → B → C) → OnOk r A → OnOk r B → OnOk r C
@@ -134,7 +139,7 @@ behind log e =
 
 module _ (service : Service) (port : Port) (link : LinkId) (salt : List ℕ) (old new : Router) (c : ClientNo)
     (count : c.0 ≡ min (old.came.clients + 1) (2 ^ 64 - 1)) (came_so : new.came ≡ came_then old.came port) (roomy : new.roomy ≡ old.roomy)
-    (more : AreMore old.texts new.texts) where
+    (more : AreMore old.texts new.texts) (work : work_of new ≡ work_of old) where
   abbrev e : Entry
   e = entry.Accepted port link salt
 
@@ -145,9 +150,11 @@ module _ (service : Service) (port : Port) (link : LinkId) (salt : List ℕ) (ol
       let before : old.came.clients ≡ length (accepted_links log) = was.clients in omega (arith, count, before, below, less)
 
   stands : (log : Log) (may : MayFollow log e) (was : HaveCome log old.came)
-      → IsRouter service new.texts (with_entry log e) (tables new) (is_roomy old.roomy) → StandsFor service (with_entry log e) new
+      → IsRouter service new.texts (worked service (work_of old)) (with_entry log e) (tables new) (is_roomy old.roomy)
+      → StandsFor service (with_entry log e) new
   stands log may was router = record {
-    router = subst (λ (r : Roomy). IsRouter service new.texts (with_entry log e) (tables new) (is_roomy r)) (sym roomy) router;
+    router = worked_same service new.texts (with_entry log e) (tables new) (is_roomy new.roomy) old new work
+        (subst (λ (r : Roomy). IsRouter service new.texts (worked service (work_of old)) (with_entry log e) (tables new) (is_roomy r)) (sym roomy) router);
     counted = come_as (with_entry log e) (came_then old.came port) new.came came_so (record {
       clients = (let one : c.0 ≡ length (accepted_links log) + 1 = counted log may was in
           let more : length (accepted_links (with_entry log e)) ≡ length (accepted_links log) + 1 = behind log e in omega (arith, count, one, more));
@@ -158,15 +165,15 @@ module _ (service : Service) (port : Port) (link : LinkId) (salt : List ℕ) (ol
   pub comes_carry : Comes → ComesSo Served service.setup port link salt c (tables old) (tables new) → Carries service e old new
   comes_carry law so log may stood =
       stands log may stood.counted
-      (law service new.texts log (tables old) (tables new) (is_roomy old.roomy) port link salt c
-      (learns service old.texts new.texts log (tables old) (is_roomy old.roomy) stood.router more) may
+      (law service new.texts (worked service (work_of old)) log (tables old) (tables new) (is_roomy old.roomy) port link salt c
+      (learns service old.texts new.texts (worked service (work_of old)) log (tables old) (is_roomy old.roomy) stood.router more) may
       (counted log may stood.counted) so)
 
   pub away_carries : Away → ComesSo TurnedAway service.setup port link salt c (tables old) (tables new) → Carries service e old new
   away_carries law so log may stood =
       stands log may stood.counted
-      (law service new.texts log (tables old) (tables new) (is_roomy old.roomy) port link salt c
-      (learns service old.texts new.texts log (tables old) (is_roomy old.roomy) stood.router more) may
+      (law service new.texts (worked service (work_of old)) log (tables old) (tables new) (is_roomy old.roomy) port link salt c
+      (learns service old.texts new.texts (worked service (work_of old)) log (tables old) (is_roomy old.roomy) stood.router more) may
       (counted log may stood.counted) so)
 
 pub moves_of : (old new : Router) → Keeps old new → Moves old new
@@ -183,10 +190,11 @@ keeps_on a b c first next = record {
   client = next.client ∙ first.client;
   link = next.link ∙ first.link;
   texts = more_on a.texts b.texts c.texts first.texts next.texts;
+  work = next.work ∙ first.work;
 }
 
 pub keeps_marked : (r : Router) (m : MarkedTables) → GoesOn r.marked m → Keeps r (record r { marked = m })
-keeps_marked r m goes = record { goes = goes; roomy = refl; came = refl; asked = refl; client = refl; link = refl; texts = itself_more r.texts }
+keeps_marked r m goes = record { goes = goes; roomy = refl; came = refl; asked = refl; client = refl; link = refl; texts = itself_more r.texts; work = refl }
 
 -- it is received with its seat
 pub received : (by : ClientStatements → Seat) (link : LinkId) (c : ClientNo) (seat : Seat) (note : ClientNote) (t now : Tabled)
@@ -199,23 +207,27 @@ received by link c seat note t now its none same = record {
   same = subst (λ (s : Seat). IsSame now (came c link s note t)) its same;
 }
 
--- As more texts are kept it stands so.
-learnt : (service : Service) (old new : Router) → Keeps old new → (log : Log) → StandsFor service log old
-    → IsRouter service new.texts log (tables old) (is_roomy old.roomy)
-learnt service old new keeps log stood = learns service old.texts new.texts log (tables old) (is_roomy old.roomy) stood.router keeps.texts
+-- where all that were loaded are in force
+pub settled_rules : (service : Service) (r : Router) → IsSettled r → (worked service (work_of r)).rules ≡ rules_in service
+settled_rules service r loaded = ap (λ (o : Option Rules). option_map_or rules_of o (rules_in service)) loaded
 
-learnt_since : (service : Service) (old new : Router) → Keeps old new → HasBegun old.texts → (log : Log) → StandsFor service log old
-    → IsLearned service new.texts log (tables old) (is_roomy old.roomy)
+-- As more texts are kept it stands so.
+learnt : (service : Service) (old new : Router) → KeepsBut old new → (log : Log) → StandsFor service log old
+    → IsRouter service new.texts (worked service (work_of old)) log (tables old) (is_roomy old.roomy)
+learnt service old new keeps log stood = learns service old.texts new.texts (worked service (work_of old)) log (tables old) (is_roomy old.roomy) stood.router keeps.texts
+
+learnt_since : (service : Service) (old new : Router) → KeepsBut old new → HasBegun old.texts → (log : Log) → StandsFor service log old
+    → IsLearned service new.texts (worked service (work_of old)) log (tables old) (is_roomy old.roomy)
 learnt_since service old new keeps begun log stood =
-    learned service old.texts new.texts log (tables old) (is_roomy old.roomy) stood.router begun keeps.texts
+    learned service old.texts new.texts (worked service (work_of old)) log (tables old) (is_roomy old.roomy) stood.router begun keeps.texts
 
 -- Of entries at which nobody comes.
 
-module _ (service : Service) (e : Entry) (old new : Router) (keeps : Keeps old new) (none : accepted_links (e ∷ []) ≡ []) where
+module _ (service : Service) (e : Entry) (old new : Router) (keeps : KeepsBut old new) (none : accepted_links (e ∷ []) ≡ []) where
   pub kept_stands : (log : Log) → HaveCome log old.came
-      → IsRouter service new.texts (with_entry log e) (tables new) (is_roomy old.roomy) → StandsFor service (with_entry log e) new
+      → IsRouter service new.texts (worked service (work_of new)) (with_entry log e) (tables new) (is_roomy old.roomy) → StandsFor service (with_entry log e) new
   kept_stands log was router = record {
-    router = subst (λ (r : Roomy). IsRouter service new.texts (with_entry log e) (tables new) (is_roomy r)) (sym keeps.roomy) router;
+    router = subst (λ (r : Roomy). IsRouter service new.texts (worked service (work_of new)) (with_entry log e) (tables new) (is_roomy r)) (sym keeps.roomy) router;
     counted = come_as (with_entry log e) old.came new.came keeps.came (come_on log (e ∷ []) old.came none was);
   }
 
@@ -257,17 +269,18 @@ none_read link r aside numbered reads =
     (and_right (is_known r.marked.changed link) (reads_in (tables r) link) reads))))
 
 pub speaks_carry : (service : Service) (link : LinkId) (bytes : List ℕ) (c : ClientNo) (old new : Router) → Speaks
-    → (tables old).links link ≡ None → (tables old).numbers link ≡ Some c → Keeps old new → HasBegun old.texts
-    → ((row : Client) → IsLinkOf link c row (tables old) → is_ended row.desk.seat.phase ≡ false → HasSpoken service new.texts link bytes c (tables old) (tables new))
-    → reads_on old.marked link ≡ true → Carries service (entry.Got link bytes) old new
-speaks_carry service link bytes c old new law aside numbered keeps begun spoken reads log may stood =
-    let since : IsLearned service new.texts log (tables old) (is_roomy old.roomy) = learnt_since service old new keeps begun log stood in
+    → (tables old).links link ≡ None → (tables old).numbers link ≡ Some c → KeepsBut old new → HasBegun old.texts
+    → ((row : Client) → IsLinkOf link c row (tables old) → is_ended row.desk.seat.phase ≡ false → HasSpoken service (made_by service old new) link bytes c (tables old) (tables new))
+    → reads_on old.marked link ≡ true → IsSettled old → Carries service (entry.Got link bytes) old new
+speaks_carry service link bytes c old new law aside numbered keeps begun spoken reads loaded log may stood =
+    let since : IsLearned service new.texts (worked service (work_of old)) log (tables old) (is_roomy old.roomy) = learnt_since service old new keeps begun log stood in
     let read = read_row link c (tables old) aside numbered (and_right (is_known old.marked.changed link) (reads_in (tables old) link) reads) in
-    let spoke : HasSpoken service new.texts link bytes c (tables old) (tables new) =
+    let spoke : HasSpoken service (made_by service old new) link bytes c (tables old) (tables new) =
     spoken read.0 (record { numbered = numbered; there = read.1 }) read.2 in
     kept_stands service (entry.Got link bytes) old new keeps refl log stood.counted
-    (law service new.texts log (tables old) (tables new) (is_roomy old.roomy) (is_roomy old.roomy) link bytes c spoke.ordinal spoke.choices
-    spoke.halt spoke.parting spoke.links since.router may spoke.so spoke.ours spoke.word (λ other apart full. full) spoke.ruled since.since)
+    (law service new.texts (worked service (work_of old)) (worked service (work_of new)) log (tables old) (tables new) (is_roomy old.roomy) (is_roomy old.roomy) link bytes c spoke.ordinal spoke.choices
+    spoke.halt spoke.parting spoke.links since.router may spoke.so spoke.ours spoke.word (λ other apart full. full) spoke.ruled since.since
+    (settled_rules service old loaded))
 
 -- A link is lost.
 
@@ -285,20 +298,20 @@ loses_by service link old new each = record {
 }
 
 -- One that isn't logged in has nothing to take up, though it may have room again.
-at_once_router : AtOnce → (service : Service) (texts : Texts) (log : Log) (e : Entry) (t now : Tabled) (roomy : ClientNo → Bool) (link : LinkId)
-    (c : ClientNo) (links : List LinkId) → IsRouter service texts log t roomy → MayFollow log e → IsLossOf link e
-    → LeavesAtOnce link links c nobody t now → IsRouter service texts (with_entry log e) now roomy
-at_once_router law service texts log e t now roomy link c links router may lost so = by so.busy where
+at_once_router : AtOnce → (service : Service) (texts : Texts) (admin : Administered) (log : Log) (e : Entry) (t now : Tabled) (roomy : ClientNo → Bool) (link : LinkId)
+    (c : ClientNo) (links : List LinkId) → IsRouter service texts admin log t roomy → MayFollow log e → IsLossOf link e
+    → LeavesAtOnce link links c nobody t now → IsRouter service texts admin (with_entry log e) now roomy
+at_once_router law service texts admin log e t now roomy link c links router may lost so = by so.busy where
   so_by : (room : ClientNo → Bool) → (so.row.desk.seat.answered ≡ false) ⊎ ((account_in so.row.desk.seat.phase ≡ None) × (room c ≡ false))
       → LeavesAtOnce link links c room t now
   so_by room busy = record { row = so.row; its = so.its; going = so.going; busy = busy; between = so.between; ends = so.ends; again = so.again }
 
   by : (so.row.desk.seat.answered ≡ false) ⊎ ((account_in so.row.desk.seat.phase ≡ None) × (nobody c ≡ false))
-      → IsRouter service texts (with_entry log e) now roomy
-  by (inl waits) = law service texts log e t now roomy roomy link c links router may lost (so_by roomy (inl waits)) (λ other apart full. full)
+      → IsRouter service texts admin (with_entry log e) now roomy
+  by (inl waits) = law service texts admin log e t now roomy roomy link c links router may lost (so_by roomy (inl waits)) (λ other apart full. full)
   by (inr fresh) =
-      law service texts log e t now (lacking c roomy) roomy link c links
-      (router_still service texts log t roomy c so.row so.its.there (logging_in so.row.desk.seat.phase so.going fresh.0) router) may lost
+      law service texts admin log e t now (lacking c roomy) roomy link c links
+      (router_still service texts admin log t roomy c so.row so.its.there (logging_in so.row.desk.seat.phase so.going fresh.0) router) may lost
       (so_by (lacking c roomy) (inr (fresh.0, lacks_itself c roomy (same_number c.0)))) (λ other apart full. others_lack c roomy other full)
 
 -- a link of nobody's that is there isn't one of a router
@@ -308,7 +321,7 @@ gone_loses linked service link c old new gone numbered =
     loses_by service link old new
     (λ e lost log may stood.
     let is : IsLinked link c (tables old) =
-    linked service old.texts log (tables old) (is_roomy old.roomy) stood.router link c numbered in
+    linked service old.texts (worked service (work_of old)) log (tables old) (is_roomy old.roomy) stood.router link c numbered in
     absurd (none-some is.row (sym gone ∙ is.there)))
 
 module _ (service : Service) (link : LinkId) (c : ClientNo) (old new : Router) (keeps : Keeps old new) where
@@ -316,22 +329,28 @@ module _ (service : Service) (link : LinkId) (c : ClientNo) (old new : Router) (
   again_loses law so =
       loses_by service link old new
       (λ e lost log may stood.
-      kept_stands service e old new keeps (lost_none link e lost) log stood.counted
-      (law service new.texts log e (tables old) (tables new) (is_roomy old.roomy) link c (learnt service old new keeps log stood) may lost so))
+      kept_stands service e old new (keeps_but old new keeps) (lost_none link e lost) log stood.counted
+      (worked_same service new.texts (with_entry log e) (tables new) (is_roomy old.roomy) old new keeps.work
+      (law service new.texts (worked service (work_of old)) log e (tables old) (tables new) (is_roomy old.roomy) link c
+      (learnt service old new (keeps_but old new keeps) log stood) may lost so)))
 
   pub at_once_loses : AtOnce → HasLeftAtOnce link c (tables old) (tables new) → Loses service link old new
   at_once_loses law has =
       loses_by service link old new
       (λ e lost log may stood.
-      kept_stands service e old new keeps (lost_none link e lost) log stood.counted
-      (at_once_router law service new.texts log e (tables old) (tables new) (is_roomy old.roomy) link c has.links (learnt service old new keeps log stood) may lost
-      has.so))
+      kept_stands service e old new (keeps_but old new keeps) (lost_none link e lost) log stood.counted
+      (worked_same service new.texts (with_entry log e) (tables new) (is_roomy old.roomy) old new keeps.work
+      (at_once_router law service new.texts (worked service (work_of old)) log e (tables old) (tables new) (is_roomy old.roomy) link c has.links
+      (learnt service old new (keeps_but old new keeps) log stood) may lost has.so)))
 
-  pub going_loses : Going → HasBegun old.texts → HasLeftGoing service new.texts link c (tables old) (tables new) → Loses service link old new
-  going_loses law begun has =
+-- its turns may be ruled by others behind
+module _ (service : Service) (link : LinkId) (c : ClientNo) (old new : Router) (keeps : KeepsBut old new) where
+  pub going_loses : Going → HasBegun old.texts → HasLeftGoing service (made_by service old new) link c (tables old) (tables new) → IsSettled old → Loses service link old new
+  going_loses law begun has loaded =
       loses_by service link old new
       (λ e lost log may stood.
-      let since : IsLearned service new.texts log (tables old) (is_roomy old.roomy) = learnt_since service old new keeps begun log stood in
+      let since : IsLearned service new.texts (worked service (work_of old)) log (tables old) (is_roomy old.roomy) = learnt_since service old new keeps begun log stood in
       kept_stands service e old new keeps (lost_none link e lost) log stood.counted
-      (law service new.texts log e (tables old) (tables new) (is_roomy old.roomy) (is_roomy old.roomy) link c has.links has.ordinal
-      has.choices has.halt has.parting since.router may lost has.so has.ours has.word (λ other apart full. full) has.ruled since.since))
+      (law service new.texts (worked service (work_of old)) (worked service (work_of new)) log e (tables old) (tables new) (is_roomy old.roomy) (is_roomy old.roomy) link c has.links has.ordinal
+      has.choices has.halt has.parting since.router may lost has.so has.ours has.word (λ other apart full. full) has.ruled since.since
+      (settled_rules service old loaded)))

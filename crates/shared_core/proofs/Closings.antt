@@ -34,13 +34,15 @@ use Rattle.router_laws.specs.links.Closes.{ClosesSo, IsLentThere, IsUnawaited, M
 use Rattle.router_laws.specs.links.Loses.{GoesWithIt}
 use Rattle.router_laws.specs.routers.Somehow.{AreLinked}
 use Rattle.core_texts.specs.declared.texts.Texts.{Texts}
+use Rattle.core_promises.specs.Administers.{Administered}
 use Rattle.shared_core.proofs.Coming.{come_as, come_on}
 use Rattle.shared_core.specs.Came.{HaveCome}
 use Rattle.shared_core.proofs.LinkWrites.{IsLent, is_lent}
 use Rattle.shared_core.proofs.Machining.{stands_parted}
 use Rattle.shared_core.specs.Follows.{Keeps}
 use Rattle.shared_core.specs.Rows.{is_worked_in, work_at}
-use Rattle.shared_core.specs.Stands.{ClosesBy, IsClosed, PartsFor, Shown, StandsBy, StandsStill, is_roomy, parted, shown, tables, tables_in, without_client, without_link}
+use Rattle.shared_core.specs.Stands as stands
+use Rattle.shared_core.specs.Stands.{ClosesBy, IsClosed, PartsFor, Shown, StandsBy, StandsStill, is_roomy, parted, shown, tables, tables_in, without_client, without_link, work_of, worked}
 use Rattle.shared_core.specs.declared.roomy.Roomy.{Roomy}
 use Rattle.shared_core.specs.declared.router.Router.{Router}
 
@@ -105,26 +107,26 @@ none_more log more none =
 -- The laws by which a router goes on.
 
 abbrev pub Links : Type 0
-Links = (service : Service) (texts : Texts) (log : Log) (t : Tabled) (roomy : ClientNo → Bool) → IsRouter service texts log t roomy → AreLinked t
+Links = (service : Service) (texts : Texts) (admin : Administered) (log : Log) (t : Tabled) (roomy : ClientNo → Bool) → IsRouter service texts admin log t roomy → AreLinked t
 
 abbrev pub ClosesPlain : Type 0
-ClosesPlain = (service : Service) (texts : Texts) (log : Log) (t now : Tabled) (roomy room : ClientNo → Bool) (l : LinkId)
-    → IsRouter service texts log t roomy → MayFollow log (Closed l) → ((c : ClientNo) → room c ≡ false → roomy c ≡ false)
-    → ClosesSo l room t now → IsRouter service texts (with_entry log (Closed l)) now room
+ClosesPlain = (service : Service) (texts : Texts) (admin : Administered) (log : Log) (t now : Tabled) (roomy room : ClientNo → Bool) (l : LinkId)
+    → IsRouter service texts admin log t roomy → MayFollow log (Closed l) → ((c : ClientNo) → room c ≡ false → roomy c ≡ false)
+    → ClosesSo l room t now → IsRouter service texts admin (with_entry log (Closed l)) now room
 
 abbrev pub ClosesOffered : Type 0
-ClosesOffered = (service : Service) (texts : Texts) (log marks : Log) (e : Entry) (t : Tabled) (roomy room : ClientNo → Bool) (l : LinkId)
-    (lent : Option Sent) → IsRouter service texts log t roomy → AreMarks marks
+ClosesOffered = (service : Service) (texts : Texts) (admin : Administered) (log marks : Log) (e : Entry) (t : Tabled) (roomy room : ClientNo → Bool) (l : LinkId)
+    (lent : Option Sent) → IsRouter service texts admin log t roomy → AreMarks marks
     → ((c : ClientNo) → room c ≡ false → roomy c ≡ false) → MayClose l room t
     → MaySayFarewell l (λ (c : ClientNo). not (is_going (t.clients c))) t → IsLentThere l lent t → IsFarewell lent l e
     → MayFollow log e → MayFollow (log ++ e ∷ [] ++ marks) (Closed l)
-    → IsRouter service texts (log ++ e ∷ [] ++ marks ++ Closed l ∷ []) (unlinked l (lost_in l t)) room
+    → IsRouter service texts admin (log ++ e ∷ [] ++ marks ++ Closed l ∷ []) (unlinked l (lost_in l t)) room
 
 abbrev pub ClosesLost : Type 0
-ClosesLost = (service : Service) (texts : Texts) (log : Log) (t x : Tabled) (roomy room : ClientNo → Bool) (l : LinkId)
-    → IsRouter service texts log t roomy → ((c : ClientNo) → room c ≡ false → roomy c ≡ false) → MayClose l room t
+ClosesLost = (service : Service) (texts : Texts) (admin : Administered) (log : Log) (t x : Tabled) (roomy room : ClientNo → Bool) (l : LinkId)
+    → IsRouter service texts admin log t roomy → ((c : ClientNo) → room c ≡ false → roomy c ≡ false) → MayClose l room t
     → IsSame x (lost_in l t) → MayFollow log (Closed l)
-    → IsRouter service texts (with_entry log (Closed l)) (unlinked l (lost_in l x)) room
+    → IsRouter service texts admin (with_entry log (Closed l)) (unlinked l (lost_in l x)) room
 
 -- What is known as a link to a server is to be closed: nothing is being closed, what goes with it, and who is called at the next wake.
 pub record IsClosing (l : LinkId) (old mid : Router) : Type 0 where
@@ -172,18 +174,20 @@ module _ (links : Links) (l : LinkId) (old mid : Router) (is : IsClosing l old m
     own : (found : Option ClientNo) → t.numbers l ≡ found → t.numbers l ≡ None
     own None at = at
     own (Some c) at = absurd (none-some is.server
-        (sym (links service old.texts log t (is_roomy old.roomy) stood.router l c at).aside ∙ is.there))
+        (sym (links service old.texts (worked service (work_of old)) log t (is_roomy old.roomy) stood.router l c at).aside ∙ is.there))
 
     may : MayClose l room t
     may = record { server = is.server; there = is.there; own = own (t.numbers l) refl; with_it = is.with_it; unawaited = is.unawaited }
 
     -- it stands so, who is roomy and how many came being the same
     stands_so : (now : Shown) (more : Log) (x : Tabled) → HaveCome more old.came → now.came ≡ old.came → now.roomy ≡ mid.roomy
-        → now.texts ≡ old.texts → parted now ≡ x → IsRouter service old.texts more x room → PartsFor service more now
-    stands_so now more x have came roomy texts parts router = record {
-      router = subst (λ (r : Roomy). IsRouter service now.texts more (parted now) (is_roomy r)) (sym roomy)
-          (subst (λ (y : Tabled). IsRouter service now.texts more y room) (sym parts)
-          (subst (λ (k : Texts). IsRouter service k more x room) (sym texts) router));
+        → now.texts ≡ old.texts → now.work ≡ work_of old → parted now ≡ x → IsRouter service old.texts (worked service (work_of old)) more x room
+        → PartsFor service more now
+    stands_so now more x have came roomy texts work parts router = record {
+      router = subst (λ (r : Roomy). IsRouter service now.texts (worked service now.work) more (parted now) (is_roomy r)) (sym roomy)
+          (subst (λ (y : Tabled). IsRouter service now.texts (worked service now.work) more y room) (sym parts)
+          (subst (λ (k : Texts). IsRouter service k (worked service now.work) more x room) (sym texts)
+          (subst (λ (w : stands.Work). IsRouter service old.texts (worked service w) more x room) (sym work) router)));
       counted = come_as more old.came now.came came have;
     }
 
@@ -201,6 +205,9 @@ module _ (links : Links) (l : LinkId) (old mid : Router) (is : IsClosing l old m
 
   texts_so : mid.texts ≡ old.texts
   texts_so = ap (λ (r : Router). r.texts) is.same
+
+  work_so : work_of mid ≡ work_of old
+  work_so = ap work_of is.same
 
   marked_so : mid.marked ≡ old.marked
   marked_so = ap (λ (r : Router). r.marked) is.same
@@ -238,15 +245,15 @@ module _ (links : Links) (l : LinkId) (old mid : Router) (is : IsClosing l old m
     farewell_closes = record {
       opened = λ service log before. is_open_then service log before;
       plain = λ none service log follows before.
-          stands_so service log before closing (log ++ Closed l ∷ []) (unlinked l (lost_in l t)) (come_on log (Closed l ∷ []) old.came refl (stood service log before).counted) came_so refl texts_so parts
-          (plain service old.texts log t (unlinked l (lost_in l t)) (is_roomy old.roomy) room l
+          stands_so service log before closing (log ++ Closed l ∷ []) (unlinked l (lost_in l t)) (come_on log (Closed l ∷ []) old.came refl (stood service log before).counted) came_so refl texts_so work_so parts
+          (plain service old.texts (worked service (work_of old)) log t (unlinked l (lost_in l t)) (is_roomy old.roomy) room l
           (stood service log before).router follows rooms (record { may = may service log before; same = same_itself _ }));
       offered = λ some service log e marks says are follows next before.
           let said : IsFarewell (sends_on old.marked l) l e =
           subst (λ (m : MarkedTables). IsFarewell (sends_on m l) l e) marked_so says in
           stands_so service log before closing (log ++ e ∷ [] ++ marks ++ Closed l ∷ []) (unlinked l (lost_in l t))
-          (come_then log e marks (farewell_alone (sends_on old.marked l) l e said) are (stood service log before).counted) came_so refl texts_so parts
-          (offered service old.texts log marks e t (is_roomy old.roomy) room l (sends_on old.marked l)
+          (come_then log e marks (farewell_alone (sends_on old.marked l) l e said) are (stood service log before).counted) came_so refl texts_so work_so parts
+          (offered service old.texts (worked service (work_of old)) log marks e t (is_roomy old.roomy) room l (sends_on old.marked l)
           (stood service log before).router are rooms (may service log before) farewell lent_there said follows next);
     }
 
@@ -280,8 +287,8 @@ module _ (links : Links) (l : LinkId) (old mid : Router) (is : IsClosing l old m
       opened = λ service log before. is_open_then service log before;
       plain = λ none service log follows before.
           stands_so service log before (shown new) (log ++ Closed l ∷ []) (unlinked l (lost_in l (tables new))) (come_on log (Closed l ∷ []) old.came refl (stood service log before).counted)
-          (keeps.came ∙ came_so) keeps.roomy (texts_lost ∙ texts_so) parts_lost
-          (lost service old.texts log t (tables new) (is_roomy old.roomy) room l
+          (keeps.came ∙ came_so) keeps.roomy (texts_lost ∙ texts_so) (keeps.work ∙ work_so) parts_lost
+          (lost service old.texts (worked service (work_of old)) log t (tables new) (is_roomy old.roomy) room l
           (stood service log before).router rooms (may service log before) lost_so follows);
       offered = λ some service log e marks says are follows next before. absurd (silent some);
     }

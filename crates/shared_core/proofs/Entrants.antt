@@ -34,6 +34,7 @@ use Rattle.core_stands.specs.Grounds.{Ground, known_on}
 use Rattle.core_stands.specs.Stands.{IsAt, IsCalm, Rests}
 use Rattle.core_laws.proofs.OfArrival.Entering.{quiet-lacks}
 use Rattle.core_laws.proofs.OfArrival.Finding.{client-true}
+use Rattle.core_promises.specs.Administers.{Administered}
 use Rattle.router_laws.specs.decisions.Routers.{IsRouter}
 use Rattle.core_texts.specs.declared.texts.Texts.{Texts}
 
@@ -165,10 +166,10 @@ rests_still service g t roomy c row there at rests = record {
   calm = λ k d within. calm_still g t roomy c row there at rests.looked _ (rests.stands.clients.each k d within) (rests.calm k d within);
 }
 
-pub router_still : (service : Service) (texts : Texts) (log : Log) (t : Tabled) (roomy : ClientNo → Bool) (c : ClientNo) (row : Client)
-    → t.clients c ≡ Some row → row.desk.seat.phase ≡ phase.LoggingIn → IsRouter service texts log t roomy
-    → IsRouter service texts log t (lacking c roomy)
-router_still service texts log t roomy c row there at router = record {
+pub router_still : (service : Service) (texts : Texts) (admin : Administered) (log : Log) (t : Tabled) (roomy : ClientNo → Bool) (c : ClientNo) (row : Client)
+    → t.clients c ≡ Some row → row.desk.seat.phase ≡ phase.LoggingIn → IsRouter service texts admin log t roomy
+    → IsRouter service texts admin log t (lacking c roomy)
+router_still service texts admin log t roomy c row there at router = record {
   core = record {
     decided = router.core.decided;
     rests = λ setup codes plan of fits. rests_still service.setup _ t roomy c row there at (router.core.rests setup codes plan of fits);
@@ -182,7 +183,9 @@ router_still service texts log t roomy c row there at router = record {
   lawful = router.lawful;
   open_just = router.open_just;
   rules = router.rules;
-  ruled = router.ruled;
+  first = router.first;
+  began = router.began;
+  administers = router.administers;
   spoken = router.spoken;
   waited = router.waited;
   judged = router.judged;

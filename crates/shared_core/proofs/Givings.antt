@@ -25,7 +25,7 @@ use Rattle.router_laws.specs.wakes.Calling.{IsUnsent}
 use Rattle.core_texts.specs.declared.texts.Texts.{Texts}
 use Rattle.shared_core.proofs.Tabling.{same_by, tables_are}
 use Rattle.shared_core.specs.Causes.{given_with}
-use Rattle.shared_core.specs.Follows.{HasAnswered, HasCalled, HasFollowed, HasGiven, IsFor, called_by, told_client, up_client}
+use Rattle.shared_core.specs.Follows.{HasAnswered, HasCalled, HasFollowed, HasGiven, IsFor, Made, called_by, told_client, up_client}
 use Rattle.shared_core.specs.Rows.{IsLentNoOther, WorkIsAside, WorkIsAsideWith, WorkIsBroken, WorkIsUnsent, home_at, home_in, lent_home_at}
 
 -- What may be given up.
@@ -133,15 +133,15 @@ called-so : (name : Option SessionName) (given : Option GiveUp) (told : Option G
 called-so (Some name) given told t same for = (its-so name given told t same for, refl)
 called-so None given told t same for = sym same
 
-pub nobody-called : (service : Service) (texts : Texts) (name : Option SessionName) (given : Option GiveUp) (told : Option GivenUp) (t : Tabled)
+pub nobody-called : (service : Service) (made : Made) → made.is ≡ made.was → (name : Option SessionName) (given : Option GiveUp) (told : Option GivenUp) (t : Tabled)
     → None ≡ called_by name (up_client given) t → told_client told ≡ up_client given → IfSome given (λ (up : GiveUp). IsFor name up.client t)
-    → HasCalled service texts name told t t
-nobody-called service texts name given told t none same for = record {
+    → HasCalled service made name told t t
+nobody-called service made nothing name given told t none same for = record {
   going = None;
   called = let P : Option ClientNo → Type 0 = λ o. IsCalled name told t o in subst P (sym none) (called-so name given told t same for);
   ours = tt;
   goes = record { clients = λ c. refl; numbers = λ l. refl; links = λ l. refl };
-  ruled = tt;
+  ruled = nothing;
 }
 
 going-by : (b : Bool) (c client : ClientNo) → Some client ≡ (if b then Some c else None) → (b ≡ true) × (client ≡ c)
@@ -162,12 +162,12 @@ called-goes None (Some up) t client is for =
     let P : ClientNo → Type 0 = λ c. is_going (t.clients c) ≡ true in
     subst P (sym same) for
 
-pub one-called : (service : Service) (texts : Texts) (name : Option SessionName) (given : Option GiveUp) (told : Option GivenUp) (old new : Tabled) (client : ClientNo)
+pub one-called : (service : Service) (made : Made) (name : Option SessionName) (given : Option GiveUp) (told : Option GivenUp) (old new : Tabled) (client : ClientNo)
     (ends : Bool) → Some client ≡ called_by name (up_client given) old
-    → (is_going (old.clients client) ≡ true → HasFollowed service texts client ends old new) → told_client told ≡ up_client given
-    → IfSome given (λ (up : GiveUp). IsFor name up.client old) → HasCalled service texts name told old new
-one-called service texts name given told old new client ends is follows same for =
-    let followed : HasFollowed service texts client ends old new = follows (called-goes name given old client is for) in
+    → (is_going (old.clients client) ≡ true → HasFollowed service made client ends old new) → told_client told ≡ up_client given
+    → IfSome given (λ (up : GiveUp). IsFor name up.client old) → HasCalled service made name told old new
+one-called service made name given told old new client ends is follows same for =
+    let followed : HasFollowed service made client ends old new = follows (called-goes name given old client is for) in
     record {
       going = Some (record {
         client = client;

@@ -13,7 +13,8 @@ use Rattle.client_seat.specs.Seats.{ended, is_ended}
 use Rattle.core_service.specs.Serves.{rules_in}
 use Rattle.core_service.specs.declared.service.Service.{Service}
 use Rattle.query_rules.specs.declared.rule.Rule.{Rule}
-use Rattle.core_promises.specs.Ruled.{AreRuled, Ruling, book_of, ruling_of}
+use Rattle.core_promises.specs.Administers.{Administered}
+use Rattle.core_promises.specs.Ruled.{AreRuled, Ruling, book_of, from, ruling_of, until}
 use Rattle.core_texts.specs.Texts.{AreMore, key_at}
 use Rattle.core_texts.specs.declared.texts.Texts.{Texts}
 use Rattle.router_laws.specs.decisions.Rulings.{AreRuledAll}
@@ -33,12 +34,12 @@ use Rattle.core_laws.specs.clients.Going.{is_going}
 use Rattle.core_laws.specs.clients.Turns.{Answers, Choice, Ends, Goes, Halt, Quits, Rests, Turns, Waits}
 use Rattle.router_laws.specs.wakes.Calling.{AllGoOn, AreHomesOf, AreInOrder, Caller, CallerGoesOn, IsThere, is_called}
 use Rattle.router_laws.specs.wakes.Deciding.{IsCallerOurs}
-use Rattle.shared_core.proofs.Keeping.{tables_chosen}
+use Rattle.shared_core.proofs.Keeping.{made_then, tables_chosen}
 use Rattle.shared_core.proofs.Others.{still_there}
 use Rattle.shared_core.proofs.Tabling.{tables_are}
-use Rattle.shared_core.specs.Follows.{AreRising, HasFollowed, HasGone, HasParted, HaveFollowed, HaveGone, MayEnd, RestsBehind, is_of}
+use Rattle.shared_core.specs.Follows.{AreRising, HasFollowed, HasGone, HasParted, HaveFollowed, HaveGone, Keeps, Made, MayEnd, RestsBehind, is_of, made_by, ruling_in}
 use Rattle.shared_core.specs.Rows.{HasLives}
-use Rattle.shared_core.specs.Stands.{Chooses, Shown, tables, tables_in}
+use Rattle.shared_core.specs.Stands.{Chooses, Shown, tables, tables_in, work_of, worked}
 use Rattle.shared_core.specs.declared.router.Router.{Router}
 
 same-itself : (t : Tabled) → IsSame t t
@@ -50,10 +51,11 @@ or-last false = refl
 
 -- What is chosen by behind its turns leaves what they were.
 pub went_chosen : (service : Service) (c : ClientNo) (went : Option Went) (old mid new : Router) → Chooses mid new
-    → HasGoneOn RuledTurns went (ruling_of service mid.texts.since (key_at mid.texts)) service.setup service.default_schema c (tables old) (tables mid)
-    → HasGoneOn RuledTurns went (ruling_of service new.texts.since (key_at new.texts)) service.setup service.default_schema c (tables old) (tables new)
+    → HasGoneOn RuledTurns went (ruling_in service (made_by service old mid)) service.setup service.default_schema c (tables old) (tables mid)
+    → HasGoneOn RuledTurns went (ruling_in service (made_by service old new)) service.setup service.default_schema c (tables old) (tables new)
 went_chosen service c went old mid new chosen gone =
-    let P : Shown → Type 0 = λ s. HasGoneOn RuledTurns went (ruling_of service s.texts.since (key_at s.texts)) service.setup service.default_schema c (tables old)
+    let P : Shown → Type 0 = λ s. HasGoneOn RuledTurns went
+    (ruling_of service s.texts.since (key_at s.texts) (worked service (work_of old)) (worked service s.work)) service.setup service.default_schema c (tables old)
     (tables_in s) in
     subst P (sym chosen.same) gone
 
@@ -117,10 +119,10 @@ ours_more rules old new more c choices all = λ k d within. choice_more rules ol
 
 -- Its turns, and how it is ended behind them.
 
-said-ours : (service : Service) (texts : Texts) (c : ClientNo) (choices : List Choice) → All (IsSaid (ruling_of service texts.since (key_at texts)) c) choices
-    → All (IsOurs (rules_in service) texts c) choices
-said-ours service texts c choices all = λ k d within. one (get_or choices k d) (all k d within) where
-  one : (choice : Choice) → IsSaid (ruling_of service texts.since (key_at texts)) c choice → IsOurs (rules_in service) texts c choice
+said-ours : (service : Service) (made : Made) (c : ClientNo) (choices : List Choice) → All (IsSaid (ruling_in service made) c) choices
+    → All (IsOurs (rules_in service) made.texts c) choices
+said-ours service made c choices all = λ k d within. one (get_or choices k d) (all k d within) where
+  one : (choice : Choice) → IsSaid (ruling_in service made) c choice → IsOurs (rules_in service) made.texts c choice
   one (Goes route keyed) is = is
   one (Answers payloads) is = is
 
@@ -132,23 +134,27 @@ rests-behind setup default c choices Rests old mid turns = λ row at serves answ
 rests-behind setup default c choices Quits old mid turns = tt
 rests-behind setup default c choices Ends old mid turns = tt
 
-pub gone-so : (service : Service) (took_texts texts : Texts) → AreMore took_texts texts → (c : ClientNo) (ends : Bool) (took : Option Went) (went : Went)
+-- with the texts of then
+abbrev pub with_texts : Made → Texts → Made
+with_texts made texts = record made { texts = texts }
+
+pub gone-so : (service : Service) (took_made : Made) (texts : Texts) → AreMore took_made.texts texts → (c : ClientNo) (ends : Bool) (took : Option Went) (went : Went)
     (old mid new : Tabled) → took ≡ Some went
-    → HasGoneOn RuledTurns took (ruling_of service took_texts.since (key_at took_texts)) service.setup service.default_schema c old mid
-    → (RestsBehind (halt_of went.stop) c mid → HasParted c ends (halt_of went.stop) mid new) → HasGone service texts c ends old new
-gone-so service took_texts texts more c ends took went old mid new is gone parts =
-    let P : Option Went → Type 0 = λ o. HasGoneOn RuledTurns o (ruling_of service took_texts.since (key_at took_texts)) service.setup service.default_schema c old mid in
-    let on : turned.HasGone RuledTurns went.stop (ruling_of service took_texts.since (key_at took_texts)) service.setup service.default_schema c old mid = subst P is gone in
+    → HasGoneOn RuledTurns took (ruling_in service took_made) service.setup service.default_schema c old mid
+    → (RestsBehind (halt_of went.stop) c mid → HasParted c ends (halt_of went.stop) mid new) → HasGone service (with_texts took_made texts) c ends old new
+gone-so service took_made texts more c ends took went old mid new is gone parts =
+    let P : Option Went → Type 0 = λ o. HasGoneOn RuledTurns o (ruling_in service took_made) service.setup service.default_schema c old mid in
+    let on : turned.HasGone RuledTurns went.stop (ruling_in service took_made) service.setup service.default_schema c old mid = subst P is gone in
     let parted : HasParted c ends (halt_of went.stop) mid new =
     parts (rests-behind service.setup service.default_schema c on.choices (halt_of went.stop) old mid on.turned.0) in
     record {
       choices = on.choices;
       halt = halt_of went.stop;
       parting = parted.parting;
-      ours = ours_more (rules_in service) took_texts texts more c on.choices (said-ours service took_texts c on.choices on.said);
+      ours = ours_more (rules_in service) took_made.texts texts more c on.choices (said-ours service took_made c on.choices on.said);
       word = parted.word;
       goes = record { turned = mid; turns = on.turned.0; once = parted.once; parts = parted.parts };
-      ruled = turns_more (book_of service) took_texts texts more service.setup service.default_schema c on.choices
+      ruled = turns_more (book_of service) took_made.texts texts more service.setup service.default_schema c took_made.was took_made.is on.choices
           (halt_of went.stop) old mid on.turned.0 on.turned.1;
       ended = parted.ended;
     }
@@ -160,21 +166,21 @@ away-going (Some row) away going = by (is_ended row.desk.seat.phase) away going 
   by true is off = let e = off in cc
   by false is off = let e = is in cc
 
-pub absent-so : (service : Service) (texts : Texts) (c : ClientNo) (ends : Bool) (took : Option Went) (old mid new : Tabled) → took ≡ None
-    → HasGoneOn RuledTurns took (ruling_of service texts.since (key_at texts)) service.setup service.default_schema c old mid → is_going (old.clients c) ≡ true
-    → HasGone service texts c ends old new
-absent-so service texts c ends took old mid new is gone going =
-    let P : Option Went → Type 0 = λ o. HasGoneOn RuledTurns o (ruling_of service texts.since (key_at texts)) service.setup service.default_schema c old mid in
-    let absent : turned.IsAbsent c old mid = subst P is gone in
-    absurd (away-going (old.clients c) absent.away going)
+pub absent-so : (service : Service) (made : Made) (c : ClientNo) (ends : Bool) (took : Option Went) (old mid new : Tabled) → took ≡ None
+    → HasGoneOn RuledTurns took (ruling_in service made) service.setup service.default_schema c old mid → is_going (old.clients c) ≡ true
+    → HasGone service made c ends old new
+absent-so service made c ends took old mid new is gone going =
+    let P : Option Went → Type 0 = λ o. HasGoneOn RuledTurns o (ruling_in service made) service.setup service.default_schema c old mid in
+    let absent = subst P is gone in
+    absurd (away-going (old.clients c) absent.0.away going)
 
 -- And links are given back that carried its sessions.
 
-pub followed-so : (service : Service) (texts : Texts) (c : ClientNo) (ends : Bool) (homes : List LinkId) (old mid new : Tabled)
-    → AreHomesOf (is_of (c ∷ [])) homes old → HasGone service texts c ends old mid → IsSame new (all_freed homes mid) → is_going (old.clients c) ≡ true
-    → HasFollowed service texts c ends old new
-followed-so service texts c ends homes old mid new are gone freed going = by (old.clients c) refl going where
-  by : (found : Option Client) → old.clients c ≡ found → is_going found ≡ true → HasFollowed service texts c ends old new
+pub followed-so : (service : Service) (made : Made) (c : ClientNo) (ends : Bool) (homes : List LinkId) (old mid new : Tabled)
+    → AreHomesOf (is_of (c ∷ [])) homes old → HasGone service made c ends old mid → IsSame new (all_freed homes mid) → is_going (old.clients c) ≡ true
+    → HasFollowed service made c ends old new
+followed-so service made c ends homes old mid new are gone freed going = by (old.clients c) refl going where
+  by : (found : Option Client) → old.clients c ≡ found → is_going found ≡ true → HasFollowed service made c ends old new
   by None at is = absurd (let e = is in cc)
   by (Some row) at is = record {
     choices = gone.choices;
@@ -210,39 +216,56 @@ callers_more rules old new more callers all = λ k d within.
     (let one : IsCallerOurs rules old (get_or callers k d) = all k d within in
     record { choices = ours_more rules old new more (get_or callers k d).client (get_or callers k d).choices one.choices; parting = one.parting })
 
-all_ruled_more : (service : Service) (old new : Texts) → AreMore old new → (callers : List Caller) (setup : Setup) (default : List ℕ) (a b : Tabled)
-    (going : AllGoOn callers setup default a b) → AreRuledAll (ruling_of service old.since (key_at old)) callers setup default a b going
-    → AreRuledAll (ruling_of service new.since (key_at new)) callers setup default a b going
-all_ruled_more service old new more [] setup default a b going ruled = tt
-all_ruled_more service old new more (k ∷ ks) setup default a b going ruled = (
-  turns_more (book_of service) old new more setup default k.client k.choices k.halt a going.1.turned going.1.turns ruled.0,
-  all_ruled_more service old new more ks setup default going.0 b going.2 ruled.1,
+all_ruled_more : (service : Service) (old new : Texts) → AreMore old new → (was is : Administered) (callers : List Caller) (setup : Setup) (default : List ℕ)
+    (a b : Tabled) (going : AllGoOn callers setup default a b) → AreRuledAll (ruling_of service old.since (key_at old) was is) callers setup default a b going
+    → AreRuledAll (ruling_of service new.since (key_at new) was is) callers setup default a b going
+all_ruled_more service old new more was is [] setup default a b going ruled = ruled
+all_ruled_more service old new more was is (k ∷ ks) setup default a b going ruled = (
+  ruled.0,
+  (
+    turns_more (book_of service) old new more setup default k.client was ruled.0 k.choices k.halt a going.1.turned going.1.turns ruled.1.0,
+    all_ruled_more service old new more ruled.0 is ks setup default going.0 b going.2 ruled.1.1,
+  ),
 )
 
-pub gone-more : (service : Service) (before texts : Texts) → AreMore before texts → (clients : List ClientNo) (old new : Tabled)
-    → HaveGone service before clients old new → HaveGone service texts clients old new
+pub gone-more : (service : Service) (before : Made) (texts : Texts) → AreMore before.texts texts → (clients : List ClientNo) (old new : Tabled)
+    → HaveGone service before clients old new → HaveGone service (with_texts before texts) clients old new
 gone-more service before texts more clients old new gone = record {
   callers = gone.callers;
   named = gone.named;
-  ours = callers_more (rules_in service) before texts more gone.callers gone.ours;
+  ours = callers_more (rules_in service) before.texts texts more gone.callers gone.ours;
   going = gone.going;
-  ruled = all_ruled_more service before texts more gone.callers service.setup service.default_schema old new gone.going gone.ruled;
+  ruled = all_ruled_more service before.texts texts more before.was before.is gone.callers service.setup service.default_schema old new gone.going gone.ruled;
 }
 
-pub followed-more : (service : Service) (before texts : Texts) → AreMore before texts → (c : ClientNo) (ends : Bool) (old new : Tabled)
-    → HasFollowed service before c ends old new → HasFollowed service texts c ends old new
+pub followed-more : (service : Service) (before : Made) (texts : Texts) → AreMore before.texts texts → (c : ClientNo) (ends : Bool) (old new : Tabled)
+    → HasFollowed service before c ends old new → HasFollowed service (with_texts before texts) c ends old new
 followed-more service before texts more c ends old new followed = record {
   choices = followed.choices;
   halt = followed.halt;
   parting = followed.parting;
   links = followed.links;
-  ours = ours_more (rules_in service) before texts more c followed.choices followed.ours;
+  ours = ours_more (rules_in service) before.texts texts more c followed.choices followed.ours;
   word = followed.word;
   follows = followed.follows;
-  ruled = turns_more (book_of service) before texts more service.setup service.default_schema c followed.choices followed.halt
+  ruled = turns_more (book_of service) before.texts texts more service.setup service.default_schema c before.was before.is followed.choices followed.halt
       old followed.follows.turned followed.follows.turns followed.ruled;
   ended = followed.ended;
 }
+
+-- what is chosen by, and what is given back, behind it
+
+pub followed-kept : (service : Service) (a b now : Router) → Keeps b now → (c : ClientNo) (ends : Bool) (old new : Tabled)
+    → HasFollowed service (made_by service a b) c ends old new → HasFollowed service (made_by service a now) c ends old new
+followed-kept service a b now keeps c ends old new followed =
+    subst (λ (made : Made). HasFollowed service made c ends old new) (sym (made_then service a b now keeps))
+    (followed-more service (made_by service a b) now.texts keeps.texts c ends old new followed)
+
+pub gone-kept : (service : Service) (a b now : Router) → Keeps b now → (clients : List ClientNo) (old new : Tabled)
+    → HaveGone service (made_by service a b) clients old new → HaveGone service (made_by service a now) clients old new
+gone-kept service a b now keeps clients old new gone =
+    subst (λ (made : Made). HaveGone service made clients old new) (sym (made_then service a b now keeps))
+    (gone-more service (made_by service a b) now.texts keeps.texts clients old new gone)
 
 -- who goes on last, behind others, by rules
 abbrev pub GoesRuled : Ruling → Caller → Setup → (default : List ℕ) → (old new : Tabled) → Type 0
@@ -253,33 +276,40 @@ abbrev pub AllGoRuled : Ruling → List Caller → Setup → (default : List ℕ
 AllGoRuled ruling callers setup default old new =
     (going : AllGoOn callers setup default old new) × AreRuledAll ruling callers setup default old new going
 
-gone-along : (ruling : Ruling) (callers : List Caller) (last : Caller) (setup : Setup) (default : List ℕ) (old mid new : Tabled)
-    → AllGoRuled ruling callers setup default old mid → GoesRuled ruling last setup default mid new
+gone-along : (ruling : Ruling) (then : Administered) (callers : List Caller) (last : Caller) (setup : Setup) (default : List ℕ) (old mid new : Tabled)
+    → AllGoRuled (until ruling then) callers setup default old mid → GoesRuled (from ruling then) last setup default mid new
     → AllGoRuled ruling (callers ++ last ∷ []) setup default old new
-gone-along ruling [] last setup default old mid new all goes =
-    let P : Tabled → Type 0 = λ t. GoesRuled ruling last setup default t new in
-    let first : GoesRuled ruling last setup default old new = subst P (tables_are mid old all.0) goes in
-    ((new, first.0, same-itself new), (first.1, tt))
-gone-along ruling (k ∷ ks) last setup default old mid new all goes =
-    let rest : AllGoRuled ruling (ks ++ last ∷ []) setup default all.0.0 new =
-    gone-along ruling ks last setup default all.0.0 mid new (all.0.2, all.1.1) goes in
-    ((all.0.0, all.0.1, rest.0), (all.1.0, rest.1))
+gone-along ruling then [] last setup default old mid new all goes =
+    let P : Tabled → Type 0 = λ t. GoesRuled (from ruling then) last setup default t new in
+    let Q : Administered → Type 0 = λ a. GoesRuled (from ruling a) last setup default old new in
+    let first : GoesRuled ruling last setup default old new = subst Q all.1 (subst P (tables_are mid old all.0) goes) in
+    ((new, first.0, same-itself new), (ruling.is, (first.1, refl)))
+gone-along ruling then (k ∷ ks) last setup default old mid new all goes =
+    let rest : AllGoRuled (from ruling all.1.0) (ks ++ last ∷ []) setup default all.0.0 new =
+    gone-along (from ruling all.1.0) then ks last setup default all.0.0 mid new (all.0.2, all.1.1.1) goes in
+    ((all.0.0, all.0.1, rest.0), (all.1.0, (all.1.1.0, rest.1)))
 
 named-along : (callers : List Caller) (last : Caller)
     → map (λ (k : Caller). k.client) (callers ++ last ∷ []) ≡ map (λ (k : Caller). k.client) callers ++ last.client ∷ []
 named-along [] last = refl
 named-along (k ∷ ks) last = ap (λ (cs : List ClientNo). k.client ∷ cs) (named-along ks last)
 
-none-gone : (service : Service) (texts : Texts) (t : Tabled) → HaveGone service texts [] t t
-none-gone service texts t = record { callers = []; named = refl; ours = All-nil _; going = same-itself t; ruled = tt }
+none-gone : (service : Service) (made : Made) → made.is ≡ made.was → (t : Tabled) → HaveGone service made [] t t
+none-gone service made nothing t = record { callers = []; named = refl; ours = All-nil _; going = same-itself t; ruled = nothing }
 
-one-more : (service : Service) (texts : Texts) (clients : List ClientNo) (c : ClientNo) (ends : Bool) (old mid new : Tabled) → HaveGone service texts clients old mid
-    → HasGone service texts c ends mid new → HaveGone service texts (clients ++ c ∷ []) old new
-one-more service texts clients c ends old mid new before gone =
+-- what was made of what there was before, and behind
+
+abbrev making : Texts → (was is : Administered) → Made
+making texts was is = record { texts = texts; was = was; is = is }
+
+one-more : (service : Service) (texts : Texts) (was then is : Administered) (clients : List ClientNo) (c : ClientNo) (ends : Bool) (old mid new : Tabled)
+    → HaveGone service (making texts was then) clients old mid → HasGone service (making texts then is) c ends mid new
+    → HaveGone service (making texts was is) (clients ++ c ∷ []) old new
+one-more service texts was then is clients c ends old mid new before gone =
     let last : Caller = record { client = c; choices = gone.choices; halt = gone.halt; parting = gone.parting } in
-    let along : AllGoRuled (ruling_of service texts.since (key_at texts)) (before.callers ++ last ∷ []) service.setup service.default_schema old new =
-    gone-along (ruling_of service texts.since (key_at texts)) before.callers last service.setup service.default_schema old mid new (before.going, before.ruled)
-    (gone.goes, gone.ruled) in
+    let along : AllGoRuled (ruling_of service texts.since (key_at texts) was is) (before.callers ++ last ∷ []) service.setup service.default_schema old new =
+    gone-along (ruling_of service texts.since (key_at texts) was is) then before.callers last service.setup service.default_schema old mid new
+    (before.going, before.ruled) (gone.goes, gone.ruled) in
     record {
       callers = before.callers ++ last ∷ [];
       named = named-along before.callers last ∙ ap (λ (cs : List ClientNo). cs ++ c ∷ []) before.named;
@@ -291,45 +321,49 @@ one-more service texts clients c ends old mid new before gone =
     }
 
 -- those behind are there as before, each behind who went on
-pub record HaveGoneSoFar (service : Service) (texts : Texts) (done left : List ClientNo) (old now : Tabled) : Type 0 where
-  pub gone : HaveGone service texts done old now
+pub record HaveGoneSoFar (service : Service) (made : Made) (done left : List ClientNo) (old now : Tabled) : Type 0 where
+  pub gone : HaveGone service made done old now
   pub rising : AreRising left
   pub there : All (λ (c : ClientNo). IsThere now c) left
 
 goes-there : (t : Tabled) (c : ClientNo) → IsThere t c → is_going (t.clients c) ≡ true
 goes-there t c is = ap is_going is.there ∙ ap not is.going
 
-further : (service : Service) (before_texts texts : Texts) → AreMore before_texts texts → (done others : List ClientNo) (c : ClientNo) (ends : Bool) (old mid new : Tabled) → HaveGoneSoFar service before_texts done (c ∷ others) old mid
-    → (is_going (mid.clients c) ≡ true → HasGone service texts c ends mid new) → HaveGoneSoFar service texts (done ++ c ∷ []) others old new
-further service before_texts texts more done others c ends old mid new before goes =
+further : (service : Service) (before_texts texts : Texts) → AreMore before_texts texts → (was then is : Administered) (done others : List ClientNo) (c : ClientNo)
+    (ends : Bool) (old mid new : Tabled) → HaveGoneSoFar service (making before_texts was then) done (c ∷ others) old mid
+    → (is_going (mid.clients c) ≡ true → HasGone service (making texts then is) c ends mid new)
+    → HaveGoneSoFar service (making texts was is) (done ++ c ∷ []) others old new
+further service before_texts texts more was then is done others c ends old mid new before goes =
     let P : ClientNo → Type 0 = λ o. IsThere mid o in
-    let gone : HasGone service texts c ends mid new = goes (goes-there mid c (All-head P c others before.there)) in
+    let gone : HasGone service (making texts then is) c ends mid new = goes (goes-there mid c (All-head P c others before.there)) in
     record {
-      gone = one-more service texts done c ends old mid new (gone-more service before_texts texts more done old mid before.gone) gone;
+      gone = one-more service texts was then is done c ends old mid new
+          (gone-more service (making before_texts was then) texts more done old mid before.gone) gone;
       rising = before.rising.1;
       there = still_there service.setup service.default_schema
           (record { client = c; choices = gone.choices; halt = gone.halt; parting = gone.parting }) mid new gone.goes others before.rising.0
           (All-tail P c others before.there);
     }
 
-pub gone-first : (service : Service) (texts : Texts) (clients : List ClientNo) (t : Tabled) → AreRising clients → All (λ (c : ClientNo). IsThere t c) clients
-    → HaveGoneSoFar service texts [] clients t t
-gone-first service texts clients t rising there = record { gone = none-gone service texts t; rising = rising; there = there }
+pub gone-first : (service : Service) (r : Router) (clients : List ClientNo) (t : Tabled) → AreRising clients → All (λ (c : ClientNo). IsThere t c) clients
+    → HaveGoneSoFar service (made_by service r r) [] clients t t
+gone-first service r clients t rising there = record { gone = none-gone service (made_by service r r) refl t; rising = rising; there = there }
 
-pub gone-next : (d : ClientNo) (service : Service) (before_texts texts : Texts) → AreMore before_texts texts → (clients : List ClientNo) (i : ℕ) (ends : Bool) (old mid new : Tabled) → i < length clients
-    → HaveGoneSoFar service before_texts (take i clients) (drop i clients) old mid
-    → (is_going (mid.clients (get_or clients i d)) ≡ true → HasGone service texts (get_or clients i d) ends mid new)
-    → HaveGoneSoFar service texts (take (i + 1) clients) (drop (i + 1) clients) old new
-gone-next d service before_texts texts more clients i ends old mid new within before goes =
-    let P : List ClientNo → Type 0 = λ cs. HaveGoneSoFar service texts cs (drop (i + 1) clients) old new in
-    let Q : List ClientNo → Type 0 = λ cs. HaveGoneSoFar service before_texts (take i clients) cs old mid in
+pub gone-next : (d : ClientNo) (service : Service) (a b now : Router) → AreMore b.texts now.texts → (clients : List ClientNo) (i : ℕ) (ends : Bool)
+    (old mid new : Tabled) → i < length clients → HaveGoneSoFar service (made_by service a b) (take i clients) (drop i clients) old mid
+    → (is_going (mid.clients (get_or clients i d)) ≡ true → HasGone service (made_by service b now) (get_or clients i d) ends mid new)
+    → HaveGoneSoFar service (made_by service a now) (take (i + 1) clients) (drop (i + 1) clients) old new
+gone-next d service a b now more clients i ends old mid new within before goes =
+    let P : List ClientNo → Type 0 = λ cs. HaveGoneSoFar service (made_by service a now) cs (drop (i + 1) clients) old new in
+    let Q : List ClientNo → Type 0 = λ cs. HaveGoneSoFar service (made_by service a b) (take i clients) cs old mid in
     subst P (sym (take_more clients i d within))
-    (further service before_texts texts more (take i clients) (drop (i + 1) clients) (get_or clients i d) ends old mid new (subst Q (drop_more clients i d within) before) goes)
+    (further service b.texts now.texts more (worked service (work_of a)) (worked service (work_of b)) (worked service (work_of now)) (take i clients)
+    (drop (i + 1) clients) (get_or clients i d) ends old mid new (subst Q (drop_more clients i d within) before) goes)
 
-pub gone-all : (service : Service) (texts : Texts) (clients : List ClientNo) (i : ℕ) (old new : Tabled) → length clients ≤ i
-    → HaveGoneSoFar service texts (take i clients) (drop i clients) old new → HaveGone service texts clients old new
-gone-all service texts clients i old new end is =
-    let P : List ClientNo → Type 0 = λ cs. HaveGone service texts cs old new in
+pub gone-all : (service : Service) (made : Made) (clients : List ClientNo) (i : ℕ) (old new : Tabled) → length clients ≤ i
+    → HaveGoneSoFar service made (take i clients) (drop i clients) old new → HaveGone service made clients old new
+gone-all service made clients i old new end is =
+    let P : List ClientNo → Type 0 = λ cs. HaveGone service made cs old new in
     subst P (take_all i clients end) is.gone
 
 in-order : (callers : List Caller) → AreRising (map (λ (k : Caller). k.client) callers) → AreInOrder callers
@@ -353,10 +387,10 @@ pub called-so : (callers : List Caller) (c : ClientNo) → is_called callers c �
 called-so [] c = refl
 called-so (k ∷ ks) c = ap (λ (b : Bool). is_client c k.client || b) (called-so ks c)
 
-pub have-followed : (service : Service) (texts : Texts) (clients : List ClientNo) (homes : List LinkId) (old mid new : Tabled)
-    → AreHomesOf (is_of clients) homes old → HaveGone service texts clients old mid → IsSame new (all_freed homes mid) → AreRising clients
-    → All (λ (c : ClientNo). IsThere old c) clients → HaveFollowed service texts clients old new
-have-followed service texts clients homes old mid new are gone freed rising there = record {
+pub have-followed : (service : Service) (made : Made) (clients : List ClientNo) (homes : List LinkId) (old mid new : Tabled)
+    → AreHomesOf (is_of clients) homes old → HaveGone service made clients old mid → IsSame new (all_freed homes mid) → AreRising clients
+    → All (λ (c : ClientNo). IsThere old c) clients → HaveFollowed service made clients old new
+have-followed service made clients homes old mid new are gone freed rising there = record {
   callers = gone.callers;
   links = homes;
   named = gone.named;

@@ -1,3 +1,4 @@
+use Rattle.shared_core.proofs.Clients.{settled_rules}
 -- Bytes come on a link to a server: what the router makes of that carries it over the entry.
 use Rattle.std.specs.Prelude.{◌≡◌, ◌&&◌, ℕ, Bool, true, false, not, IfSome, IsSome, List, Option, Some, None}
 use Rattle.std.specs.Option.{option_map}
@@ -38,11 +39,12 @@ use Rattle.router_laws.specs.reading.Hears.{HearsRuled, HearsSo}
 use Rattle.core_texts.specs.declared.texts.Texts.{Texts}
 use Rattle.core_texts.specs.Texts.{HasBegun, key_at}
 use Rattle.router_laws.specs.decisions.Causes.{IsHeardFor}
+use Rattle.core_promises.specs.Administers.{Administered}
 use Rattle.shared_core.proofs.Carrying.{carries_since}
 use Rattle.shared_core.proofs.Causing.{heard_for}
-use Rattle.shared_core.specs.Follows.{HasCalled, HasGiven, IsFor, Keeps, MayBeGiven, told_client, up_client}
+use Rattle.shared_core.specs.Follows.{HasCalled, HasGiven, IsFor, Keeps, KeepsBut, MayBeGiven, made_by, ruling_in, told_client, up_client}
 use Rattle.shared_core.specs.Hears.{HasHeard}
-use Rattle.shared_core.specs.Stands.{Carries, is_roomy, tables}
+use Rattle.shared_core.specs.Stands.{Carries, IsSettled, is_roomy, tables, work_of, worked}
 use Rattle.shared_core.specs.declared.router.Router.{Router}
 
 -- The laws by which it goes.
@@ -65,13 +67,13 @@ StillGoes =
 
 abbrev pub Routes : Type 0
 Routes =
-    (service : Service) (texts : Texts) (log : Log) (t now : Tabled) (roomy : ClientNo → Bool) (l : LinkId) (bytes : List ℕ) (clock : ℕ)
-    (given : Option GivenUp) (going : Option Going) → (router : IsRouter service texts log t roomy) → MayFollow log (entry.Got l bytes)
+    (service : Service) (texts : Texts) (admin is : Administered) (log : Log) (t now : Tabled) (roomy : ClientNo → Bool) (l : LinkId) (bytes : List ℕ) (clock : ℕ)
+    (given : Option GivenUp) (going : Option Going) → (router : IsRouter service texts admin log t roomy) → MayFollow log (entry.Got l bytes)
     → AreBytes bytes → (so : HearsSo service.setup service.default_schema l bytes clock given going t now) → AreGivenOurs given
     → AreGoingOurs (rules_in service) texts going
-    → IsRuledOn (ruling_of service texts.since (key_at texts)) going service.setup service.default_schema so.freed now so.goes → IsHeardFor l t given
+    → IsRuledOn (ruling_of service texts.since (key_at texts) admin is) going service.setup service.default_schema so.freed now so.goes → IsHeardFor l t given
     → AreHeldSince texts service.default_schema router.core.decided log
-    → IsRouter service texts (with_entry log (entry.Got l bytes)) now roomy
+    → admin.rules ≡ rules_in service → IsRouter service texts is (with_entry log (entry.Got l bytes)) now roomy
 
 -- What is given up may be, and who is called for that goes on still.
 
@@ -113,7 +115,7 @@ pub heard_so : Hears → StillGoes → (service : Service) (link : LinkId) (byte
     → IsHeard link bytes old.clock said read (tables old) → IsKeptFor said link read heard → IfSome given (λ up. MayBeGiven link name up heard) → HasGiven given heard mid
     → IsSame freed (freed_in link mid)
     → ((told : Option GivenUp) → told_client told ≡ up_client given → IfSome given (λ up. IsFor name up.client freed)
-    → HasCalled service new.texts name told freed (tables new)) → IsSome ((tables old).links link) → reads_on old.marked link ≡ true
+    → HasCalled service (made_by service old new) name told freed (tables new)) → IsSome ((tables old).links link) → reads_on old.marked link ≡ true
     → HasHeard service link bytes old new
 heard_so hears still service link bytes old new name said given read_table heard mid freed carried is kept may gives frees calls there reads =
     let at : (server : Server) × ((tables old).links link ≡ Some server) = server_of ((tables old).links link) there in
@@ -121,12 +123,12 @@ heard_so hears still service link bytes old new name said given read_table heard
     ap (λ (found : Option Server). reads_by found (tables old) link) (sym at.1) ∙ (both (is_known old.marked.changed link) _ reads).1 in
     let sound : is_sound at.0.row ≡ true = (both (is_sound at.0.row) (is_free (tables old) link (name_in at.0.row.link.state.carries)) read).0 in
     let two : (not at.0.row.lost ≡ true) × (not at.0.row.link.spoilt ≡ true) = both (not at.0.row.lost) (not at.0.row.link.spoilt) sound in
-    let goes_on : HasCalled service new.texts name gives.told freed (tables new) =
+    let goes_on : HasCalled service (made_by service old new) name gives.told freed (tables new) =
     calls gives.told gives.its (for_then link name heard freed given (λ c. still link gives.told heard mid freed c gives.same frees) may) in
     let named : name ≡ name_in at.0.row.link.state.carries = carried ∙ ap carried_at at.1 in
-    let all : HearsRuled (ruling_of service new.texts.since (key_at new.texts)) service.setup service.default_schema link bytes old.clock gives.told goes_on.going (tables old)
+    let all : HearsRuled (ruling_in service (made_by service old new)) service.setup service.default_schema link bytes old.clock gives.told goes_on.going (tables old)
     (tables new) =
-    hears (ruling_of service new.texts.since (key_at new.texts)) service.setup service.default_schema link bytes old.clock gives.told goes_on.going at.0 said (tables old) read_table heard mid
+    hears (ruling_in service (made_by service old new)) service.setup service.default_schema link bytes old.clock gives.told goes_on.going at.0 said (tables old) read_table heard mid
     freed (tables new) at.1 (unlike at.0.row.lost two.0) (unlike at.0.row.link.spoilt two.1) is kept (may_of link name heard gives.told given gives.its may)
     gives.same frees
     (subst (λ (n : Option SessionName). IsCalled n gives.told freed (option_map (λ (g : Going). g.client) goes_on.going)) named goes_on.called)
@@ -142,10 +144,10 @@ heard_so hears still service link bytes old new name said given read_table heard
     }
 
 -- So the router stands for the log with it.
-pub read_carries : Routes → (service : Service) (link : LinkId) (bytes : List ℕ) (old new : Router) → Keeps old new → HasBegun old.texts → AreBytes bytes
-    → HasHeard service link bytes old new → Carries service (entry.Got link bytes) old new
-read_carries routes service link bytes old new keeps begun are heard =
+pub read_carries : Routes → (service : Service) (link : LinkId) (bytes : List ℕ) (old new : Router) → KeepsBut old new → HasBegun old.texts → AreBytes bytes
+    → HasHeard service link bytes old new → IsSettled old → Carries service (entry.Got link bytes) old new
+read_carries routes service link bytes old new keeps begun are heard loaded =
     carries_since service old new keeps.roomy keeps.came keeps.texts begun (entry.Got link bytes) refl
     (λ log may learnt.
-    routes service new.texts log (tables old) (tables new) (is_roomy old.roomy) link bytes old.clock heard.given heard.going learnt.router may
-    are heard.so heard.given_ours heard.ours heard.ruled heard.why learnt.since)
+    routes service new.texts (worked service (work_of old)) (worked service (work_of new)) log (tables old) (tables new) (is_roomy old.roomy) link bytes old.clock heard.given heard.going learnt.router may
+    are heard.so heard.given_ours heard.ours heard.ruled heard.why learnt.since (settled_rules service old loaded))

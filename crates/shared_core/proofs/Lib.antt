@@ -28,3 +28,4 @@ pub mod Standing
 pub mod ClientCloses
 pub mod Needs
 pub mod Needed
+pub mod Staging

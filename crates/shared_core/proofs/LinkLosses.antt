@@ -1,3 +1,4 @@
+use Rattle.shared_core.proofs.Clients.{settled_rules}
 -- A link to a server is lost: what the router makes of that carries it over the entry.
 use Rattle.std.specs.Prelude.{◌≡◌, ◌⊎◌, ◌<◌, ◌^◌, ◌||◌, ℕ, suc, Bool, true, false, not, IfSome, nat_eq, is_some, if◌then◌else◌, List, [], ◌∷◌, Option, Some, None}
 use Rattle.std.specs.Option.{option_and_then, option_copied, option_map, option_map_or}
@@ -29,7 +30,7 @@ use Rattle.core_laws.specs.clients.Going.{GivenUp, Going, IsCalled, is_going, to
 use Rattle.core_laws.specs.entry.Cores.{with_entry}
 use Rattle.core_laws.specs.entry.Freeing.{all_freed}
 use Rattle.core_promises.specs.Ruled.{ruling_of}
-use Rattle.router_laws.specs.decisions.Rulings.{IsRuledOn}
+use Rattle.router_laws.specs.decisions.Rulings.{IsRuledOn, IsSettledFor}
 use Rattle.router_laws.specs.decisions.Speaks.{AreGivenOurs, AreGoingOurs}
 use Rattle.router_laws.specs.decisions.Held.{AreHeldFor}
 use Rattle.router_laws.specs.decisions.Routers.{IsLearned, IsRouter}
@@ -38,36 +39,37 @@ use Rattle.router_laws.specs.wakes.Calling.{AreHomesOf}
 use Rattle.core_texts.specs.declared.texts.Texts.{Texts}
 use Rattle.core_texts.specs.Texts.{HasBegun, key_at}
 use Rattle.router_laws.specs.decisions.Causes.{IsLostFor}
-use Rattle.shared_core.proofs.Carrying.{carries_by, carries_since}
+use Rattle.core_promises.specs.Administers.{Administered}
+use Rattle.shared_core.proofs.Carrying.{carries_by, carries_since, worked_same}
 use Rattle.shared_core.proofs.Causing.{lost_for}
 use Rattle.shared_core.proofs.Hears.{its_then}
 use Rattle.shared_core.proofs.Tabling.{tables_are}
-use Rattle.shared_core.specs.Follows.{HasCalled, HasGiven, IsFor, Keeps, MayBeGivenWith, is_of, told_client, up_client}
+use Rattle.shared_core.specs.Follows.{HasCalled, HasGiven, IsFor, Keeps, KeepsBut, Made, MayBeGivenWith, is_of, made_by, told_client, up_client}
 use Rattle.shared_core.specs.Losses.{EndsWith, HasLost, HasLostEnded, IsHeldBy, MayLose, is_given}
 use Rattle.shared_core.specs.Rows.{is_worked_in}
-use Rattle.shared_core.specs.Stands.{Carries, Loses, is_roomy, tables}
+use Rattle.shared_core.specs.Stands.{Carries, IsSettled, Loses, is_roomy, tables, work_of, worked}
 use Rattle.shared_core.specs.declared.router.Router.{Router}
 
 -- The laws by which it goes.
 
 abbrev pub Routes : Type 0
 Routes =
-    (service : Service) (texts : Texts) (log : Log) (t now : Tabled) (roomy : ClientNo → Bool) (l : LinkId) (how : Break)
-    (given : Option GivenUp) (going : Option Going) → (router : IsRouter service texts log t roomy) → MayFollow log (entry_by how l)
+    (service : Service) (texts : Texts) (admin is : Administered) (log : Log) (t now : Tabled) (roomy : ClientNo → Bool) (l : LinkId) (how : Break)
+    (given : Option GivenUp) (going : Option Going) → (router : IsRouter service texts admin log t roomy) → MayFollow log (entry_by how l)
     → AreGivenOurs given → AreGoingOurs (rules_in service) texts going → (so : LosesSo service.setup service.default_schema l given going t now)
-    → IsRuledOn (ruling_of service texts.since (key_at texts)) going service.setup service.default_schema so.lost now so.goes → IsLostFor l t given
+    → IsRuledOn (ruling_of service texts.since (key_at texts) admin is) going service.setup service.default_schema so.lost now so.goes → IsLostFor l t given
     → AreHeldFor going texts service.default_schema router.core.decided log
-    → IsRouter service texts (with_entry log (entry_by how l)) now roomy
+    → IsSettledFor going service admin → IsRouter service texts is (with_entry log (entry_by how l)) now roomy
 
 abbrev pub EndedRoutes : Type 0
 EndedRoutes =
-    (service : Service) (texts : Texts) (log : Log) (t now : Tabled) (roomy : ClientNo → Bool) (l : LinkId) (how : Break) (c : ClientNo)
-    (links : List LinkId) → IsRouter service texts log t roomy → MayFollow log (entry_by how l) → LosesEnded l c links t now
-    → IsRouter service texts (with_entry log (entry_by how l)) now roomy
+    (service : Service) (texts : Texts) (admin : Administered) (log : Log) (t now : Tabled) (roomy : ClientNo → Bool) (l : LinkId) (how : Break) (c : ClientNo)
+    (links : List LinkId) → IsRouter service texts admin log t roomy → MayFollow log (entry_by how l) → LosesEnded l c links t now
+    → IsRouter service texts admin (with_entry log (entry_by how l)) now roomy
 
 -- the texts are held, whoever goes on
-held_for : {service : Service} {texts : Texts} {log : Log} {t : Tabled} {roomy : ClientNo → Bool} (going : Option Going)
-    → (learnt : IsLearned service texts log t roomy) → AreHeldFor going texts service.default_schema learnt.router.core.decided log
+held_for : {service : Service} {texts : Texts} {admin : Administered} {log : Log} {t : Tabled} {roomy : ClientNo → Bool} (going : Option Going)
+    → (learnt : IsLearned service texts admin log t roomy) → AreHeldFor going texts service.default_schema learnt.router.core.decided log
 held_for None learnt = tt
 held_for (Some going) learnt = learnt.since
 
@@ -144,15 +146,15 @@ with_it_then link told given t its goes = record {
 }
 
 -- All of it, where nobody ends.
-pub lost_so : (service : Service) (texts : Texts) (link : LinkId) (name : Option SessionName) (given : Option GiveUp) (old lost mid new : Tabled)
+pub lost_so : (service : Service) (made : Made) (link : LinkId) (name : Option SessionName) (given : Option GiveUp) (old lost mid new : Tabled)
     → IsSame lost (lost_in link old) → HasGiven given lost mid
     → ((told : Option GivenUp) → told_client told ≡ up_client given → IfSome given (λ (up : GiveUp). IsFor name up.client mid)
-    → HasCalled service texts name told mid new) → MayLose link name given old → HasLost service texts link old new
-lost_so service texts link name given old lost mid new loses gave calls may =
+    → HasCalled service made name told mid new) → MayLose link name given old → HasLost service made link old new
+lost_so service made link name given old lost mid new loses gave calls may =
     let same : IsSame mid (given_up_in (told_to gave.told) (lost_in link old)) =
     subst (λ (t : Tabled). IsSame mid (given_up_in (told_to gave.told) t)) (tables_are lost (lost_in link old) loses) gave.same in
     let still : (c : ClientNo) → is_going (mid.clients c) ≡ is_going (old.clients c) = λ c. lost_going link gave.told old mid c same in
-    let goes_on : HasCalled service texts name gave.told mid new = calls gave.told gave.its (for_then link name given old mid still may.may) in
+    let goes_on : HasCalled service made name gave.told mid new = calls gave.told gave.its (for_then link name given old mid still may.may) in
     let called : IsCalled name gave.told old (option_map (λ (g : Going). g.client) goes_on.going) =
     called_then name gave.told old mid (option_map (λ (g : Going). g.client) goes_on.going) still goes_on.called in
     record {
@@ -296,7 +298,23 @@ chosen_by old new policy keeps = record {
   client = keeps.client;
   link = keeps.link;
   texts = keeps.texts;
+  work = keeps.work;
 }
+
+pub but_chosen_by : (old new : Router) (policy : Policy) → KeepsBut (record old { policy = policy }) new → KeepsBut old new
+but_chosen_by old new policy keeps = record {
+  goes = keeps.goes;
+  roomy = keeps.roomy;
+  came = keeps.came;
+  asked = keeps.asked;
+  client = keeps.client;
+  link = keeps.link;
+  texts = keeps.texts;
+}
+
+settled_for : (going : Option Going) (service : Service) (was : Administered) → was.rules ≡ rules_in service → IsSettledFor going service was
+settled_for None service was rules = tt
+settled_for (Some going) service was rules = rules
 
 -- So the router stands for the log with it, however it is told.
 
@@ -309,14 +327,16 @@ module _ (service : Service) (link : LinkId) (old new : Router) where
   loses_each : ((how : Break) → Carries service (entry_by how link) old new) → Loses service link old new
   loses_each each = record { ended = each ReadEnds; unread = each ReadFails; unwritten = each WriteFails }
 
-  pub lost_loses : Routes → Keeps old new → HasBegun old.texts → HasLost service new.texts link (tables old) (tables new) → Loses service link old new
-  lost_loses routes keeps begun has =
+  pub lost_loses : Routes → KeepsBut old new → HasBegun old.texts → HasLost service (made_by service old new) link (tables old) (tables new) → IsSettled old
+      → Loses service link old new
+  lost_loses routes keeps begun has loaded =
       loses_each
       (λ how.
       carries_since service old new keeps.roomy keeps.came keeps.texts begun (entry_by how link) (none_come how link)
       (λ log may learnt.
-      routes service new.texts log (tables old) (tables new) (is_roomy old.roomy) link how has.given has.going learnt.router may
-      has.given_ours has.ours has.so has.ruled has.why (held_for has.going learnt)))
+      routes service new.texts (worked service (work_of old)) (worked service (work_of new)) log (tables old) (tables new) (is_roomy old.roomy) link how has.given has.going learnt.router may
+      has.given_ours has.ours has.so has.ruled has.why (held_for has.going learnt)
+      (settled_for has.going service (worked service (work_of old)) (settled_rules service old loaded))))
 
   pub ended_loses : EndedRoutes → (c : ClientNo) → Keeps old new → HasLostEnded link c (tables old) (tables new) → Loses service link old new
   ended_loses routes c keeps has =
@@ -324,7 +344,8 @@ module _ (service : Service) (link : LinkId) (old new : Router) where
       (λ how.
       carries_by service old new keeps.roomy keeps.came keeps.texts (entry_by how link) (none_come how link)
       (λ log may router.
-      routes service new.texts log (tables old) (tables new) (is_roomy old.roomy) link how c has.links router may has.so))
+      worked_same service new.texts (with_entry log (entry_by how link)) (tables new) (is_roomy old.roomy) old new keeps.work
+      (routes service new.texts (worked service (work_of old)) log (tables old) (tables new) (is_roomy old.roomy) link how c has.links router may has.so)))
 
 -- whether a row is there
 pub copied_is : {T : Type 0} (found : Option (Bor T)) (row : Option T) (test b : Bool) → option_copied found ≡ row → test ≡ is_some found

@@ -17,8 +17,9 @@ use Rattle.core_laws.specs.entry.Cores.{with_entry}
 use Rattle.router_laws.specs.links.Writes.{WritesSo}
 use Rattle.router_laws.specs.wakes.Settling.{Settles}
 use Rattle.core_texts.specs.declared.texts.Texts.{Texts}
-use Rattle.shared_core.proofs.Carrying.{carries_by, stays_by, texts_more}
-use Rattle.shared_core.specs.Stands.{Carries, SettlesSo, StandsFor, is_roomy, tables}
+use Rattle.core_promises.specs.Administers.{Administered}
+use Rattle.shared_core.proofs.Carrying.{carries_by, stays_by, texts_more, worked_same}
+use Rattle.shared_core.specs.Stands.{Carries, SettlesSo, StandsFor, is_roomy, tables, work_of, worked}
 use Rattle.shared_core.specs.declared.router.Router.{Router}
 use Rattle.core_says.specs.Says.{begins_for, is_named, is_sound, sends_in}
 use Rattle.core_says.specs.Says as says
@@ -95,13 +96,13 @@ is_writable marked l n some may = writable_by marked l n some (sends_on marked l
 -- The router goes on.
 
 abbrev pub Writes : Type 0
-Writes = (service : Service) (texts : Texts) (log : Log) (t now : Tabled) (roomy : ClientNo → Bool) (l : LinkId) (offer : Sent) (count : ℕ)
-    → IsRouter service texts log t roomy → MayFollow log (entry.Wrote l offer.tag (take count offer.bytes)) → WritesSo l offer count t now
-    → IsRouter service texts (with_entry log (entry.Wrote l offer.tag (take count offer.bytes))) now roomy
+Writes = (service : Service) (texts : Texts) (admin : Administered) (log : Log) (t now : Tabled) (roomy : ClientNo → Bool) (l : LinkId) (offer : Sent) (count : ℕ)
+    → IsRouter service texts admin log t roomy → MayFollow log (entry.Wrote l offer.tag (take count offer.bytes)) → WritesSo l offer count t now
+    → IsRouter service texts admin (with_entry log (entry.Wrote l offer.tag (take count offer.bytes))) now roomy
 
 abbrev pub SettlesBy : Type 0
-SettlesBy = (service : Service) (texts : Texts) (log : Log) (t now : Tabled) (roomy : ClientNo → Bool) → IsRouter service texts log t roomy
-    → Settles texts t now → IsRouter service texts log now roomy
+SettlesBy = (service : Service) (texts : Texts) (admin : Administered) (log : Log) (t now : Tabled) (roomy : ClientNo → Bool) → IsRouter service texts admin log t roomy
+    → Settles texts t now → IsRouter service texts admin log now roomy
 
 some_of : (n : ℕ) (xs : List ℕ) → 0 < length (take n xs) → 0 < n
 some_of zero xs some = absurd (none_less some) where
@@ -110,13 +111,14 @@ some_of zero xs some = absurd (none_less some) where
 some_of (suc n) xs some = omega arith
 
 module _ (law : Writes) (service : Service) (l : LinkId) (n : ℕ) (old new : Router) (roomy : new.roomy ≡ old.roomy) (came : new.came ≡ old.came)
-    (texts : new.texts ≡ old.texts) (some : IsSome ((tables old).links l)) (may_take : MayTake (sends_on old.marked l) n) (moment : ℕ)
+    (texts : new.texts ≡ old.texts) (work : work_of new ≡ work_of old) (some : IsSome ((tables old).links l)) (may_take : MayTake (sends_on old.marked l) n) (moment : ℕ)
     (same : IsSame (tables new) (wrote_on l n moment (tables old))) where
   pub wrote_carries : (sent : Sent) → sends_on old.marked l ≡ Some sent → Carries service (entry.Wrote l sent.tag (take n sent.bytes)) old new
   wrote_carries sent is =
       let lent : IsLent old.marked l sent = is_lent old.marked l sent is some in
       carries_by service old new roomy came (texts_more old.texts new.texts texts) (entry.Wrote l sent.tag (take n sent.bytes)) refl
-      (λ log may router. law service new.texts log (tables old) (tables new) _ l sent n router may (record {
+      (λ log may router. worked_same service new.texts (with_entry log (entry.Wrote l sent.tag (take n sent.bytes))) (tables new) _ old new work
+      (law service new.texts (worked service (work_of old)) log (tables old) (tables new) _ l sent n router may (record {
         server = lent.server;
         there = lent.there;
         lent = lent.lent;
@@ -125,10 +127,10 @@ module _ (law : Writes) (service : Service) (l : LinkId) (n : ℕ) (old new : Ro
         most = subst (λ (found : Option Sent). MayTake found n) is may_take;
         moment = moment;
         same = same;
-      }))
+      })))
 
 pub settles_stands : SettlesBy → (service : Service) (old new : Router) → SettlesSo old new → (log : Log) → StandsFor service log old → StandsFor service log new
 settles_stands law service old new so log stands =
-    stays_by service old new so.roomy so.came (texts_more old.texts new.texts so.texts) log
-    (λ router. law service new.texts log (tables old) (tables new) (is_roomy old.roomy) router
+    stays_by service old new so.roomy so.came (texts_more old.texts new.texts so.texts) so.work log
+    (λ router. law service new.texts (worked service (work_of old)) log (tables old) (tables new) (is_roomy old.roomy) router
     (subst (λ (k : Texts). Settles k (tables old) (tables new)) (sym so.texts) so.settles)) stands

@@ -32,8 +32,8 @@ use Rattle.router_laws.proofs.OfDecisions.Learning.{forgets}
 use Rattle.shared_core.proofs.Coming.{come_as}
 use Rattle.shared_core.specs.Machine.{IsDueIn, Tells}
 use Rattle.shared_core.specs.Says.{target_of}
-use Rattle.shared_core.specs.Stands.{ActsBy, Carries, CarriesWhere, Chooses, IsClosed, Loses, Moves, PartsFor, SettlesSo, Shown, StandsBy, StandsFor}
-use Rattle.shared_core.specs.Stands.{is_roomy, parted, shown, tables, tables_in, without_client, without_link}
+use Rattle.shared_core.specs.Stands.{ActsBy, Carries, CarriesWhere, Chooses, IsClosed, Loses, Moves, PartsFor, SettlesSo, Shown, StandsBy, StandsFor, Work}
+use Rattle.shared_core.specs.Stands.{IsSettled, is_roomy, parted, shown, tables, tables_in, without_client, without_link, work_of, worked}
 use Rattle.shared_core.specs.declared.router.Router.{Router}
 use Rattle.shared_core.proofs.Carrying.{shown_stands}
 use Rattle.shared_core.proofs.Keeping.{keeps_moves, keeps_still}
@@ -70,11 +70,12 @@ pub parted_stands : (service : Service) (log : Log) (s : Shown) → IsClosed s �
 parted_stands service log s closed stands = subst (λ (t : Tabled). StandsBy service log t s) (sym (nothing_parted s closed)) stands
 
 -- Whoever has room again, how many came, and the texts are all that it is by beside the tables.
-pub stands_as : (service : Service) (log : Log) (t : Tabled) (a b : Shown) → b.roomy ≡ a.roomy → b.came ≡ a.came → b.texts ≡ a.texts → StandsBy service log t a
+pub stands_as : (service : Service) (log : Log) (t : Tabled) (a b : Shown) → b.roomy ≡ a.roomy → b.came ≡ a.came → b.texts ≡ a.texts → b.work ≡ a.work → StandsBy service log t a
     → StandsBy service log t b
-stands_as service log t a b roomy came texts stands = record {
-  router = subst (λ (x : Texts). IsRouter service x log t (is_roomy b.roomy)) (sym texts)
-      (subst (λ r. IsRouter service a.texts log t (is_roomy r)) (sym roomy) stands.router);
+stands_as service log t a b roomy came texts work stands = record {
+  router = subst (λ (x : Texts). IsRouter service x (worked service b.work) log t (is_roomy b.roomy)) (sym texts)
+      (subst (λ (w : Work). IsRouter service a.texts (worked service w) log t (is_roomy b.roomy)) (sym work)
+      (subst (λ r. IsRouter service a.texts (worked service a.work) log t (is_roomy r)) (sym roomy) stands.router));
   counted = come_as log a.came b.came came stands.counted;
 }
 
@@ -106,35 +107,36 @@ tells_as service event at bytes old new is tells = subst (λ (x : Event). Tells 
 -- What each kind of event tells.
 
 module _ (service : Service) (bytes : List ℕ) (old new : Router) where
-  pub woke_tells : (now_ms : ℕ) → ((until_ms : ℕ) → CarriesWhere (IsDrainedFor (tables old)) service (entry.Woke until_ms now_ms) old new)
+  pub woke_tells : (now_ms : ℕ) → ((until_ms : ℕ) → IsSettled old → CarriesWhere (IsDrainedFor (tables old)) service (entry.Woke until_ms now_ms) old new)
       → Tells service (event.Woke now_ms) bytes old new
-  woke_tells now_ms carries until_ms e told =
-      where_as (IsDrainedFor (tables old)) service (entry.Woke until_ms now_ms) e old new told (carries until_ms)
+  woke_tells now_ms carries loaded until_ms e told =
+      where_as (IsDrainedFor (tables old)) service (entry.Woke until_ms now_ms) e old new told (carries until_ms loaded)
 
   pub accepted_tells : (port : Port) (link : LinkId) (salt : List ℕ) → Carries service (entry.Accepted port link salt) old new
       → Tells service (event.Accepted port link salt) bytes old new
-  accepted_tells port link salt carries until_ms e told log due = carried_as service (entry.Accepted port link salt) e old new told carries log
+  accepted_tells port link salt carries loaded until_ms e told log due = carried_as service (entry.Accepted port link salt) e old new told carries log
 
   pub opened_tells : (server : ServerId) (link : LinkId)
       → ((a : Asked) → old.asked ≡ Some a → Carries service (entry.Opened a.server a.address link) old new)
       → Tells service (event.Opened server link) bytes old new
-  opened_tells server link carries until_ms e told log due = opened_so service link server old.asked old new carries e told log
+  opened_tells server link carries loaded until_ms e told log due = opened_so service link server old.asked old new carries e told log
 
-  pub failed_tells : (server : ServerId) → ((address : Address) → Carries service (entry.OpenFailed server address) old new)
+  pub failed_tells : (server : ServerId) → ((address : Address) → IsSettled old → Carries service (entry.OpenFailed server address) old new)
       → Tells service (event.OpenFailed server) bytes old new
-  failed_tells server carries until_ms e told log due = carried_as service (entry.OpenFailed server told.0) e old new told.2 (carries told.0) log
+  failed_tells server carries loaded until_ms e told log due =
+      carried_as service (entry.OpenFailed server told.0) e old new told.2 (carries told.0 loaded) log
 
-  pub got_tells : (link : LinkId) → (reads_on old.marked link ≡ true → Carries service (entry.Got link bytes) old new)
+  pub got_tells : (link : LinkId) → (reads_on old.marked link ≡ true → IsSettled old → Carries service (entry.Got link bytes) old new)
       → Tells service (event.Got link) bytes old new
-  got_tells link carries until_ms e told log due = carried_as service (entry.Got link bytes) e old new told (carries due) log
+  got_tells link carries loaded until_ms e told log due = carried_as service (entry.Got link bytes) e old new told (carries due loaded) log
 
-  pub ended_tells : (link : LinkId) → Loses service link old new → Tells service (event.Ended link) bytes old new
-  ended_tells link loses until_ms e told log due = carried_as service (entry.Ended link) e old new told loses.ended log
+  pub ended_tells : (link : LinkId) → (IsSettled old → Loses service link old new) → Tells service (event.Ended link) bytes old new
+  ended_tells link loses loaded until_ms e told log due = carried_as service (entry.Ended link) e old new told (loses loaded).ended log
 
-  pub broken_tells : (link : LinkId) → Loses service link old new → Tells service (event.Failed link) bytes old new
-  broken_tells link loses until_ms e told log due = elim told [
-    | inl is ↦ carried_as service (entry.ReadFailed link) e old new is loses.unread log
-    | inr is ↦ carried_as service (entry.WriteFailed link) e old new is loses.unwritten log
+  pub broken_tells : (link : LinkId) → (IsSettled old → Loses service link old new) → Tells service (event.Failed link) bytes old new
+  broken_tells link loses loaded until_ms e told log due = elim told [
+    | inl is ↦ carried_as service (entry.ReadFailed link) e old new is (loses loaded).unread log
+    | inr is ↦ carried_as service (entry.WriteFailed link) e old new is (loses loaded).unwritten log
   ]
 
 -- Texts that nobody needs are forgotten.
@@ -143,7 +145,7 @@ pub forgets_stands : (service : Service) (log : Log) (a b : Router) → AreLess 
     → b ≡ record a { texts = b.texts } → StandsFor service log a → StandsFor service log b
 forgets_stands service log a b less keeps same stands =
     subst (λ (r : Router). StandsFor service log r) (sym same) (record {
-      router = forgets service a.texts b.texts log (tables a) (is_roomy a.roomy) stands.router less keeps;
+      router = forgets service a.texts b.texts (worked service (work_of a)) log (tables a) (is_roomy a.roomy) stands.router less keeps;
       counted = stands.counted;
     })
 
@@ -156,8 +158,8 @@ moves_forgot old forgot new same moves =
 pub tells_forgot : (service : Service) (event : Event) (bytes : List ℕ) (old forgot new : Router) → AreLess old.texts forgot.texts
     → KeepsTexts old.texts forgot.texts (tables old) → forgot ≡ record old { texts = forgot.texts } → Tells service event bytes forgot new
     → Tells service event bytes old new
-tells_forgot service event bytes old forgot new less keeps same tells until_ms e told log due may stands =
-    tells until_ms e
+tells_forgot service event bytes old forgot new less keeps same tells loaded until_ms e told log due may stands =
+    tells (subst IsSettled (sym same) loaded) until_ms e
     (subst (λ (r : Router). IsToldOf until_ms (option_map target_of r.asked) event bytes e) (sym same) told) log
     (subst (λ (r : Router). IsDueIn r event log) (sym same) due) may (forgets_stands service log old forgot less keeps same stands)
 
@@ -165,9 +167,9 @@ tells_forgot service event bytes old forgot new less keeps same tells until_ms e
 
 pub tells_along : SettlesRouters → (service : Service) (event : Event) (bytes : List ℕ) (old mid settled new : Router)
     → Tells service event bytes old mid → SettlesSo mid settled → Chooses settled new → Tells service event bytes old new
-tells_along law service event bytes old mid settled new tells settles chosen until_ms e told log due may stands =
+tells_along law service event bytes old mid settled new tells settles chosen loaded until_ms e told log due may stands =
     shown_stands service (with_entry log e) settled new chosen.same
-    (law service mid settled settles (with_entry log e) (tells until_ms e told log due may stands))
+    (law service mid settled settles (with_entry log e) (tells loaded until_ms e told log due may stands))
 
 pub moves_along : (old mid settled new : Router) → Moves old mid → Moves mid settled → Chooses settled new → Moves old new
 moves_along old mid settled new first next chosen = record {

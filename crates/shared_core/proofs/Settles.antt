@@ -13,7 +13,7 @@ use Rattle.marked_tables.proofs.Going.{goes_along, still_goes}
 use Rattle.router_laws.specs.wakes.Settling.{MaySettle, Notes, Readies, Settles, Settling, settled}
 use Rattle.router_laws.proofs.OfWakes.Settled.{same_itself, settles_along, settles_one}
 use Rattle.core_texts.specs.declared.texts.Texts.{Texts}
-use Rattle.shared_core.specs.Stands.{Chooses, Moves, SettlesSo, Shown, tables}
+use Rattle.shared_core.specs.Stands.{Chooses, Moves, SettlesSo, Shown, tables, work_of}
 use Rattle.shared_core.proofs.Keeping.{tables_chosen}
 use Rattle.shared_core.specs.declared.router.Router.{Router}
 
@@ -23,12 +23,13 @@ if_ok (Err e) P Q so is = tt
 
 -- One deed.
 pub settles_so : (step : Settling) (old new : Router) → MaySettle old.texts step (tables old) → IsSame (tables new) (settled step (tables old))
-    → new.roomy ≡ old.roomy → new.came ≡ old.came → new.texts ≡ old.texts → SettlesSo old new
-settles_so step old new may same roomy came texts = record {
+    → new.roomy ≡ old.roomy → new.came ≡ old.came → new.texts ≡ old.texts → work_of new ≡ work_of old → SettlesSo old new
+settles_so step old new may same roomy came texts work = record {
   settles = settles_one old.texts step (tables old) (tables new) (record { may = may; same = same });
   roomy = roomy;
   came = came;
   texts = texts;
+  work = work;
 }
 
 -- A link is readied, and that is noted of the client.
@@ -58,9 +59,9 @@ noted_by texts l who c at t now same =
 
 pub notes_so : (l : LinkId) (who : Option ClientNo) (c : ClientNo) (at : Option LinkId) (old new : Router)
     → IsSame (tables new) (client_changed c (with_readied at) (readied l who (tables old))) → new.roomy ≡ old.roomy → new.came ≡ old.came
-    → new.texts ≡ old.texts → SettlesSo old new
-notes_so l who c at old new same roomy came texts =
-    record { settles = noted_by old.texts l who c at (tables old) (tables new) same; roomy = roomy; came = came; texts = texts }
+    → new.texts ≡ old.texts → work_of new ≡ work_of old → SettlesSo old new
+notes_so l who c at old new same roomy came texts work =
+    record { settles = noted_by old.texts l who c at (tables old) (tables new) same; roomy = roomy; came = came; texts = texts; work = work }
 
 -- All of them.
 
@@ -70,7 +71,7 @@ pub record HasSettled (old new : Router) : Type 0 where
 
 pub settles_none : (r : Router) → HasSettled r r
 settles_none r = record {
-  settles = record { settles = record { steps = []; path = same_itself (tables r) }; roomy = refl; came = refl; texts = refl };
+  settles = record { settles = record { steps = []; path = same_itself (tables r) }; roomy = refl; came = refl; texts = refl; work = refl };
   moves = record { goes = still_goes r.marked; client = refl; link = refl };
 }
 
@@ -82,6 +83,7 @@ settles_more a b c first settles moves = record {
     roomy = settles.roomy ∙ first.settles.roomy;
     came = settles.came ∙ first.settles.came;
     texts = settles.texts ∙ first.settles.texts;
+    work = settles.work ∙ first.settles.work;
   };
   moves = record {
     goes = goes_along a.marked b.marked c.marked first.moves.goes moves.goes;
@@ -97,6 +99,7 @@ settles_chosen a b c settles chosen = record {
   roomy = ap (λ (s : Shown). s.roomy) chosen.same ∙ settles.roomy;
   came = ap (λ (s : Shown). s.came) chosen.same ∙ settles.came;
   texts = ap (λ (s : Shown). s.texts) chosen.same ∙ settles.texts;
+  work = ap (λ (s : Shown). s.work) chosen.same ∙ settles.work;
 }
 
 pub chosen_settles : (a b : Router) → Chooses a b → SettlesSo a b

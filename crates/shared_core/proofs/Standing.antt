@@ -1,6 +1,6 @@
 -- The core as a machine, by what its router does.
 use Rattle.std.specs.Prelude.{◌≡◌, ◌&&◌, ℕ, Bool, true, false, is_some, if◌then◌else◌, length, take, List, [], ◌∷◌, ◌++◌, Option, Some, None, IsSome, IfNone, IfSome, OnOk, Result, Ok, Err}
-use Rattle.std.specs.Option.{option_map}
+use Rattle.std.specs.Option.{option_map, option_map_or}
 use Rattle.std.proofs.Common.{refl, sym, ap, ◌∙◌, subst, append-nil}
 use Rattle.std.proofs.lemmas.Bool.{true≢false}
 use Rattle.std.proofs.lemmas.List.Elements.{filter_map-append}
@@ -20,6 +20,7 @@ use Rattle.ready_loop.specs.declared.machines.Event.{Event}
 use Rattle.ready_loop.specs.declared.machines.Event.TheVariants as event
 use Rattle.private_model.specs.Names.{ClientNo}
 use Rattle.core_policy.specs.declared.asks.Asked.{Asked}
+use Rattle.core_service.specs.Serves.{rules_in}
 use Rattle.core_service.specs.declared.service.Service.{Service}
 use Rattle.core_says.specs.Says.{reads_in, sends_in}
 use Rattle.core_tables.specs.Tables.{Tabled, no_tables, IsSame, tables_of}
@@ -28,21 +29,21 @@ use Rattle.link_marks.specs.Marks.{is_known}
 use Rattle.core_laws.specs.entry.Cores.{with_entry}
 use Rattle.router_laws.specs.decisions.Routers.{IsRouter}
 use Rattle.router_laws.specs.waits.Drained.{IsDrainedAt, IsDrainedFor}
-use Rattle.marked_tables.specs.Goes.{AreKnown, GoesOn, sends_on}
+use Rattle.marked_tables.specs.Goes.{AreKnown, GoesOn, reads_on, sends_on}
 use Rattle.marked_tables.proofs.Going.{named_known}
 use Rattle.marked_tables.specs.declared.marked.MarkedTables.{MarkedTables}
 use Rattle.core_texts.specs.declared.texts.Texts.{Texts}
 use Rattle.core_texts.specs.Texts.{key_at}
-use Rattle.core_promises.specs.InForce.{AreLoaded, has_administrator}
-use Rattle.core_turns.specs.declared.administrator.Administrator.{Administrator}
 use Rattle.query_rules.specs.Passing.{rules_of}
 use Rattle.query_rules.specs.declared.rules.Rules.{Rules}
+use Rattle.core_promises.specs.Administered.{IsFirst}
+use Rattle.core_promises.specs.Administers.{Administered, AreRulesOf}
 use Rattle.shared_core.proofs.Coming.{come_as, come_on}
 use Rattle.shared_core.specs.declared.came.Came.{Came}
 use Rattle.shared_core.specs.Machine.{IsDueIn, IsStanding, Tells, is_stopped}
 use Rattle.shared_core.specs.Says.{IsAskedFor, awaits, reads, sends, target_of}
 use Rattle.shared_core.specs.Stands.{ActsSo, Carries, Chooses, IsClosed, Moves, PartsFor, Shown, StandsBy, StandsFor}
-use Rattle.shared_core.specs.Stands.{is_roomy, parted, shown, tables, without_client, without_link}
+use Rattle.shared_core.specs.Stands.{IsSettled, is_roomy, parted, shown, tables, without_client, without_link, work_of, worked}
 use Rattle.shared_core.specs.declared.roomy.Roomy.{Roomy}
 use Rattle.shared_core.specs.declared.router.Router.{Router}
 use Rattle.shared_core.specs.declared.whole.Core.{Core}
@@ -55,10 +56,6 @@ asks core = core.router.acting
 
 abbrev pub due_in : Core → Log → Entry → Type 0
 due_in = IsDue reads sends asks
-
-both_ok : {T E : Type 0} (r : Result T E) {A B C : Type 0} → (A → B → C) → OnOk r A → OnOk r B → OnOk r C
-both_ok (Ok x) f a b = f a b
-both_ok (Err e) f a b = tt
 
 some_of : (asked : Option Asked) (target : Target) → option_map target_of asked ≡ Some target → IsSome asked
 some_of None target is = absurd (none-some target is)
@@ -117,22 +114,49 @@ stands_moved core router log moves closed known stands =
       known = moves.goes.known known;
     }
 
-pub take_one : (core : Core) (router : Router) (event : Event) (bytes : List ℕ) → IsHeard (awaits core) event → HasActed (asks core) event
-    → Tells core.service event bytes core.router router → Moves core.router router → (e : Entry)
+pub take_one : (core : Core) (router : Router) (event : Event) (bytes : List ℕ) → IsSettled core.router → IsHeard (awaits core) event
+    → HasActed (asks core) event → Tells core.service event bytes core.router router → Moves core.router router → (e : Entry)
     → IsToldOf core.router.until (awaits core) event bytes e → CarriesOver IsStanding due_in core (record core { router = router }) e
-take_one core router event bytes heard acted tells moves e told = record {
+take_one core router event bytes loaded heard acted tells moves e told = record {
   carried = λ log may due was.
       let closed : IsClosed (shown core.router) = closed_by core event log heard acted was in
       stands_moved core router (log ++ e ∷ []) moves closed was.known
-      (tells core.router.until e told log (due_by core event log core.router.until bytes e told was due) may
+      (tells loaded core.router.until e told log (due_by core event log core.router.until bytes e told was due) may
       (stands_parted core.service log (shown core.router) closed was.stands));
 }
 
-pub take_carries : {T E : Type 0} (r : Result T E) (core : Core) (router : Router) (event : Event) (bytes : List ℕ) → IsHeard (awaits core) event
-    → HasActed (asks core) event → OnOk r (Tells core.service event bytes core.router router) → OnOk r (Moves core.router router)
-    → OnOk r ((e : Entry) → IsToldOf core.router.until (awaits core) event bytes e → CarriesOver IsStanding due_in core (record core { router = router }) e)
-take_carries r core router event bytes heard acted tells moves =
-    both_ok r (λ told moved. take_one core router event bytes heard acted told moved) tells moves
+-- It is told of an event once the rules that were loaded are in force, which changes nothing else of the router.
+module _ (core one : Core) (same : one.router ≡ record core.router { admin = one.router.admin }) where
+  marked_same : core.router.marked ≡ one.router.marked
+  marked_same = sym (ap (λ (r : Router). r.marked) same)
+
+  acting_same : core.router.acting ≡ one.router.acting
+  acting_same = sym (ap (λ (r : Router). r.acting) same)
+
+  awaits_same : awaits core ≡ awaits one
+  awaits_same = sym (ap (λ (r : Router). option_map target_of r.asked) same)
+
+  waits_same : (log : Log) → MayWait (reads core) (sends core) (asks core) log → MayWait (reads one) (sends one) (asks one) log
+  waits_same log may =
+      subst (λ (a : Bool). MayWait (reads_on one.router.marked) (sends_on one.router.marked) a log) acting_same
+      (subst (λ (m : MarkedTables). MayWait (reads_on m) (sends_on m) (asks core) log) marked_same may)
+
+  due_same : (log : Log) (e : Entry) → due_in core log e → due_in one log e
+  due_same log (entry.Woke until_ms now_ms) due = waits_same log due
+  due_same log entry.WaitFailed due = waits_same log due
+  due_same log entry.Over due = waits_same log due
+  due_same log (entry.Got link bytes) due = subst (λ (m : MarkedTables). reads_on m link ≡ true) marked_same due
+  due_same log _ due = tt
+
+  pub take_ruled : (router : Router) (event : Event) (bytes : List ℕ) → IsSettled one.router → IsHeard (awaits core) event → HasActed (asks core) event
+      → Tells one.service event bytes one.router router → Moves one.router router → (e : Entry) → IsToldOf core.router.until (awaits core) event bytes e
+      → (log : Log) → MayFollow log e → due_in core log e → IsStanding one log → IsStanding (record one { router = router }) (log ++ e ∷ [])
+  take_ruled router event bytes loaded heard acted tells moves e told log may due was =
+      let told_one : IsToldOf one.router.until (awaits one) event bytes e =
+      subst (λ (a : Option Target). IsToldOf one.router.until a event bytes e) awaits_same
+      (subst (λ (n : ℕ). IsToldOf n (awaits core) event bytes e) (sym (ap (λ (r : Router). r.until) same)) told) in
+      (take_one one router event bytes loaded (subst (λ (a : Option Target). IsHeard a event) awaits_same heard)
+      (subst (λ (b : Bool). HasActed b event) acting_same acted) tells moves e told_one).carried log may (due_same log e due) was
 
 -- Bytes were written.
 pub wrote_carries : (core : Core) (wrote router : Router) (link : LinkId) (n : ℕ) (sent : Sent) → asks core ≡ false → sends core link ≡ Some sent
@@ -204,7 +228,7 @@ pub named_keeps : (core : Core) (m : MarkedTables) → m.tables ≡ core.router.
 named_keeps core m same known = record {
   kept = λ log was. record {
     stands = record {
-      router = subst (λ (t : Tables). IsRouter core.service core.router.texts log
+      router = subst (λ (t : Tables). IsRouter core.service core.router.texts (worked core.service (work_of core.router)) log
           (without_link core.router.closing (without_client core.router.leaving (tables_of t))) (is_roomy core.router.roomy)) (sym same)
           was.stands.router;
       counted = was.stands.counted;
@@ -230,8 +254,8 @@ named_says core m same known = record {
 -- It stands still where it is told of nothing.
 
 abbrev pub Quiet : Type 0
-Quiet = (service : Service) (texts : Texts) (log : Log) (e : Entry) (t : Tabled) (roomy : ClientNo → Bool) → IsRouter service texts log t roomy
-    → MayFollow log e → IsQuiet e → IsDrainedAt t log e → IsRouter service texts (with_entry log e) t roomy
+Quiet = (service : Service) (texts : Texts) (admin : Administered) (log : Log) (e : Entry) (t : Tabled) (roomy : ClientNo → Bool) → IsRouter service texts admin log t roomy
+    → MayFollow log e → IsQuiet e → IsDrainedAt t log e → IsRouter service texts admin (with_entry log e) t roomy
 
 -- where it waits, all is drained
 drained_at : (core : Core) (log : Log) (e : Entry) → IsStanding core log → IsQuiet e → due_in core log e
@@ -249,7 +273,7 @@ pub quiet_carries : Quiet → (core : Core) (e : Entry) → IsQuiet e → Carrie
 quiet_carries law core e quiet = record {
   carried = λ log may due was. record {
     stands = record {
-      router = law core.service core.router.texts log e (parted (shown core.router)) (is_roomy core.router.roomy) was.stands.router may
+      router = law core.service core.router.texts (worked core.service (work_of core.router)) log e (parted (shown core.router)) (is_roomy core.router.roomy) was.stands.router may
           quiet (drained_at core log e was quiet due);
       counted = come_on log (e ∷ []) core.router.came (none_comes e quiet) was.stands.counted;
     };
@@ -262,36 +286,57 @@ quiet_carries law core e quiet = record {
 -- Rules are loaded: nothing else changes.
 
 abbrev pub LoadsRules : Type 0
-LoadsRules = (service : Service) (texts : Texts) (log : Log) (t : Tabled) (roomy : ClientNo → Bool) (loaded : Rules) → IsRouter service texts log t roomy
-    → has_administrator log ≡ true → AreLoaded (rules_of loaded) → IsRouter (record service { loaded = Some loaded }) texts log t roomy
+LoadsRules = (service : Service) (texts : Texts) (admin : Administered) (log : Log) (t : Tabled) (roomy : ClientNo → Bool) (loaded : Rules)
+    → IsRouter service texts admin log t roomy → IsRouter (record service { loaded = Some loaded }) texts admin log t roomy
 
-pub loads_stand : LoadsRules → (core : Core) (admin : Administrator) (rules : Rules) → core.router.came.administrator ≡ true → AreLoaded (rules_of rules)
-    → (log : Log) → IsStanding core log
-    → IsStanding (record { service = record core.service { loaded = Some rules }; router = record core.router { admin = admin } }) log
-loads_stand law core admin rules came are log was = record {
-  stands = record {
-    router = law core.service core.router.texts log (parted (shown core.router)) (is_roomy core.router.roomy) rules was.stands.router
-        (was.stands.counted.administrator came) are;
-    counted = was.stands.counted;
-  };
-  acted = λ off. was.acted off;
-  opening = λ some. was.opening some;
-  known = was.known;
-}
+abbrev pub with_loaded : Router → Option Rules → Router
+with_loaded r left = record r { admin = record r.admin { loaded = left } }
+
+pub loads_stand : LoadsRules → (core : Core) (rules : Rules) (left : Option Rules) → Some rules ≡ core.router.admin.loaded → left ≡ None → (log : Log)
+    → IsStanding core log → IsStanding (record { service = record core.service { loaded = Some rules }; router = with_loaded core.router left }) log
+loads_stand law core rules left loaded none log was =
+    subst (λ (o : Option Rules). IsStanding (record { service = record core.service { loaded = Some rules }; router = with_loaded core.router o }) log)
+    (sym none) (record {
+      stands = record {
+        router = subst (λ (o : Option Rules). IsRouter (record core.service { loaded = Some rules }) core.router.texts
+            (worked core.service (record { staged = core.router.admin.staged; loaded = o })) log (parted (shown core.router)) (is_roomy core.router.roomy))
+            (sym loaded)
+            (law core.service core.router.texts (worked core.service (work_of core.router)) log (parted (shown core.router)) (is_roomy core.router.roomy) rules
+            was.stands.router);
+        counted = was.stands.counted;
+      };
+      acted = λ off. same_closed (was.acted off);
+      opening = λ some. same_closed (was.opening some);
+      known = was.known;
+    }) where
+      same_closed : IsClosed (shown core.router) → IsClosed (shown (with_loaded core.router None))
+      same_closed closed = record { client = closed.client; link = closed.link }
+
+-- None are.
+pub still_stand : (core : Core) (left : Option Rules) → None ≡ core.router.admin.loaded → left ≡ None → (log : Log) → IsStanding core log
+    → IsStanding (record core { router = with_loaded core.router left }) log
+still_stand core left was none log stands =
+    subst (λ (o : Option Rules). IsStanding (record core { router = with_loaded core.router o }) log) (sym was ∙ sym none) stands
 
 -- It begins.
 
 abbrev pub First : Type 0
-First = (service : Service) (texts : Texts) (roomy : ClientNo → Bool) → service.loaded ≡ None → ((number : ℕ) → key_at texts number ≡ None) → IsRouter service texts [] no_tables roomy
+First = (service : Service) (texts : Texts) (admin : Administered) → IsFirst (rules_of service.configured) admin → (roomy : ClientNo → Bool) → service.loaded ≡ None → ((number : ℕ) → key_at texts number ≡ None) → IsRouter service texts admin [] no_tables roomy
 
 abbrev pub nobody : Came
 nobody = record { clients = 0; administrator = false }
 
 pub first_stands : First → (service : Service) (r : Router) → IsSame (tables r) no_tables → r.came ≡ nobody
-    → ((number : ℕ) → key_at r.texts number ≡ None) → service.loaded ≡ None → StandsFor service [] r
-first_stands law service r none came untold unloaded = record {
-  router = subst (λ (t : Tabled). IsRouter service r.texts [] t (is_roomy r.roomy)) (sym (tables_are (tables r) no_tables none))
-      (law service r.texts (is_roomy r.roomy) unloaded untold);
+    → ((number : ℕ) → key_at r.texts number ≡ None) → AreRulesOf r.admin.staged.rules (rules_of service.configured) → r.admin.loaded ≡ None
+    → service.loaded ≡ None → StandsFor service [] r
+first_stands law service r none came untold staged settled unloaded = record {
+  router = subst (λ (t : Tabled). IsRouter service r.texts (worked service (work_of r)) [] t (is_roomy r.roomy)) (sym (tables_are (tables r) no_tables none))
+      (law service r.texts (worked service (work_of r))
+      (record {
+        force = ap (λ (o : Option Rules). option_map_or rules_of o (rules_in service)) settled
+            ∙ ap (λ (o : Option Rules). option_map_or rules_of o (rules_of service.configured)) unloaded;
+        staged = staged;
+      }) (is_roomy r.roomy) unloaded untold);
   counted = come_as [] nobody r.came came (record { clients = refl; administrator = λ is. absurd (let no : false ≡ true = is in cc) });
 }
 

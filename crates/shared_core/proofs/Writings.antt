@@ -1,3 +1,4 @@
+use Rattle.shared_core.proofs.Carrying.{worked_same}
 -- Bytes are written to a client.
 use Rattle.std.specs.Prelude.{◌≡◌, ◌≤◌, ℕ, Bool, true, false, nat_lt, if◌then◌else◌, is_some, length, take, List, [], ◌∷◌, Option, Some, None}
 use Rattle.std.specs.Option.{option_copied, option_map_or}
@@ -26,9 +27,10 @@ use Rattle.core_laws.specs.entry.Cores.{with_entry}
 use Rattle.router_laws.specs.clients.Writes.{WroteSo}
 use Rattle.router_laws.specs.decisions.Routers.{IsRouter}
 use Rattle.core_texts.specs.declared.texts.Texts.{Texts}
+use Rattle.core_promises.specs.Administers.{Administered}
 use Rattle.shared_core.proofs.Coming.{come_as, come_on}
 use Rattle.shared_core.specs.Rooms.{IsRoomyAfter}
-use Rattle.shared_core.specs.Stands.{Carries, is_roomy, tables}
+use Rattle.shared_core.specs.Stands.{Carries, is_roomy, tables, work_of, worked}
 use Rattle.shared_core.specs.declared.router.Router.{Router}
 
 some_if : {A : Type 0} (b : Bool) (x : Option A) (y : A) → (if b then x else None) ≡ Some y → x ≡ Some y
@@ -99,20 +101,21 @@ none_sent m link none unnumbered sent sends =
 -- What router_laws says of it.
 abbrev pub ClientWrites : Type 0
 ClientWrites =
-    (service : Service) (texts : Texts) (log : Log) (t now : Tabled) (roomy room : ClientNo → Bool) (link : LinkId) (tag : Tag) (bytes : List ℕ)
-    (count : ℕ) (c : ClientNo) → IsRouter service texts log t roomy → MayFollow log (Wrote link tag bytes)
-    → WroteSo link bytes count c roomy room t now → IsRouter service texts (with_entry log (Wrote link tag bytes)) now room
+    (service : Service) (texts : Texts) (admin : Administered) (log : Log) (t now : Tabled) (roomy room : ClientNo → Bool) (link : LinkId) (tag : Tag) (bytes : List ℕ)
+    (count : ℕ) (c : ClientNo) → IsRouter service texts admin log t roomy → MayFollow log (Wrote link tag bytes)
+    → WroteSo link bytes count c roomy room t now → IsRouter service texts admin (with_entry log (Wrote link tag bytes)) now room
 
 pub client_carried : ClientWrites → (service : Service) (old new : Router) (link : LinkId) (c : ClientNo) (n : ℕ)
     → (tables old).links link ≡ None → (tables old).numbers link ≡ Some c → MayTake (sends_on old.marked link) n
-    → IsSame (tables new) (written_to c n (tables old)) → IsRoomyAfter c n old new → new.came ≡ old.came → new.texts ≡ old.texts
+    → IsSame (tables new) (written_to c n (tables old)) → IsRoomyAfter c n old new → new.came ≡ old.came → new.texts ≡ old.texts → work_of new ≡ work_of old
     → (sent : Sent) → sends_on old.marked link ≡ Some sent → Carries service (Wrote link sent.tag (take n sent.bytes)) old new
-client_carried law service old new link c n none numbered may same room came texts sent sends log follows stands =
+client_carried law service old new link c n none numbered may same room came texts work sent sends log follows stands =
     let to : IsSentTo (tables old) c sent = sent_to old.marked link c none numbered sent sends in
     let few : n ≤ length (due_in ((tables old).clients c)) = few_of old.marked link c none numbered n may in
     record {
-      router = subst (λ (k : Texts). IsRouter service k (with_entry log (Wrote link sent.tag (take n sent.bytes))) (tables new) (is_roomy new.roomy)) (sym texts)
-          (law service old.texts log (tables old) (tables new) (is_roomy old.roomy) (is_roomy new.roomy) link sent.tag
+      router = subst (λ (k : Texts). IsRouter service k (worked service (work_of new)) (with_entry log (Wrote link sent.tag (take n sent.bytes))) (tables new) (is_roomy new.roomy)) (sym texts)
+          (worked_same service old.texts (with_entry log (Wrote link sent.tag (take n sent.bytes))) (tables new) (is_roomy new.roomy) old new work
+          (law service old.texts (worked service (work_of old)) log (tables old) (tables new) (is_roomy old.roomy) (is_roomy new.roomy) link sent.tag
           (take n sent.bytes) n c stands.router follows
           (record {
             row = to.row;
@@ -121,7 +124,7 @@ client_carried law service old new link c n none numbered may same room came tex
             front = ap (take n) to.bytes;
             roomy_then = room to.row to.there;
             same = same;
-          }));
+          })));
       counted = come_as (with_entry log (Wrote link sent.tag (take n sent.bytes))) old.came new.came came
           (come_on log (Wrote link sent.tag (take n sent.bytes) ∷ []) old.came refl stands.counted);
     }

@@ -12,24 +12,23 @@ use Rattle.core_laws.specs.clients.Turns.{Choice, Halt}
 use Rattle.router_laws.specs.clients.Leaves.{LeavesAtOnce, LeavesGoing, is_at_rest}
 use Rattle.router_laws.specs.clients.Plans.{nobody}
 use Rattle.router_laws.specs.clients.Speaks.{SpeaksSo}
-use Rattle.core_promises.specs.Ruled.{AreRuled, ruling_of}
-use Rattle.core_texts.specs.Texts.{key_at}
-use Rattle.core_texts.specs.declared.texts.Texts.{Texts}
+use Rattle.core_promises.specs.Ruled.{AreRuled}
 use Rattle.router_laws.specs.decisions.Speaks.{IsOurs, IsPartingOurs}
+use Rattle.shared_core.specs.Follows.{Made, ruling_in}
 use Rattle.shared_core.specs.declared.leaving.Leaving.{Leaving}
 use Rattle.shared_core.specs.declared.leaving.Leaving.TheVariants as leaving
 
 -- Bytes came, and it went on.
-pub record HasSpoken (service : Service) (texts : Texts) (link : LinkId) (bytes : List ℕ) (c : ClientNo) (old new : Tabled) : Type 0 where
+pub record HasSpoken (service : Service) (made : Made) (link : LinkId) (bytes : List ℕ) (c : ClientNo) (old new : Tabled) : Type 0 where
   pub ordinal : ℕ
   pub choices : List Choice
   pub halt : Halt
   pub parting : Parting
   pub links : List LinkId
-  pub ours : All (IsOurs (rules_in service) texts c) choices
+  pub ours : All (IsOurs (rules_in service) made.texts c) choices
   pub word : IsPartingOurs parting
   pub so : SpeaksSo service.setup service.default_schema link bytes c ordinal choices halt parting links old new
-  pub ruled : AreRuled (ruling_of service texts.since (key_at texts)) choices halt service.setup service.default_schema c so.heard so.follows.turned so.follows.turns
+  pub ruled : AreRuled (ruling_in service made) choices halt service.setup service.default_schema c so.heard so.follows.turned so.follows.turns
 
 -- it goes on, and waits for an answer or isn't logged in
 pub record IsBusy (row : Client) : Type 0 where
@@ -55,13 +54,13 @@ pub record HasLeftAtOnce (link : LinkId) (c : ClientNo) (old new : Tabled) : Typ
   pub links : List LinkId
   pub so : LeavesAtOnce link links c nobody old new
 
-pub record HasLeftGoing (service : Service) (texts : Texts) (link : LinkId) (c : ClientNo) (old new : Tabled) : Type 0 where
+pub record HasLeftGoing (service : Service) (made : Made) (link : LinkId) (c : ClientNo) (old new : Tabled) : Type 0 where
   pub links : List LinkId
   pub ordinal : ℕ
   pub choices : List Choice
   pub halt : Halt
   pub parting : Parting
-  pub ours : All (IsOurs (rules_in service) texts c) choices
+  pub ours : All (IsOurs (rules_in service) made.texts c) choices
   pub word : IsPartingOurs parting
   pub so : LeavesGoing service.setup service.default_schema link links ordinal choices halt parting c old new
-  pub ruled : AreRuled (ruling_of service texts.since (key_at texts)) choices halt service.setup service.default_schema c so.between so.follows.turned so.follows.turns
+  pub ruled : AreRuled (ruling_in service made) choices halt service.setup service.default_schema c so.between so.follows.turned so.follows.turns

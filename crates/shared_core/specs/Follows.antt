@@ -19,7 +19,8 @@ use Rattle.core_laws.specs.clients.Follows.{FollowsSo, IsUnfaulty, Parting, Part
 use Rattle.core_laws.specs.clients.Going.{GivenUp, GoesSo, Going, IsCalled, is_going, told_to}
 use Rattle.core_laws.specs.clients.Turns.{Choice, Halt, MayLeave, Rests}
 use Rattle.own_words.specs.Own.{IsFailure}
-use Rattle.core_promises.specs.Ruled.{AreRuled, ruling_of}
+use Rattle.core_promises.specs.Administers.{Administered}
+use Rattle.core_promises.specs.Ruled.{AreRuled, Ruling, ruling_of}
 use Rattle.core_texts.specs.Texts.{AreMore, key_at}
 use Rattle.core_texts.specs.declared.texts.Texts.{Texts}
 use Rattle.router_laws.specs.decisions.Rulings.{AreRuledAll, IsRuledOn}
@@ -31,9 +32,33 @@ use Rattle.router_laws.specs.links.Loses.{IsGivenUpWith}
 use Rattle.router_laws.specs.wakes.Calling.{AllGoOn, Caller, CallerGoesOn, CallsSo}
 use Rattle.router_laws.specs.wakes.Deciding.{IsCallerOurs}
 use Rattle.shared_core.specs.Causes.{given_with, is_heard, is_lost}
+use Rattle.shared_core.specs.Stands.{work_of, worked}
 use Rattle.shared_core.specs.declared.router.Router.{Router}
 
--- What stays as it was, but for tables, marks, and what is chosen by; the links that aren't marked say no more than before, and texts are kept.
+-- The texts that are kept behind turns, and what administrators work on, before them and behind.
+pub record Made : Type 0 where
+  pub texts : Texts
+  pub was : Administered
+  pub is : Administered
+
+abbrev pub made_by : Service → (old new : Router) → Made
+made_by service old new = record { texts = new.texts; was = worked service (work_of old); is = worked service (work_of new) }
+
+abbrev pub ruling_in : Service → Made → Ruling
+ruling_in service made = ruling_of service made.texts.since (key_at made.texts) made.was made.is
+
+-- What stays as it was as clients go on: all but tables, marks, what is chosen by, and what administrators work on; the links that aren't marked
+-- say no more than before, and texts are kept.
+pub record KeepsBut (old new : Router) : Type 0 where
+  pub goes : GoesOn old.marked new.marked
+  pub roomy : new.roomy ≡ old.roomy
+  pub came : new.came ≡ old.came
+  pub asked : new.asked ≡ old.asked
+  pub client : new.leaving ≡ old.leaving
+  pub link : new.closing ≡ old.closing
+  pub texts : AreMore old.texts new.texts
+
+-- and else what administrators work on too
 pub record Keeps (old new : Router) : Type 0 where
   pub goes : GoesOn old.marked new.marked
   pub roomy : new.roomy ≡ old.roomy
@@ -42,6 +67,7 @@ pub record Keeps (old new : Router) : Type 0 where
   pub client : new.leaving ≡ old.leaving
   pub link : new.closing ≡ old.closing
   pub texts : AreMore old.texts new.texts
+  pub work : work_of new ≡ work_of old
 
 -- one of these clients
 abbrev pub is_of : List ClientNo → ClientNo → Bool
@@ -68,15 +94,15 @@ known_more t l known = if is_some (t.links l) then known ++ l ∷ [] else known
 
 -- A client took up what it could, and was ended, if it was to. What it was answered, and its last word, are the router's own, and what became of
 -- each message is what the verdict says.
-pub record HasGone (service : Service) (texts : Texts) (c : ClientNo) (ends : Bool) (old new : Tabled) : Type 0 where
+pub record HasGone (service : Service) (made : Made) (c : ClientNo) (ends : Bool) (old new : Tabled) : Type 0 where
   pub choices : List Choice
   pub halt : Halt
   pub parting : Parting
-  pub ours : All (IsOurs (rules_in service) texts c) choices
+  pub ours : All (IsOurs (rules_in service) made.texts c) choices
   pub word : IsPartingOurs parting
   pub goes : CallerGoesOn service.setup service.default_schema
       (record { client = c; choices = choices; halt = halt; parting = parting }) old new
-  pub ruled : AreRuled (ruling_of service texts.since (key_at texts)) choices halt service.setup service.default_schema c old goes.turned goes.turns
+  pub ruled : AreRuled (ruling_in service made) choices halt service.setup service.default_schema c old goes.turned goes.turns
   pub ended : ends ≡ true → ends_by halt parting ≡ true
 
 -- How it was ended behind its turns.
@@ -105,33 +131,33 @@ pub record MayEnd (c : ClientNo) (t : Tabled) : Type 0 where
   pub lives : MayLeave row
 
 -- And links were given back that carried its sessions.
-pub record HasFollowed (service : Service) (texts : Texts) (c : ClientNo) (ends : Bool) (old new : Tabled) : Type 0 where
+pub record HasFollowed (service : Service) (made : Made) (c : ClientNo) (ends : Bool) (old new : Tabled) : Type 0 where
   pub choices : List Choice
   pub halt : Halt
   pub parting : Parting
   pub links : List LinkId
-  pub ours : All (IsOurs (rules_in service) texts c) choices
+  pub ours : All (IsOurs (rules_in service) made.texts c) choices
   pub word : IsPartingOurs parting
   pub follows : FollowsSo service.setup service.default_schema c choices halt parting links old new
-  pub ruled : AreRuled (ruling_of service texts.since (key_at texts)) choices halt service.setup service.default_schema c old follows.turned follows.turns
+  pub ruled : AreRuled (ruling_in service made) choices halt service.setup service.default_schema c old follows.turned follows.turns
   pub ended : ends ≡ true → ends_by halt parting ≡ true
 
 -- Several clients did, one after the other.
-pub record HaveFollowed (service : Service) (texts : Texts) (clients : List ClientNo) (old new : Tabled) : Type 0 where
+pub record HaveFollowed (service : Service) (made : Made) (clients : List ClientNo) (old new : Tabled) : Type 0 where
   pub callers : List Caller
   pub links : List LinkId
   pub named : map (λ (k : Caller). k.client) callers ≡ clients
-  pub ours : All (IsCallerOurs (rules_in service) texts) callers
+  pub ours : All (IsCallerOurs (rules_in service) made.texts) callers
   pub calls : CallsSo service.setup service.default_schema callers links old new
-  pub ruled : AreRuledAll (ruling_of service texts.since (key_at texts)) callers service.setup service.default_schema old calls.turned calls.going
+  pub ruled : AreRuledAll (ruling_in service made) callers service.setup service.default_schema old calls.turned calls.going
 
 -- by what they were called
-pub record HaveGone (service : Service) (texts : Texts) (clients : List ClientNo) (old new : Tabled) : Type 0 where
+pub record HaveGone (service : Service) (made : Made) (clients : List ClientNo) (old new : Tabled) : Type 0 where
   pub callers : List Caller
   pub named : map (λ (k : Caller). k.client) callers ≡ clients
-  pub ours : All (IsCallerOurs (rules_in service) texts) callers
+  pub ours : All (IsCallerOurs (rules_in service) made.texts) callers
   pub going : AllGoOn callers service.setup service.default_schema old new
-  pub ruled : AreRuledAll (ruling_of service texts.since (key_at texts)) callers service.setup service.default_schema old new going
+  pub ruled : AreRuledAll (ruling_in service made) callers service.setup service.default_schema old new going
 
 -- The router answered a client's statement itself, by this failure.
 pub record HasAnswered (c : ClientNo) (why : Failure) (old new : Tabled) : Type 0 where
@@ -175,9 +201,9 @@ abbrev pub called_by : Option SessionName → (given : Option ClientNo) → Tabl
 called_by (Some name) given t = if is_going (t.clients name.client) then Some name.client else None
 called_by None given t = given
 
-pub record HasCalled (service : Service) (texts : Texts) (name : Option SessionName) (told : Option GivenUp) (old new : Tabled) : Type 0 where
+pub record HasCalled (service : Service) (made : Made) (name : Option SessionName) (told : Option GivenUp) (old new : Tabled) : Type 0 where
   pub going : Option Going
   pub called : IsCalled name told old (option_map (λ (g : Going). g.client) going)
-  pub ours : AreGoingOurs (rules_in service) texts going
+  pub ours : AreGoingOurs (rules_in service) made.texts going
   pub goes : GoesSo going service.setup service.default_schema old new
-  pub ruled : IsRuledOn (ruling_of service texts.since (key_at texts)) going service.setup service.default_schema old new goes
+  pub ruled : IsRuledOn (ruling_in service made) going service.setup service.default_schema old new goes

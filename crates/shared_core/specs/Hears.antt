@@ -4,12 +4,11 @@ use Rattle.mx_base.specs.declared.names.LinkId.{LinkId}
 use Rattle.core_service.specs.Serves.{rules_in}
 use Rattle.core_service.specs.declared.service.Service.{Service}
 use Rattle.core_laws.specs.clients.Going.{GivenUp, Going}
-use Rattle.core_promises.specs.Ruled.{ruling_of}
-use Rattle.core_texts.specs.Texts.{key_at}
 use Rattle.router_laws.specs.decisions.Causes.{IsHeardFor}
 use Rattle.router_laws.specs.decisions.Rulings.{IsRuledOn}
 use Rattle.router_laws.specs.decisions.Speaks.{AreGivenOurs, AreGoingOurs}
 use Rattle.router_laws.specs.reading.Hears.{HearsSo}
+use Rattle.shared_core.specs.Follows.{made_by, ruling_in}
 use Rattle.shared_core.specs.Stands.{tables}
 use Rattle.shared_core.specs.declared.router.Router.{Router}
 
@@ -21,4 +20,4 @@ pub record HasHeard (service : Service) (link : LinkId) (bytes : List ℕ) (old 
   pub why : IsHeardFor link (tables old) given
   pub ours : AreGoingOurs (rules_in service) new.texts going
   pub so : HearsSo service.setup service.default_schema link bytes old.clock given going (tables old) (tables new)
-  pub ruled : IsRuledOn (ruling_of service new.texts.since (key_at new.texts)) going service.setup service.default_schema so.freed (tables new) so.goes
+  pub ruled : IsRuledOn (ruling_in service (made_by service old new)) going service.setup service.default_schema so.freed (tables new) so.goes

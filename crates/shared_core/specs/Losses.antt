@@ -16,14 +16,11 @@ use Rattle.core_tables.specs.declared.server.Server.{Server}
 use Rattle.core_laws.specs.clients.Going.{GivenUp, Going}
 use Rattle.core_laws.specs.parting.Partings.{IsAtWork}
 use Rattle.router_laws.specs.links.Loses.{GoesWithIt, LosesEnded, LosesSo}
-use Rattle.core_promises.specs.Ruled.{ruling_of}
-use Rattle.core_texts.specs.Texts.{key_at}
-use Rattle.core_texts.specs.declared.texts.Texts.{Texts}
 use Rattle.marked_tables.specs.Marking.{carried_at}
 use Rattle.router_laws.specs.decisions.Causes.{IsLostFor}
 use Rattle.router_laws.specs.decisions.Rulings.{IsRuledOn}
 use Rattle.router_laws.specs.decisions.Speaks.{AreGivenOurs, AreGoingOurs}
-use Rattle.shared_core.specs.Follows.{MayBeGivenWith}
+use Rattle.shared_core.specs.Follows.{Made, MayBeGivenWith, ruling_in}
 
 -- this client's statement is given up
 abbrev pub is_given : Option GiveUp → ClientNo → Bool
@@ -55,14 +52,14 @@ pub record MayLose (link : LinkId) (name : Option SessionName) (given : Option G
   pub with_it : GoesWithIt link (is_given given) t
 
 -- A statement was given up, if one was, and a client went on, if one was called.
-pub record HasLost (service : Service) (texts : Texts) (link : LinkId) (old new : Tabled) : Type 0 where
+pub record HasLost (service : Service) (made : Made) (link : LinkId) (old new : Tabled) : Type 0 where
   pub given : Option GivenUp
   pub going : Option Going
   pub given_ours : AreGivenOurs given
   pub why : IsLostFor link old given
-  pub ours : AreGoingOurs (rules_in service) texts going
+  pub ours : AreGoingOurs (rules_in service) made.texts going
   pub so : LosesSo service.setup service.default_schema link given going old new
-  pub ruled : IsRuledOn (ruling_of service texts.since (key_at texts)) going service.setup service.default_schema so.lost new so.goes
+  pub ruled : IsRuledOn (ruling_in service made) going service.setup service.default_schema so.lost new so.goes
 
 -- Or a client was ended with it.
 pub record HasLostEnded (link : LinkId) (c : ClientNo) (old new : Tabled) : Type 0 where

@@ -11,7 +11,7 @@ use Rattle.core_service.specs.declared.service.Service.{Service}
 use Rattle.marked_tables.specs.Goes.{AreKnown, reads_on}
 use Rattle.router_laws.specs.waits.Drained.{IsDrainedFor}
 use Rattle.shared_core.specs.Says.{target_of}
-use Rattle.shared_core.specs.Stands.{CarriesWhere, IsClosed, PartsFor, shown, tables}
+use Rattle.shared_core.specs.Stands.{CarriesWhere, IsClosed, IsSettled, PartsFor, shown, tables}
 use Rattle.shared_core.specs.declared.whole.Core.{Core}
 use Rattle.shared_core.specs.declared.router.Router.{Router}
 
@@ -40,7 +40,7 @@ IsDueIn r (event.Got link) log = reads_on r.marked link ≡ true
 IsDueIn r (event.Woke now_ms) log = IsDrainedFor (tables r) log
 IsDueIn r _ log = Unit {0}
 
--- The router carries over whatever entry it is told of by an event.
+-- The router carries over whatever entry it is told of by an event, where all rules that were loaded are in force.
 abbrev pub Tells : Service → Event → (bytes : List ℕ) → (old new : Router) → Type 0
 Tells service event bytes old new =
-    (until_ms : ℕ) (e : Entry) → IsToldOf until_ms (option_map target_of old.asked) event bytes e → CarriesWhere (IsDueIn old event) service e old new
+    IsSettled old → (until_ms : ℕ) (e : Entry) → IsToldOf until_ms (option_map target_of old.asked) event bytes e → CarriesWhere (IsDueIn old event) service e old new

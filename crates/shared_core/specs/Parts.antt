@@ -7,7 +7,7 @@ use Rattle.core_tables.specs.Tables.{IsSame, Tabled}
 use Rattle.core_tables.specs.declared.client.Client.{Client}
 use Rattle.marked_tables.specs.Goes.{GoesOn}
 use Rattle.shared_core.specs.Rows.{HasLives}
-use Rattle.shared_core.specs.Stands.{tables}
+use Rattle.shared_core.specs.Stands.{tables, work_of}
 use Rattle.shared_core.specs.declared.router.Router.{Router}
 
 -- no link carries it
@@ -26,4 +26,5 @@ pub record ForgetsBy (without : Tabled → Tabled) (old new : Router) : Type 0 w
   pub goes : GoesOn old.marked new.marked
   pub roomy : new.roomy ≡ old.roomy
   pub texts : new.texts ≡ old.texts
+  pub work : work_of new ≡ work_of old
   pub came : new.came ≡ old.came

@@ -2,11 +2,17 @@
 use Rattle.std.specs.Prelude.{◌≡◌, ◌||◌, ℕ, Bool, length, nat_eq, [], ◌∷◌, ◌++◌, Option, Some, None, IsSome}
 use Rattle.std.specs.BTreeSet.{keys}
 use Rattle.std.specs.List.{list_any}
+use Rattle.std.specs.Option.{option_map_or}
+use Rattle.admin_port.specs.Staged.{StagedRows}
+use Rattle.query_rules.specs.Passing.{rules_of}
+use Rattle.query_rules.specs.declared.rules.Rules.{Rules}
+use Rattle.core_promises.specs.Administers.{Administered}
 use Rattle.mx_wire.specs.Log.{AreMarks, Log, accepted_links}
 use Rattle.mx_wire.specs.Tells.{IsOpen, MayFollow}
 use Rattle.mx_wire.specs.declared.entry.Entry.{Entry}
 use Rattle.mx_wire.specs.declared.entry.Entry.TheVariants.{Closed, Ended, ReadFailed, WriteFailed}
 use Rattle.private_model.specs.Names.{ClientNo, LinkId}
+use Rattle.core_service.specs.Serves.{rules_in}
 use Rattle.core_service.specs.declared.service.Service.{Service}
 use Rattle.core_tables.specs.Arrivals.{forgotten}
 use Rattle.core_tables.specs.Parting.{lost_in, unlinked}
@@ -25,7 +31,24 @@ use Rattle.shared_core.specs.declared.came.Came.{Came}
 use Rattle.shared_core.specs.declared.roomy.Roomy.{Roomy}
 use Rattle.shared_core.specs.declared.router.Router.{Router}
 
--- What it stands for a log by: its tables, who has room again, how many clients came, what is being closed, and the texts that are kept.
+-- What administrators work on: the rows that are staged, and the rules that are to come in force.
+pub record Work : Type 0 where
+  pub staged : StagedRows
+  pub loaded : Option Rules
+
+abbrev pub work_of : Router → Work
+work_of r = record { staged = r.admin.staged; loaded = r.admin.loaded }
+
+-- with the rules that are in force until then
+abbrev pub worked : Service → Work → Administered
+worked service work = record { staged = work.staged; rules = option_map_or rules_of work.loaded (rules_in service) }
+
+-- all that were loaded are in force
+abbrev pub IsSettled : Router → Type 0
+IsSettled r = r.admin.loaded ≡ None
+
+-- What it stands for a log by: its tables, who has room again, how many clients came, what is being closed, the texts that are kept, and what
+-- administrators work on.
 pub record Shown : Type 0 where
   pub marked : MarkedTables
   pub roomy : Roomy
@@ -33,9 +56,10 @@ pub record Shown : Type 0 where
   pub leaving : Option ClientNo
   pub closing : Option LinkId
   pub texts : Texts
+  pub work : Work
 
 abbrev pub shown : Router → Shown
-shown r = record { marked = r.marked; roomy = r.roomy; came = r.came; leaving = r.leaving; closing = r.closing; texts = r.texts }
+shown r = record { marked = r.marked; roomy = r.roomy; came = r.came; leaving = r.leaving; closing = r.closing; texts = r.texts; work = work_of r }
 
 abbrev pub tables_in : Shown → Tabled
 tables_in s = tables_of s.marked.tables
@@ -47,7 +71,7 @@ abbrev pub is_roomy : Roomy → ClientNo → Bool
 is_roomy roomy c = roomy.all || list_any (nat_eq c.0) (keys roomy.some)
 
 pub record StandsBy (service : Service) (log : Log) (t : Tabled) (s : Shown) : Type 0 where
-  pub router : IsRouter service s.texts log t (is_roomy s.roomy)
+  pub router : IsRouter service s.texts (worked service s.work) log t (is_roomy s.roomy)
   pub counted : HaveCome log s.came
 
 abbrev pub StandsFor : Service → Log → Router → Type 0
@@ -80,6 +104,7 @@ pub record SettlesSo (old new : Router) : Type 0 where
   pub roomy : new.roomy ≡ old.roomy
   pub came : new.came ≡ old.came
   pub texts : new.texts ≡ old.texts
+  pub work : work_of new ≡ work_of old
 
 -- Only what is chosen by changes, and when the router is to be woken.
 pub record Chooses (old new : Router) : Type 0 where
@@ -114,6 +139,7 @@ pub record Forgets (old new : Router) : Type 0 where
   pub roomy : new.roomy ≡ old.roomy
   pub came : new.came ≡ old.came
   pub texts : new.texts ≡ old.texts
+  pub work : work_of new ≡ work_of old
 
 -- A close is asked for of a link that is open: by its end, behind a farewell or without one, the router stands for the log with it. `Before` is
 -- how it stood for the log.

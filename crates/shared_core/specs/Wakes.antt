@@ -7,15 +7,12 @@ use Rattle.core_service.specs.declared.service.Service.{Service}
 use Rattle.core_tables.specs.Tables.{Tabled}
 use Rattle.core_laws.specs.clients.Going.{GivenUp, is_going}
 use Rattle.router_laws.specs.wakes.Calling.{Caller, GivesUpAll, IsThere, IsUnsent, is_given}
-use Rattle.core_promises.specs.Ruled.{ruling_of}
-use Rattle.core_texts.specs.Texts.{key_at}
-use Rattle.core_texts.specs.declared.texts.Texts.{Texts}
 use Rattle.router_laws.specs.decisions.Causes.{AreLate, AreRefused}
 use Rattle.router_laws.specs.decisions.Rulings.{AreRuledAll}
 use Rattle.router_laws.specs.decisions.Speaks.{IsGivenOurs}
 use Rattle.router_laws.specs.wakes.Deciding.{IsCallerOurs}
 use Rattle.router_laws.specs.wakes.Waking.{FailsSo, WakesSo}
-use Rattle.shared_core.specs.Follows.{AreRising, is_of}
+use Rattle.shared_core.specs.Follows.{AreRising, Made, is_of, ruling_in}
 use Rattle.shared_core.specs.Stands.{is_roomy}
 use Rattle.shared_core.specs.declared.roomy.Roomy.{Roomy}
 
@@ -50,23 +47,23 @@ pub record AreCalled (called : Roomy) (clients : List ClientNo) (t : Tabled) : T
   pub all : (c : ClientNo) → is_roomy called c ≡ true → is_going (t.clients c) ≡ true → is_of clients c ≡ true
 
 -- Some were given up, and those clients and all that have room again went on.
-pub record HasWoken (service : Service) (texts : Texts) (now_ms : ℕ) (came : Bool) (roomy : Roomy) (old new : Tabled) : Type 0 where
+pub record HasWoken (service : Service) (made : Made) (now_ms : ℕ) (came : Bool) (roomy : Roomy) (old new : Tabled) : Type 0 where
   pub given : List GivenUp
   pub callers : List Caller
   pub links : List LinkId
   pub given_ours : All IsGivenOurs given
   pub late : AreLate service.wait_ms now_ms came given
-  pub ours : All (IsCallerOurs (rules_in service) texts) callers
+  pub ours : All (IsCallerOurs (rules_in service) made.texts) callers
   pub so : WakesSo service.setup service.default_schema given callers links (is_roomy roomy) old new
-  pub ruled : AreRuledAll (ruling_of service texts.since (key_at texts)) callers service.setup service.default_schema so.late so.calls.turned so.calls.going
+  pub ruled : AreRuledAll (ruling_in service made) callers service.setup service.default_schema so.late so.calls.turned so.calls.going
 
 -- One was given up, if one was, and its client went on.
-pub record HasFailed (service : Service) (texts : Texts) (old new : Tabled) : Type 0 where
+pub record HasFailed (service : Service) (made : Made) (old new : Tabled) : Type 0 where
   pub given : List GivenUp
   pub callers : List Caller
   pub links : List LinkId
   pub given_ours : All IsGivenOurs given
   pub refused : AreRefused given
-  pub ours : All (IsCallerOurs (rules_in service) texts) callers
+  pub ours : All (IsCallerOurs (rules_in service) made.texts) callers
   pub so : FailsSo service.setup service.default_schema given callers links old new
-  pub ruled : AreRuledAll (ruling_of service texts.since (key_at texts)) callers service.setup service.default_schema so.late so.calls.turned so.calls.going
+  pub ruled : AreRuledAll (ruling_in service made) callers service.setup service.default_schema so.late so.calls.turned so.calls.going

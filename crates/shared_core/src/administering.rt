@@ -1,5 +1,6 @@
 // What follows of a client's turns for what is chosen by.
-ghost use Rattle.std.specs.Prelude.{◌≤◌, All, OnOk};
+ghost use Rattle.std.specs.Prelude.{◌≡◌, IfOk, IsPermutation, None, OnOk};
+ghost use Rattle.mx_config.specs.Lawful.{IsLawful};
 ghost use Rattle.shared_core.specs.Stands.{Chooses};
 
 use crate::router::Router;
@@ -10,7 +11,9 @@ use std::alloc::Global;
 
 /// Staged are the rows of a configuration that was read.
 pub(crate) fn admin_of(alloc: Global, config: &Config) -> Result<Administrator, OutOfMemory>
-    requires { All (λ row. 1 ≤ row.weight) config.now.servers }
+    requires { IsLawful config.now }
+    ensures unloaded { IfOk result (λ admin. admin.loaded ≡ None) }
+    ensures staged { IfOk result (λ admin. IsPermutation config.now.rules admin.staged.rules) }
 {
     Administrator::of(alloc, config.servers.as_slice(), config.rules.as_slice())
 }

@@ -8,8 +8,8 @@ ghost use Rattle.router_laws.specs.clients.Speaks.{IsLinkOf};
 ghost use Rattle.marked_tables.specs.Goes.{reads_on};
 ghost use Rattle.mx_wire.specs.declared.entry.Entry.TheVariants as entry;
 ghost use Rattle.shared_core.specs.Clients.{HasSpoken};
-ghost use Rattle.shared_core.specs.Follows.{Keeps};
-ghost use Rattle.shared_core.specs.Stands.{Carries, Moves, tables};
+ghost use Rattle.shared_core.specs.Follows.{Keeps, KeepsBut, made_by};
+ghost use Rattle.shared_core.specs.Stands.{Carries, IsSettled, Moves, tables};
 
 use crate::router::Router;
 use client_seat::Seat;
@@ -98,7 +98,7 @@ impl Router {
     ) -> Result<(), OutOfMemory>
         requires { HasBegun self.old.texts }
         ensures carries { OnOk result ((tables self.old).links link ≡ None → reads_on self.old.marked link ≡ true
-            → Carries service.now (entry.Got link bytes.now) self.old self.new) }
+            → IsSettled self.old → Carries service.now (entry.Got link bytes.now) self.old self.new) }
         ensures moves { OnOk result (Moves self.old self.new) }
     {
         router_laws::entering::speaks_router();
@@ -117,8 +117,8 @@ impl Router {
         bytes: &[u8],
     ) -> Result<(), OutOfMemory>
         ensures spoken { OnOk result ((row : Client) → IsLinkOf link client row (tables self.old)
-            → is_ended row.desk.seat.phase ≡ false → HasSpoken service.now self.new.texts link bytes.now client (tables self.old) (tables self.new)) }
-        ensures keeps { OnOk result (Keeps self.old self.new) }
+            → is_ended row.desk.seat.phase ≡ false → HasSpoken service.now (made_by service.now self.old self.new) link bytes.now client (tables self.old) (tables self.new)) }
+        ensures keeps { OnOk result (KeepsBut self.old self.new) }
     {
         if self.is_there(client) {
             self.marked.client_says(client, bytes)?;

@@ -6,10 +6,8 @@ ghost use Rattle.core_laws.specs.clients.Turns.{Rests, Waits};
 ghost use Rattle.core_tables.specs.Parting.{freed_in};
 ghost use Rattle.core_tables.specs.Tables.{IsSame};
 ghost use Rattle.core_turns.specs.Turned.{HasGoneOn, RuledTurns, halt_of};
-ghost use Rattle.core_promises.specs.Ruled.{ruling_of};
-ghost use Rattle.core_texts.specs.Texts.{key_at};
 ghost use Rattle.core_laws.specs.entry.Freeing.{all_freed};
-ghost use Rattle.shared_core.specs.Follows.{AreAllHomes, AreRising, HasFollowed, HasGone, HasParted, HaveFollowed, HaveGone, IsRested, Keeps, MayEnd, RestsBehind, is_of, known_in, known_more};
+ghost use Rattle.shared_core.specs.Follows.{AreAllHomes, AreRising, HasFollowed, HasGone, HasParted, HaveFollowed, HaveGone, IsRested, Keeps, KeepsBut, MayEnd, RestsBehind, is_of, known_in, known_more, made_by, ruling_in};
 ghost use Rattle.shared_core.specs.Stands.{Chooses, tables};
 ghost use Rattle.router_laws.specs.wakes.Calling.{AreHomesOf, IsThere};
 
@@ -31,8 +29,8 @@ impl Router {
         ends: bool,
     ) -> Result<(), OutOfMemory>
         ensures follows { OnOk result (is_going ((tables self.old).clients client) ≡ true
-            → HasFollowed service.now self.new.texts client ends (tables self.old) (tables self.new)) }
-        ensures keeps { OnOk result (Keeps self.old self.new) }
+            → HasFollowed service.now (made_by service.now self.old self.new) client ends (tables self.old) (tables self.new)) }
+        ensures keeps { OnOk result (KeepsBut self.old self.new) }
     {
         let homes = self.homes_of(&[client])?;
         self.goes_on(service, client, ends)?;
@@ -49,8 +47,8 @@ impl Router {
     ) -> Result<(), OutOfMemory>
         ensures follow { OnOk result (AreRising clients.now
             → All (λ c. IsThere (tables self.old) c) clients.now
-            → HaveFollowed service.now self.new.texts clients.now (tables self.old) (tables self.new)) }
-        ensures keeps { OnOk result (Keeps self.old self.new) }
+            → HaveFollowed service.now (made_by service.now self.old self.new) clients.now (tables self.old) (tables self.new)) }
+        ensures keeps { OnOk result (KeepsBut self.old self.new) }
     {
         let homes = self.homes_of(clients)?;
         self.all_go_on(service, clients, ending)?;
@@ -67,8 +65,8 @@ impl Router {
     ) -> Result<(), OutOfMemory>
         ensures go { OnOk result (AreRising clients.now
             → All (λ c. IsThere (tables self.old) c) clients.now
-            → HaveGone service.now self.new.texts clients.now (tables self.old) (tables self.new)) }
-        ensures keeps { OnOk result (Keeps self.old self.new) }
+            → HaveGone service.now (made_by service.now self.old self.new) clients.now (tables self.old) (tables self.new)) }
+        ensures keeps { OnOk result (KeepsBut self.old self.new) }
     {
         for client in clients {
             let ends = ending.contains(&client.0);
@@ -92,8 +90,8 @@ impl Router {
         ends: bool,
     ) -> Result<(), OutOfMemory>
         ensures goes { OnOk result (is_going ((tables self.old).clients client) ≡ true
-            → HasGone service.now self.new.texts client ends (tables self.old) (tables self.new)) }
-        ensures keeps { OnOk result (Keeps self.old self.new) }
+            → HasGone service.now (made_by service.now self.old self.new) client ends (tables self.old) (tables self.new)) }
+        ensures keeps { OnOk result (KeepsBut self.old self.new) }
     {
         let took = self.takes_turns(service, client)?;
         match took {
@@ -111,9 +109,9 @@ impl Router {
         service: &Service,
         client: ClientNo,
     ) -> Result<Option<Went>, OutOfMemory>
-        ensures is { IfOk result (λ went. HasGoneOn RuledTurns went (ruling_of service.now self.new.texts.since (key_at self.new.texts)) service.now.setup
+        ensures is { IfOk result (λ went. HasGoneOn RuledTurns went (ruling_in service.now (made_by service.now self.old self.new)) service.now.setup
             service.now.default_schema client (tables self.old) (tables self.new)) }
-        ensures keeps { OnOk result (Keeps self.old self.new) }
+        ensures keeps { OnOk result (KeepsBut self.old self.new) }
     {
         let went = self.takes_up(service, client)?;
         self.took(client, &went)?;
@@ -122,9 +120,9 @@ impl Router {
 
     // An administrator is shown what the router tells of itself.
     fn takes_up(&mut self, service: &Service, client: ClientNo) -> Result<Option<Went>, OutOfMemory>
-        ensures is { IfOk result (λ went. HasGoneOn RuledTurns went (ruling_of service.now self.new.texts.since (key_at self.new.texts)) service.now.setup
+        ensures is { IfOk result (λ went. HasGoneOn RuledTurns went (ruling_in service.now (made_by service.now self.old self.new)) service.now.setup
             service.now.default_schema client (tables self.old) (tables self.new)) }
-        ensures keeps { OnOk result (Keeps self.old self.new) }
+        ensures keeps { OnOk result (KeepsBut self.old self.new) }
     {
         let shown = self
             .policy

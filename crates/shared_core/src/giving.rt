@@ -3,7 +3,7 @@ ghost use Rattle.std.specs.Prelude.{◌≡◌, IfSome, OnOk, Option, true};
 ghost use Rattle.core_laws.specs.clients.Going.{GivenUp};
 ghost use Rattle.router_laws.specs.links.Loses.{IsGivenUpWith};
 ghost use Rattle.router_laws.specs.reading.Givings.{MayBeGivenUp};
-ghost use Rattle.shared_core.specs.Follows.{HasAnswered, HasCalled, HasGiven, IsFor, Keeps, MayBeGiven, MayBeGivenWith, called_by, told_client, up_client};
+ghost use Rattle.shared_core.specs.Follows.{HasAnswered, HasCalled, HasGiven, IsFor, Keeps, KeepsBut, MayBeGiven, MayBeGivenWith, called_by, made_by, told_client, up_client};
 ghost use Rattle.shared_core.specs.Causes.{is_heard, is_late, is_lost, is_refused};
 ghost use Rattle.shared_core.specs.Stands.{tables};
 ghost use Rattle.shared_core.specs.Wakes.{IsWaiting};
@@ -219,8 +219,8 @@ impl Router {
     ) -> Result<(), OutOfMemory>
         ensures calls { OnOk result ((told : Option GivenUp) → told_client told ≡ up_client given
             → IfSome given (λ up. IsFor name up.client (tables self.old))
-            → HasCalled service.now self.new.texts name told (tables self.old) (tables self.new)) }
-        ensures keeps { OnOk result (Keeps self.old self.new) }
+            → HasCalled service.now (made_by service.now self.old self.new) name told (tables self.old) (tables self.new)) }
+        ensures keeps { OnOk result (KeepsBut self.old self.new) }
     {
         match self.called_by(name, given) {
             Some(client) => {

@@ -4,9 +4,9 @@ ghost use Rattle.core_texts.specs.Texts.{HasBegun};
 ghost use Rattle.marked_tables.specs.Goes.{reads_on};
 ghost use Rattle.mx_base.specs.Fields.{AreBytes};
 ghost use Rattle.mx_wire.specs.declared.entry.Entry.TheVariants as entry;
-ghost use Rattle.shared_core.specs.Follows.{Keeps};
+ghost use Rattle.shared_core.specs.Follows.{KeepsBut};
 ghost use Rattle.shared_core.specs.Hears.{HasHeard};
-ghost use Rattle.shared_core.specs.Stands.{Carries, Moves, tables};
+ghost use Rattle.shared_core.specs.Stands.{Carries, IsSettled, Moves, tables};
 
 use crate::router::Router;
 use core_service::Service;
@@ -22,7 +22,7 @@ impl Router {
     ) -> Result<(), OutOfMemory>
         requires { HasBegun self.old.texts }
         ensures carries { OnOk result (IsSome ((tables self.old).links link) → reads_on self.old.marked link ≡ true
-            → Carries service.now (entry.Got link bytes.old) self.old self.new) }
+            → IsSettled self.old → Carries service.now (entry.Got link bytes.old) self.old self.new) }
         ensures moves { OnOk result (Moves self.old self.new) }
     {
         router_laws::reading::hears_router();
@@ -39,7 +39,7 @@ impl Router {
     ) -> Result<(), OutOfMemory>
         ensures hears { OnOk result (IsSome ((tables self.old).links link) → reads_on self.old.marked link ≡ true
             → HasHeard service.now link bytes.old self.old self.new) }
-        ensures keeps { OnOk result (Keeps self.old self.new) }
+        ensures keeps { OnOk result (KeepsBut self.old self.new) }
         ensures bytes { AreBytes bytes.old }
     {
         router_laws::reading::hears_so();

@@ -7,9 +7,9 @@ ghost use Rattle.mx_base.specs.declared.names.ClientNo.{ClientNo};
 ghost use Rattle.mx_base.specs.declared.names.LinkId.{LinkId};
 ghost use Rattle.router_laws.specs.clients.Leaves.{LeavesAgain};
 ghost use Rattle.shared_core.specs.Clients.{HasLeftAtOnce, HasLeftGoing, LeavesBy};
-ghost use Rattle.shared_core.specs.Follows.{Keeps};
+ghost use Rattle.shared_core.specs.Follows.{Keeps, KeepsBut, made_by};
 ghost use Rattle.shared_core.specs.Rows.{HasLives};
-ghost use Rattle.shared_core.specs.Stands.{Loses, Moves, tables};
+ghost use Rattle.shared_core.specs.Stands.{IsSettled, Loses, Moves, tables};
 
 use crate::router::Router;
 use crate::rows::{is_at_rest, is_ended, may_leave};
@@ -53,7 +53,7 @@ impl Router {
         client: ClientNo,
     ) -> Result<(), OutOfMemory>
         requires { HasBegun self.old.texts }
-        ensures loses { OnOk result ((tables self.old).numbers link ≡ Some client → Loses service.now link self.old self.new) }
+        ensures loses { OnOk result ((tables self.old).numbers link ≡ Some client → IsSettled self.old → Loses service.now link self.old self.new) }
         ensures moves { OnOk result (Moves self.old self.new) }
     {
         router_laws::entering::leaves_again_router();
@@ -121,8 +121,8 @@ impl Router {
     fn leaves_going(&mut self, service: &Service, client: ClientNo) -> Result<(), OutOfMemory>
         requires { LeavesBy Leaving.GoingOn client (tables self.old) }
         ensures leaves { OnOk result ((link : LinkId) → (tables self.old).numbers link ≡ Some client
-            → HasLeftGoing service.now self.new.texts link client (tables self.old) (tables self.new)) }
-        ensures keeps { OnOk result (Keeps self.old self.new) }
+            → HasLeftGoing service.now (made_by service.now self.old self.new) link client (tables self.old) (tables self.new)) }
+        ensures keeps { OnOk result (KeepsBut self.old self.new) }
     {
         if self.has_lives(client) {
             let homes = self.homes_of(&[client])?;

@@ -3,9 +3,9 @@ ghost use Rattle.std.specs.Prelude.{◌≡◌, IfOk, IsSome, OnOk};
 ghost use Rattle.core_texts.specs.Texts.{HasBegun};
 ghost use Rattle.core_tables.specs.Parting.{lost_in};
 ghost use Rattle.core_tables.specs.Tables.{IsSame};
-ghost use Rattle.shared_core.specs.Follows.{Keeps};
+ghost use Rattle.shared_core.specs.Follows.{Keeps, KeepsBut, made_by};
 ghost use Rattle.shared_core.specs.Losses.{EndsWith, HasLost, HasLostEnded, IsHeldBy, MayLose, is_given};
-ghost use Rattle.shared_core.specs.Stands.{Loses, Moves, tables};
+ghost use Rattle.shared_core.specs.Stands.{IsSettled, Loses, Moves, tables};
 
 use crate::router::Router;
 use crate::rows::{present_on, works_in};
@@ -27,7 +27,7 @@ impl Router {
     /// A read of a link ended, or a call on it failed.
     pub(crate) fn lost(&mut self, service: &Service, link: LinkId) -> Result<(), OutOfMemory>
         requires { HasBegun self.old.texts }
-        ensures loses { OnOk result (Loses service.now link self.old self.new) }
+        ensures loses { OnOk result (IsSettled self.old → Loses service.now link self.old self.new) }
         ensures moves { OnOk result (Moves self.old self.new) }
     {
         if self.marked.server(link).is_some() {
@@ -42,7 +42,7 @@ impl Router {
     // A link to a server is lost, and with it the present session that it carries: the statement there is given up, or its client ends.
     fn server_lost(&mut self, service: &Service, link: LinkId) -> Result<(), OutOfMemory>
         requires { HasBegun self.old.texts }
-        ensures loses { OnOk result (IsSome ((tables self.old).links link) → Loses service.now link self.old self.new) }
+        ensures loses { OnOk result (IsSome ((tables self.old).links link) → IsSettled self.old → Loses service.now link self.old self.new) }
         ensures moves { OnOk result (Moves self.old self.new) }
     {
         router_laws::links::loses_router();
@@ -104,8 +104,8 @@ impl Router {
         ends: Option<ClientNo>,
     ) -> Result<(), OutOfMemory>
         ensures loses { OnOk result (MayLose link name given (tables self.old)
-            → HasLost service.now self.new.texts link (tables self.old) (tables self.new)) }
-        ensures keeps { OnOk result (Keeps self.old self.new) }
+            → HasLost service.now (made_by service.now self.old self.new) link (tables self.old) (tables self.new)) }
+        ensures keeps { OnOk result (KeepsBut self.old self.new) }
     {
         self.loses(link);
         self.gives(given)?;

@@ -7,7 +7,7 @@ ghost use Rattle.mx_wire.specs.declared.entry.Entry.TheVariants as entry;
 ghost use Rattle.mx_wire.specs.Log.{Log};
 ghost use Rattle.shared_core.specs.Machine.{IsRuledAnew, IsStanding, Tells, is_stopped, unloaded};
 ghost use Rattle.shared_core.specs.Says.{IsAskedFor, address_of, awaits, changed, most_of, reads, sends, unnamed};
-ghost use Rattle.shared_core.specs.Stands.{ActsSo, Carries, IsClosed, Moves, shown};
+ghost use Rattle.shared_core.specs.Stands.{ActsSo, Carries, IsClosed, IsSettled, Moves, shown};
 
 use crate::router::Router;
 use crate::whole::Core;
@@ -38,7 +38,7 @@ impl Router {
 
     fn got(&mut self, service: &Service, link: LinkId, bytes: &mut [u8]) -> Result<(), OutOfMemory>
         requires { HasBegun self.old.texts }
-        ensures carries { OnOk result (reads_on self.old.marked link ≡ true → Carries service.now (entry.Got link bytes.old) self.old self.new) }
+        ensures carries { OnOk result (reads_on self.old.marked link ≡ true → IsSettled self.old → Carries service.now (entry.Got link bytes.old) self.old self.new) }
         ensures moves { OnOk result (Moves self.old self.new) }
     {
         if self.marked.server(link).is_some() {
@@ -99,13 +99,12 @@ impl Core {
         ensures stands { (log : Log) → IsStanding self.old log → IsStanding self.new log }
         ensures serves { unloaded self.new ≡ unloaded self.old }
         ensures router { IsRuledAnew self.old.router self.new.router }
+        ensures settled { IsSettled self.new.router }
     {
         router_laws::decisions::routers_load();
-        if !self.router.came.administrator {
-            return;
-        }
-        if let Some(loaded) = self.router.admin.loaded.take() {
-            self.service.loaded = Some(loaded.into_rules());
+        match self.router.admin.loaded.take() {
+            Some(loaded) => self.service.loaded = Some(loaded),
+            None => {}
         }
     }
 }
@@ -140,8 +139,8 @@ impl Machine for Core {
     ghost owes = { λ service log link piece. Unit {0} };
 
     fn take(&mut self, event: Event, bytes: &mut [u8]) -> Result<(), OutOfMemory> {
-        self.router.take(&self.service, event, bytes)?;
         self.follow_rules();
+        self.router.take(&self.service, event, bytes)?;
         Ok(())
     }
 

@@ -4,9 +4,9 @@ ghost use Rattle.core_texts.specs.Texts.{HasBegun};
 ghost use Rattle.core_policy.specs.declared.asks.Asked.{Asked};
 ghost use Rattle.mx_base.specs.declared.names.Address.{Address};
 ghost use Rattle.mx_wire.specs.declared.entry.Entry.TheVariants as entry;
-ghost use Rattle.shared_core.specs.Follows.{Keeps};
+ghost use Rattle.shared_core.specs.Follows.{Keeps, KeepsBut, made_by};
 ghost use Rattle.shared_core.specs.Links.{HasOpened};
-ghost use Rattle.shared_core.specs.Stands.{Carries, Moves, tables};
+ghost use Rattle.shared_core.specs.Stands.{Carries, IsSettled, Moves, tables};
 ghost use Rattle.shared_core.specs.Wakes.{HasFailed};
 
 use crate::router::Router;
@@ -59,7 +59,7 @@ impl Router {
         server: ServerId,
     ) -> Result<(), OutOfMemory>
         requires { HasBegun self.old.texts }
-        ensures carries { OnOk result ((address : Address) → Carries service.now (entry.OpenFailed server address) self.old self.new) }
+        ensures carries { OnOk result ((address : Address) → IsSettled self.old → Carries service.now (entry.OpenFailed server address) self.old self.new) }
         ensures moves { OnOk result (Moves self.old self.new) }
     {
         router_laws::wakes::fails_router();
@@ -72,8 +72,8 @@ impl Router {
 
     // A statement that waited for it is given up, if one is, and its client goes on.
     fn fails(&mut self, service: &Service, given: Option<GiveUp>) -> Result<(), OutOfMemory>
-        ensures fails { OnOk result (HasFailed service.now self.new.texts (tables self.old) (tables self.new)) }
-        ensures keeps { OnOk result (Keeps self.old self.new) }
+        ensures fails { OnOk result (HasFailed service.now (made_by service.now self.old self.new) (tables self.old) (tables self.new)) }
+        ensures keeps { OnOk result (KeepsBut self.old self.new) }
     {
         match given {
             Some(up) => self.refuses(service, up),
@@ -82,8 +82,8 @@ impl Router {
     }
 
     fn refuses(&mut self, service: &Service, up: GiveUp) -> Result<(), OutOfMemory>
-        ensures fails { OnOk result (HasFailed service.now self.new.texts (tables self.old) (tables self.new)) }
-        ensures keeps { OnOk result (Keeps self.old self.new) }
+        ensures fails { OnOk result (HasFailed service.now (made_by service.now self.old self.new) (tables self.old) (tables self.new)) }
+        ensures keeps { OnOk result (KeepsBut self.old self.new) }
     {
         if self.may_be_refused(up) {
             self.gives_up(up.client, up.why)?;

@@ -1,5 +1,6 @@
 // The router.
 ghost use Rattle.std.specs.Prelude.{◌≡◌, [], IfOk, None, false};
+ghost use Rattle.core_service.specs.Serves.{ServesBy};
 ghost use Rattle.core_service.specs.declared.service.Service.{Service};
 ghost use Rattle.marked_tables.specs.Goes.{AreKnown};
 ghost use Rattle.mx_config.specs.Lawful.{IsLawful};
@@ -47,7 +48,7 @@ impl Router {
     /// No client came.
     pub fn new(alloc: Global, config: &Config) -> Result<Self, OutOfMemory>
         requires { IsLawful config.now }
-        ensures stands { IfOk result (λ router. (service : Service) → service.loaded ≡ None → StandsFor service [] router) }
+        ensures stands { IfOk result (λ router. (service : Service) → ServesBy config.now service → service.loaded ≡ None → StandsFor service [] router) }
         ensures closed { IfOk result (λ router. IsClosed (shown router)) }
         ensures unasked { IfOk result (λ router. router.asked ≡ None) }
         ensures known { IfOk result (λ router. AreKnown router.marked) }

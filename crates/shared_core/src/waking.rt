@@ -7,8 +7,8 @@ ghost use Rattle.mx_base.specs.declared.names.ClientNo.{ClientNo};
 ghost use Rattle.mx_wire.specs.declared.entry.Entry.TheVariants as entry;
 ghost use Rattle.core_laws.specs.clients.Going.{is_going};
 ghost use Rattle.router_laws.specs.waits.Drained.{IsDrainedFor};
-ghost use Rattle.shared_core.specs.Follows.{AreRising, Keeps};
-ghost use Rattle.shared_core.specs.Stands.{CarriesWhere, Moves, is_roomy, tables};
+ghost use Rattle.shared_core.specs.Follows.{AreRising, Keeps, KeepsBut, made_by};
+ghost use Rattle.shared_core.specs.Stands.{CarriesWhere, IsSettled, Moves, is_roomy, tables};
 ghost use Rattle.shared_core.specs.Wakes.{AreCalled, HasWoken, HaveGivenUp, IsWaiting, going_in, going_more};
 
 use crate::roomy::Roomy;
@@ -34,7 +34,7 @@ impl Router {
     pub(crate) fn woke(&mut self, service: &Service, now_ms: u64) -> Result<(), OutOfMemory>
         requires { HasBegun self.old.texts }
         ensures carries { OnOk result ((until_ms : ℕ)
-            → CarriesWhere (IsDrainedFor (tables self.old)) service.now (entry.Woke until_ms now_ms) self.old self.new) }
+            → IsSettled self.old → CarriesWhere (IsDrainedFor (tables self.old)) service.now (entry.Woke until_ms now_ms) self.old self.new) }
         ensures moves { OnOk result (Moves self.old self.new) }
     {
         router_laws::wakes::wakes_router();
@@ -54,8 +54,8 @@ impl Router {
         ending: &BTreeSet<u64>,
         roomy: Roomy,
     ) -> Result<(), OutOfMemory>
-        ensures wakes { OnOk result (HasWoken service.now self.new.texts now_ms self.old.came.administrator roomy (tables self.old) (tables self.new)) }
-        ensures keeps { OnOk result (Keeps self.old self.new) }
+        ensures wakes { OnOk result (HasWoken service.now (made_by service.now self.old self.new) now_ms self.old.came.administrator roomy (tables self.old) (tables self.new)) }
+        ensures keeps { OnOk result (KeepsBut self.old self.new) }
     {
         let mut called = roomy;
         call_all(ending, &mut called);

@@ -7,7 +7,7 @@ ghost use Rattle.core_tables.specs.Arrivals.{due_in, written_to};
 ghost use Rattle.core_tables.specs.Tables.{IsSame};
 ghost use Rattle.mx_wire.specs.declared.entry.Entry.TheVariants as entry;
 ghost use Rattle.shared_core.specs.Rooms.{IsRoomyAfter, goes_roomy};
-ghost use Rattle.shared_core.specs.Stands.{Carries, Moves, SettlesSo, tables};
+ghost use Rattle.shared_core.specs.Stands.{Carries, Moves, SettlesSo, tables, work_of};
 
 use crate::router::Router;
 use crate::rows::is_going;
@@ -48,6 +48,7 @@ impl Router {
         ensures roomy { IsRoomyAfter client n self.old self.new }
         ensures came { self.new.came ≡ self.old.came }
         ensures texts { self.new.texts ≡ self.old.texts }
+        ensures work { work_of self.new ≡ work_of self.old }
         ensures moves { Moves self.old self.new }
     {
         let was_full = !self.marked.has_room_at(client);

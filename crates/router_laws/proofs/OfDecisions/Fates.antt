@@ -117,7 +117,7 @@ pub record HasFate (plan : Plan) (now : ℕ) (m : MessageName) (fate : Fate) : T
   pub routed : plan.routes m ≡ fate.route
   pub own : own_at plan now m ≡ option_map (λ (answer : OwnAnswer). answer.payloads) fate.own
 
-later_is : (choice : Choice) (others : List Choice) (halt : Halt) (first ordinal : ℕ) (fate : Fate) → fate_in others halt (suc first) ordinal ≡ Some fate
+pub later_is : (choice : Choice) (others : List Choice) (halt : Halt) (first ordinal : ℕ) (fate : Fate) → fate_in others halt (suc first) ordinal ≡ Some fate
     → fate_in (choice ∷ others) halt first ordinal ≡ Some fate
 later_is choice others halt first ordinal fate is = by (nat_eq ordinal first) refl where
   by : (b : Bool) → nat_eq ordinal first ≡ b → (if b then Some (fate_of choice) else fate_in others halt (suc first) ordinal) ≡ Some fate

@@ -21,14 +21,14 @@ use Rattle.core_laws.specs.clients.Following.{IsFollowing, to_look}
 use Rattle.core_laws.specs.clients.Follows.{Parting}
 use Rattle.core_laws.specs.clients.Turns.{Choice, Halt, Turns}
 use Rattle.core_promises.proofs.Takings.{Covers}
-use Rattle.core_promises.specs.Judges.{Rulebook, situation_of}
+use Rattle.core_promises.specs.Judges.{situation_of}
 use Rattle.core_promises.specs.Ruled.{AreRuled, IsChoiceFor, Ruling}
 use Rattle.router_laws.specs.clients.Continues.{IsContinued, is_read_on}
 use Rattle.router_promises.specs.Takings.{Taking, takings_at, takings_of}
 use Rattle.router_laws.proofs.OfDecisions.Covering.{follow_covers, found_covered}
 use Rattle.router_laws.proofs.OfDecisions.Judging.{judged_by}
 use Rattle.router_laws.proofs.OfDecisions.KeptOn.{AreKnownHeld, turning_kept}
-use Rattle.router_laws.specs.decisions.Judges.{HasKeys, JudgedFrom, all_keys}
+use Rattle.router_laws.specs.decisions.Judges.{HasKeys, IsMadeBy, JudgedFrom, Judging, all_keys, judging_of}
 use Rattle.router_laws.specs.decisions.Held.{keys_since}
 
 -- What is judged by turns that are ruled, of a client before them, among takings that cover its own.
@@ -40,7 +40,7 @@ TurnsJudge =
     → AreRuled ruling choices halt service default c t now turns → AreKnownHeld (keys_since ruling.since ruling.keys) (view_on g) g.plan client
     → HasKeys ruling.keys g.setup → (takings : List Taking)
     → Covers g.setup c (takings_of (length (messages g.plan client)) g.setup g.plan client g.tale) takings
-    → JudgedFrom ruling.book g.setup g.plan client takings client.taken choices halt
+    → JudgedFrom (judging_of ruling) g.setup g.plan client takings client.taken choices halt
 
 -- and by what follows for it, among all that is taken up at the entry
 abbrev pub FollowsJudge : Type 0
@@ -50,7 +50,8 @@ FollowsJudge =
     → IsFollowing service default g e client freed choices halt parting → Stands service (to_look g fresh freed) mid
     → ((m : MessageName) (route : Route) → g.plan.routes m ≡ Some route → route.mirror ≡ None)
     → (turns : Turns choices halt service default c mid now) → AreRuled ruling choices halt service default c mid now turns
-    → AreKnownHeld (keys_since ruling.since ruling.keys) (view_of g.setup freed) g.plan client → HasKeys ruling.keys g.setup → JudgedFrom ruling.book g.setup g.plan client (takings_at g.setup g.plan g.tale e) client.taken choices halt
+    → AreKnownHeld (keys_since ruling.since ruling.keys) (view_of g.setup freed) g.plan client → HasKeys ruling.keys g.setup
+    → JudgedFrom (judging_of ruling) g.setup g.plan client (takings_at g.setup g.plan g.tale e) client.taken choices halt
 
 -- By the laws of what turns took up.
 
@@ -95,26 +96,31 @@ messages_same : (plan : Plan) (was now : tales.Client) → now.number ≡ was.nu
 messages_same plan was now number port salt read =
     λ i. (messages_of (record { setup = plan.service; number = (number i).0; port = port i; salt = salt i; read = read i })).messages
 
-judged_alike : (book : Rulebook) (setup : Setup) (plan : Plan) (takings : List Taking) (was now : tales.Client) → now.number ≡ was.number
-    → messages plan now ≡ messages plan was → (k : ℕ) (choices : List Choice) (halt : Halt) → JudgedFrom book setup plan was takings k choices halt
-    → JudgedFrom book setup plan now takings k choices halt
-judged_alike book setup plan takings was now number same k [] halt judged =
-    subst (λ (c : ClientNo). IsLastAmong halt takings (record { client = c; ordinal = suc k })) (sym number) judged
-judged_alike book setup plan takings was now number same k (choice ∷ others) halt judged = (
-  record {
-    taking = judged.0.taking;
-    among = subst (λ (c : ClientNo). IsAmong takings (record { client = c; ordinal = suc k }) judged.0.taking) (sym number) judged.0.among;
-    is = λ message at.
-        subst (λ (c : ClientNo). IsChoiceFor choice book (situation_of setup plan judged.0.taking) (all_keys setup) c message.payload) (sym number)
-        (judged.0.is message (subst (λ (ms : List Framed). slice_get ms k ≡ Some message) same at));
-  },
-  judged_alike book setup plan takings was now number same (suc k) others halt judged.1,
-)
+judged_alike : (judging : Judging) (setup : Setup) (plan : Plan) (takings : List Taking) (was now : tales.Client) → now.number ≡ was.number
+    → messages plan now ≡ messages plan was → (k : ℕ) (choices : List Choice) (halt : Halt) → JudgedFrom judging setup plan was takings k choices halt
+    → JudgedFrom judging setup plan now takings k choices halt
+judged_alike judging setup plan takings was now number same k [] halt judged =
+    (subst (λ (c : ClientNo). IsLastAmong halt takings (record { client = c; ordinal = suc k })) (sym number) judged.0, judged.1)
+judged_alike judging setup plan takings was now number same k (choice ∷ others) halt judged =
+    let first = judged.1.0 in (
+      judged.0,
+      (
+        record {
+          taking = first.taking;
+          among = subst (λ (c : ClientNo). IsAmong takings (record { client = c; ordinal = suc k }) first.taking) (sym number) first.among;
+          is = λ message at.
+              subst (λ (c : ClientNo). IsChoiceFor choice judging.book (situation_of setup plan first.taking) (all_keys setup) c message.payload) (sym number)
+              (first.is message (subst (λ (ms : List Framed). slice_get ms k ≡ Some message) same at));
+          made = subst (λ (ms : List Framed). IsMadeBy choice (slice_get ms k) first.taking.client.port judging.was judged.0) (sym same) first.made;
+        },
+        judged_alike (record judging { was = judged.0 }) setup plan takings was now number same (suc k) others halt judged.1.1,
+      ),
+    )
 
 -- It stands behind an entry that reads nothing of it.
-pub judged_on : (book : Rulebook) (setup : Setup) (plan : Plan) (takings : List Taking) (tale : Tale) (e : Entry) (was now : tales.Client)
+pub judged_on : (judging : Judging) (setup : Setup) (plan : Plan) (takings : List Taking) (tale : Tale) (e : Entry) (was now : tales.Client)
     → IsContinued plan tale e was now → is_read_on e was.link ≡ false → (k : ℕ) → was.taken ≡ k → (choices : List Choice) (halt : Halt)
-    → JudgedFrom book setup plan was takings was.taken choices halt → JudgedFrom book setup plan now takings k choices halt
-judged_on book setup plan takings tale e was now on unread k taken choices halt judged =
-    subst (λ (n : ℕ). JudgedFrom book setup plan now takings n choices halt) taken
-    (judged_alike book setup plan takings was now on.number (messages_same plan was now on.number on.port on.salt (on.kept unread)) was.taken choices halt judged)
+    → JudgedFrom judging setup plan was takings was.taken choices halt → JudgedFrom judging setup plan now takings k choices halt
+judged_on judging setup plan takings tale e was now on unread k taken choices halt judged =
+    subst (λ (n : ℕ). JudgedFrom judging setup plan now takings n choices halt) taken
+    (judged_alike judging setup plan takings was now on.number (messages_same plan was now on.number on.port on.salt (on.kept unread)) was.taken choices halt judged)

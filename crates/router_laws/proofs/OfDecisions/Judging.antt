@@ -7,6 +7,7 @@ use Rattle.std.proofs.lemmas.Option.{same_Some}
 use Rattle.mx_wire.specs.Log.{Log, accepted_links}
 use Rattle.mx_wire.specs.declared.entry.Entry.{Entry}
 use Rattle.mx_wire.specs.declared.entry.Entry.TheVariants as entry
+use Rattle.mx_base.specs.declared.names.Port.{Port}
 use Rattle.packet_frame.specs.Packets.{Framed}
 use Rattle.client_session.specs.Setups.{Setup as Serving}
 use Rattle.private_model.specs.Names.{ClientNo, MessageName}
@@ -38,7 +39,9 @@ use Rattle.core_laws.specs.entry.Tells.{Fits, IsOf}
 use Rattle.core_promises.proofs.Takings.{taken_before, taken_now}
 use Rattle.core_promises.proofs.Knowing.{KnowsMore, routed_within, told_within}
 use Rattle.core_promises.specs.Judges.{AreJudged, book_for, IsJudged, IsRoutedFor, IsToldFor, Rulebook, Situation, situation_of}
-use Rattle.core_promises.specs.Ruled.{AreKept, AreRuled, IsChoiceFor, IsRuled, Ruling, book_of, situation_at}
+use Rattle.core_promises.specs.Administered.{MakesIf}
+use Rattle.core_promises.specs.Administers.{Administered, Makes}
+use Rattle.core_promises.specs.Ruled.{AreKept, AreRuled, IsChoiceFor, IsRuled, Ruling, book_of, from, situation_at, until}
 use Rattle.router_promises.specs.Takings.{Taking, takings_at}
 use Rattle.shared_router.proofs.Furthering.{IsWithin, within_step}
 use Rattle.shared_router.proofs.Looked.{Each, each-all}
@@ -52,7 +55,8 @@ use Rattle.router_laws.proofs.OfDecisions.Planning.{fate_so, own_so}
 use Rattle.router_laws.proofs.OfDecisions.Recording.{one_more}
 use Rattle.router_laws.specs.clients.Continues.{HasCome, WasThere}
 use Rattle.router_laws.proofs.OfDecisions.Situated.{situated}
-use Rattle.router_laws.specs.decisions.Judges.{AreSent, HasKeys, IsJudgedAs, IsJudgedThen, JudgedFrom, JudgesThen, all_keys}
+use Rattle.router_laws.specs.decisions.Judges.{AreSent, HasKeys, IsJudgedAs, IsJudgedThen, JudgedFrom, Judging, JudgesThen, all_keys, judging_by, judging_of}
+use Rattle.router_laws.proofs.OfDecisions.Stating.{IsNumbered, its_state, one_begins, one_ends, one_state, others_state}
 use Rattle.router_laws.specs.decisions.Deeds.{Counts, Deeds, Fate, Word, among, counts_with, decided_by, decided_with, fate_at, fate_in, fate_of, is_quitting, known_with, no_deeds, no_fate, parting, taken_by, taking}
 use Rattle.router_laws.specs.decisions.Force.{rules_then}
 use Rattle.router_laws.specs.decisions.Records.{AreCountsOf, IsRecorded}
@@ -92,14 +96,16 @@ module _ (ruling : Ruling) (setup : Setup) (plan : Plan) (client : Client) (has 
   judged_one : (choice : Choice) (service : Serving) (default : List ℕ) (c : ClientNo) → client.number ≡ c → (old new : Tabled)
       (turn : IsTurn choice service default c old new) (takings : List Taking) (k : ℕ)
       → IsFound choice service default c old new turn setup plan takings (slice_get (messages plan client) k) k
-      → IsRuled ruling choice service default c old new turn → AreKeptIn ruling (old.clients c) → IsJudgedAs ruling.book setup plan client takings k choice
+      → IsRuled ruling choice service default c old new turn → AreKeptIn ruling (old.clients c)
+      → IsJudgedAs (judging_of ruling) setup plan client takings k choice
   judged_one (Goes route keyed) service default c number old new turn takings k found ruled kept = record {
     taking = found.taking;
     among = its_name takings c number k found.taking found.among;
     is = λ message at.
         let up : AreKept ruling (desk_up service default turn.up.row).seat.statements = up_kept ruling service default c old turn.between turn.up kept in
         judged_as c number (desk_up service default turn.up.row) up turn.up.message found.taking
-        (taken_of takings (message_at c (suc k)) found.taking found.among) (slice_get (messages plan client) k) found.at message at (Goes route keyed) (ruled up);
+        (taken_of takings (message_at c (suc k)) found.taking found.among) (slice_get (messages plan client) k) found.at message at (Goes route keyed) (ruled.0 up);
+    made = ruled.1;
   }
   judged_one (Answers payloads) service default c number old new turn takings k found ruled kept = record {
     taking = found.taking;
@@ -107,24 +113,34 @@ module _ (ruling : Ruling) (setup : Setup) (plan : Plan) (client : Client) (has 
     is = λ message at.
         let up : AreKept ruling (desk_up service default turn.up.row).seat.statements = up_kept ruling service default c old turn.between turn.up kept in
         judged_as c number (desk_up service default turn.up.row) up turn.up.message found.taking
-        (taken_of takings (message_at c (suc k)) found.taking found.among) (slice_get (messages plan client) k) found.at message at (Answers payloads) (ruled up);
+        (taken_of takings (message_at c (suc k)) found.taking found.among) (slice_get (messages plan client) k) found.at message at (Answers payloads) (ruled.0 up);
+    made =
+        subst (λ (o : Option Framed). MakesIf o found.taking.client.port (Some payloads) ruling.was ruling.is) (sym found.at.message_is)
+        (subst (λ (port : Port). Makes port turn.up.message.payload (Some payloads) ruling.was ruling.is) (sym found.at.port) ruled.1);
   }
 
-  pub judged_by : (takings : List Taking) (k : ℕ) (choices : List Choice) (halt : Halt) (service : Serving) (default : List ℕ) (c : ClientNo)
-      → client.number ≡ c → (old new : Tabled) (turns : Turns choices halt service default c old new)
-      → AreFoundAt choices halt service default c old new turns setup plan takings (messages plan client) k
-      → AreRuled ruling choices halt service default c old new turns → AreKeptIn ruling (old.clients c)
-      → JudgedFrom ruling.book setup plan client takings k choices halt
-  judged_by takings k [] halt service default c number old new turns found ruled kept =
-      subst (λ (n : ClientNo). IsLastAmong halt takings (message_at n (suc k))) (sym number) found
-  judged_by takings k (choice ∷ others) halt service default c number old new turns found ruled kept = (
-    judged_one choice service default c number old turns.0 turns.1 takings k found.0 ruled.0 kept,
-    judged_by takings (suc k) others halt service default c number turns.0 new turns.2 found.1 ruled.1
+pub judged_by : (ruling : Ruling) (setup : Setup) (plan : Plan) (client : Client) (has : HasKeys ruling.keys setup) (takings : List Taking) (k : ℕ)
+    (choices : List Choice) (halt : Halt) (service : Serving) (default : List ℕ) (c : ClientNo) → client.number ≡ c → (old new : Tabled)
+    (turns : Turns choices halt service default c old new)
+    → AreFoundAt choices halt service default c old new turns setup plan takings (messages plan client) k
+    → AreRuled ruling choices halt service default c old new turns → AreKeptIn ruling (old.clients c)
+    → JudgedFrom (judging_of ruling) setup plan client takings k choices halt
+judged_by ruling setup plan client has takings k [] halt service default c number old new turns found ruled kept =
+    (subst (λ (n : ClientNo). IsLastAmong halt takings (message_at n (suc k))) (sym number) found, ruled)
+judged_by ruling setup plan client has takings k (choice ∷ others) halt service default c number old new turns found ruled kept = (
+  ruled.0,
+  (
+    judged_one (until ruling ruled.0) setup plan client has choice service default c number old turns.0 turns.1 takings k found.0 ruled.1.0 kept,
+    judged_by (from ruling ruled.0) setup plan client has takings (suc k) others halt service default c number turns.0 new turns.2 found.1 ruled.1.1
         (turn_kept ruling service default c choice old turns.0 turns.1 kept),
-  )
+  ),
+)
 
 -- So what is decided of each is.
 module _ (book : Rulebook) (setup : Setup) (plan : Plan) (client : Client) where
+  abbrev pub by : (was is : Administered) → Judging
+  by was is = record { book = book; was = was; is = is }
+
   pub record IsFated (takings : List Taking) (k : ℕ) (fate : Fate) : Type 0 where
     pub taking : Taking
     pub among : IsAmong takings (name_of client (suc k)) taking
@@ -135,8 +151,9 @@ module _ (book : Rulebook) (setup : Setup) (plan : Plan) (client : Client) where
         → IsToldFor book (situation_of setup plan taking) client.number message.payload payloads
 
   module _ (takings : List Taking) where
-    judged_first : (k : ℕ) (choice : Choice) → IsJudgedAs book setup plan client takings k choice → IsFated takings k (fate_of choice)
-    judged_first k (Goes mine keyed) judged = record {
+    judged_first : (was is : Administered) (k : ℕ) (choice : Choice) → IsJudgedAs (by was is) setup plan client takings k choice
+        → IsFated takings k (fate_of choice)
+    judged_first was is k (Goes mine keyed) judged = record {
       taking = judged.taking;
       among = judged.among;
       goes = λ message route at is.
@@ -144,7 +161,7 @@ module _ (book : Rulebook) (setup : Setup) (plan : Plan) (client : Client) where
           (judged.is message at);
       tells = λ message payloads at is. none_some None payloads refl is;
     }
-    judged_first k (Answers mine) judged = record {
+    judged_first was is k (Answers mine) judged = record {
       taking = judged.taking;
       among = judged.among;
       goes = λ message route at is. none_some None route refl is;
@@ -169,37 +186,40 @@ module _ (book : Rulebook) (setup : Setup) (plan : Plan) (client : Client) where
     judged_last Waits first k fate last is = none_some None fate refl is
     judged_last Rests first k fate last is = none_some None fate refl is
     judged_last Ends first k fate last is = none_some None fate refl is
-    judged_last Quits first k fate last is = by (nat_eq (suc k) (suc first)) refl is where
-      by : (b : Bool) → nat_eq (suc k) (suc first) ≡ b → (if b then Some no_fate else None) ≡ Some fate → IsFated takings k fate
-      by true same has =
+    judged_last Quits first k fate last is = at_last (nat_eq (suc k) (suc first)) refl is where
+      at_last : (b : Bool) → nat_eq (suc k) (suc first) ≡ b → (if b then Some no_fate else None) ≡ Some fate → IsFated takings k fate
+      at_last true same has =
           subst (IsFated takings k) (same_Some no_fate fate has)
           (subst (λ (n : ℕ). IsFated takings n no_fate) (at_same first k same) (unfated first last.0 last.1))
-      by false other has = none_some None fate refl has
+      at_last false other has = none_some None fate refl has
 
-    pub judged_at : (choices : List Choice) (halt : Halt) (first k : ℕ) (fate : Fate) → JudgedFrom book setup plan client takings first choices halt
-        → fate_in choices halt (suc first) (suc k) ≡ Some fate → IsFated takings k fate
-    judged_at [] halt first k fate judged is = judged_last halt first k fate judged is
-    judged_at (choice ∷ others) halt first k fate judged is =
-        by (nat_eq (suc k) (suc first)) refl is (judged_at others halt (suc first) k fate judged.1) where
-          by : (b : Bool) → nat_eq (suc k) (suc first) ≡ b
+    pub judged_at : (was end : Administered) (choices : List Choice) (halt : Halt) (first k : ℕ) (fate : Fate)
+        → JudgedFrom (by was end) setup plan client takings first choices halt → fate_in choices halt (suc first) (suc k) ≡ Some fate
+        → IsFated takings k fate
+    judged_at was end [] halt first k fate judged is = judged_last halt first k fate judged.0 is
+    judged_at was end (choice ∷ others) halt first k fate judged is =
+        at_first (nat_eq (suc k) (suc first)) refl is (judged_at judged.0 end others halt (suc first) k fate judged.1.1) where
+          at_first : (b : Bool) → nat_eq (suc k) (suc first) ≡ b
               → (if b then Some (fate_of choice) else fate_in others halt (suc (suc first)) (suc k)) ≡ Some fate
               → (fate_in others halt (suc (suc first)) (suc k) ≡ Some fate → IsFated takings k fate) → IsFated takings k fate
-          by true same has later =
+          at_first true same has later =
               subst (λ (n : ℕ). IsFated takings n fate) (at_same first k same)
-              (subst (IsFated takings first) (same_Some (fate_of choice) fate has) (judged_first first choice judged.0))
-          by false other has later = later has
+              (subst (IsFated takings first) (same_Some (fate_of choice) fate has) (judged_first was judged.0 first choice judged.1.0))
+          at_first false other has later = later has
 
-    pub judged_none : (k : ℕ) (choices : List Choice) (halt : Halt) → taken_by choices halt ≡ 0 → JudgedFrom book setup plan client takings k choices halt
-    judged_none k [] Waits none = tt
-    judged_none k [] Rests none = tt
-    judged_none k [] Ends none = tt
-    judged_none k [] Quits none = absurd (omega (arith, none))
-    judged_none k (choice ∷ others) halt none = absurd (omega (arith, none))
+    pub judged_none : (was : Administered) (k : ℕ) (choices : List Choice) (halt : Halt) → taken_by choices halt ≡ 0
+        → JudgedFrom (by was was) setup plan client takings k choices halt
+    judged_none was k [] Waits none = (tt, refl)
+    judged_none was k [] Rests none = (tt, refl)
+    judged_none was k [] Ends none = (tt, refl)
+    judged_none was k [] Quits none = absurd (omega (arith, none))
+    judged_none was k (choice ∷ others) halt none = absurd (omega (arith, none))
 
-    judged_among : (b : Bool) (k : ℕ) (choices : List Choice) (halt : Halt) → JudgedFrom book setup plan client takings k choices halt
-        → JudgedFrom book setup plan client takings k (if b then choices else []) (if b then halt else Rests)
-    judged_among true k choices halt judged = judged
-    judged_among false k choices halt judged = tt
+-- what is decided of those that are known is decided
+pub fate_among : (b : Bool) (choices : List Choice) (halt : Halt) (first ordinal : ℕ) (fate : Fate)
+    → fate_in (if b then choices else []) (if b then halt else Rests) first ordinal ≡ Some fate → fate_in choices halt first ordinal ≡ Some fate
+fate_among true choices halt first ordinal fate is = is
+fate_among false choices halt first ordinal fate is = none_some None fate refl is
 
 -- whose deeds give nobody up
 pub none_sent : (plan : Plan) (tale : Tale) (given : ClientNo → Option (List ℕ)) → ((c : ClientNo) → given c ≡ None)
@@ -208,12 +228,17 @@ none_sent plan tale given none = λ k dflt within some.
     false_true (is_some (given (slice_index_or tale.clients k dflt).number)) (ap is_some (none (slice_index_or tale.clients k dflt).number)) some
 
 -- and take up nothing
-pub judges_none : (service : Service) (log : Log) (e : Entry) (d : Decided) (n : Counts) (deeds : Deeds)
-    → ((c : ClientNo) → taken_by (deeds.calls c) (deeds.halts c) ≡ 0) → ((c : ClientNo) → deeds.given c ≡ None) → JudgesThen service log e d n deeds
-judges_none service log e d n deeds none ungiven setup codes plan of fits = record {
+pub judges_none : (service : Service) (log : Log) (e : Entry) (d : Decided) (n : Counts) (deeds : Deeds) (was : Administered)
+    → ((c : ClientNo) → taken_by (deeds.calls c) (deeds.halts c) ≡ 0) → ((c : ClientNo) → deeds.given c ≡ None)
+    → JudgesThen service log e d n deeds was was
+judges_none service log e d n deeds was none ungiven setup codes plan of fits = record {
+  states = λ number. was;
+  begins = refl;
+  ends = refl;
+  forced = λ c some. let no : taken_by (deeds.calls c) (deeds.halts c) ≡ 0 = none c in absurd (omega (arith, some, no));
   takes = λ client seated.
-      judged_none (book_of service) setup plan client (takings_at setup plan (tale_of setup plan log) e) (n.taken client.number) (deeds.calls client.number)
-      (deeds.halts client.number) (none client.number);
+      judged_none (book_of service) setup plan client (takings_at setup plan (tale_of setup plan log) e) was (n.taken client.number)
+      (deeds.calls client.number) (deeds.halts client.number) (none client.number);
   gives = none_sent plan (tale_of setup plan log) deeds.given ungiven;
   why = λ c payload is. none_some (deeds.given c) payload (ungiven c) is;
 }
@@ -222,33 +247,39 @@ none_either : (b : Bool) → taken_by (if b then [] else []) (if b then Rests el
 none_either true = refl
 none_either false = refl
 
-pub judges_of_none : (service : Service) (log : Log) (e : Entry) (d : Decided) (n : Counts) (c : ClientNo) (last : Option (Option Word))
-    → JudgesThen service log e d n (parting c last (taking c [] Rests no_deeds))
-judges_of_none service log e d n c last =
-    judges_none service log e d n (parting c last (taking c [] Rests no_deeds)) (λ x. none_either (nat_eq c.0 x.0)) (λ x. refl)
+pub judges_of_none : (service : Service) (log : Log) (e : Entry) (d : Decided) (n : Counts) (c : ClientNo) (last : Option (Option Word)) (was : Administered)
+    → JudgesThen service log e d n (parting c last (taking c [] Rests no_deeds)) was was
+judges_of_none service log e d n c last was =
+    judges_none service log e d n (parting c last (taking c [] Rests no_deeds)) was (λ x. none_either (nat_eq c.0 x.0)) (λ x. refl)
 
 -- who takes them up alone
 pub judges_taking : (service : Service) (log : Log) (e : Entry) (d : Decided) (n : Counts) (c : ClientNo) (choices : List Choice) (halt : Halt)
-    (last : Option (Option Word))
+    (last : Option (Option Word)) (was is : Administered) → was.rules ≡ rules_in service
     → ((setup : Setup) (codes : Codes) (plan : Plan) → IsOf (decided_with (parting c last (taking c choices halt no_deeds)) n log e d) (length (with_entry log e)) plan
-    → Fits (decided_with (parting c last (taking c choices halt no_deeds)) n log e d).keys setup codes plan service.default_schema (tale_of setup plan (with_entry log e)) → (client : Client)
-    → IsSeated (tale_of setup plan (with_entry log e)) client → client.number ≡ c
-    → JudgedFrom (book_of service) setup plan client (takings_at setup plan (tale_of setup plan log) e) (n.taken c) choices halt)
-    → JudgesThen service log e d n (parting c last (taking c choices halt no_deeds))
-judges_taking service log e d n c choices halt last judged setup codes plan of fits = record {
-  takes = λ client seated. by client seated (nat_eq c.0 client.number.0) refl;
+    → Fits (decided_with (parting c last (taking c choices halt no_deeds)) n log e d).keys setup codes plan service.default_schema (tale_of setup plan (with_entry log e))
+    → IsNumbered (tale_of setup plan (with_entry log e)) c × ((client : Client) → IsSeated (tale_of setup plan (with_entry log e)) client → client.number ≡ c
+    → JudgedFrom (judging_by service was is) setup plan client (takings_at setup plan (tale_of setup plan log) e) (n.taken c) choices halt))
+    → JudgesThen service log e d n (parting c last (taking c choices halt no_deeds)) was is
+judges_taking service log e d n c choices halt last was is settled judged setup codes plan of fits = record {
+  states = one_state c was is;
+  begins = one_begins (tale_of setup plan (with_entry log e)) c was is (judged setup codes plan of fits).0;
+  ends = one_ends (tale_of setup plan (with_entry log e)) c was is (judged setup codes plan of fits).0;
+  forced = λ other some. settled;
+  takes = λ client seated. by_one client seated (nat_eq c.0 client.number.0) refl;
   gives = none_sent plan (tale_of setup plan log) (λ x. None) (λ x. refl);
   why = λ x payload is. none_some None payload refl is;
 } where
-  by : (client : Client) → IsSeated (tale_of setup plan (with_entry log e)) client → (b : Bool) → nat_eq c.0 client.number.0 ≡ b
-      → JudgedFrom (book_of service) setup plan client (takings_at setup plan (tale_of setup plan log) e) (n.taken client.number) (if b then choices else [])
+  Judged : Client → (a b : Administered) → ClientNo → List Choice → Halt → Type 0
+  Judged client a b x taken_up how = JudgedFrom (judging_by service a b) setup plan client (takings_at setup plan (tale_of setup plan log) e) (n.taken x) taken_up how
+
+  by_one : (client : Client) → IsSeated (tale_of setup plan (with_entry log e)) client → (b : Bool) → nat_eq c.0 client.number.0 ≡ b
+      → Judged client (one_state c was is client.number.0) (one_state c was is (suc client.number.0)) client.number (if b then choices else [])
       (if b then halt else Rests)
-  by client seated false other = tt
-  by client seated true its =
+  by_one client seated false other = (tt, others_state c was is client.number.0 other)
+  by_one client seated true its =
       let same : c ≡ client.number = client_of c client.number its in
-      subst (λ (x : ClientNo).
-      JudgedFrom (book_of service) setup plan client (takings_at setup plan (tale_of setup plan log) e) (n.taken x) choices halt) same
-      (judged setup codes plan of fits client seated (sym same))
+      subst (λ (x : ClientNo). Judged client (one_state c was is x.0) (one_state c was is (suc x.0)) x choices halt) same
+      (its_state c was is (λ (a b : Administered). Judged client a b c choices halt) ((judged setup codes plan of fits).1 client seated (sym same)))
 
 -- No more was taken up of a client than its messages.
 
@@ -278,7 +309,7 @@ message_stays plan was now more k number port salt read less =
 
 -- Behind an entry.
 
-given_among : (b : Bool) (given : Option (List ℕ)) → is_some (if b then given else None) ≡ true → is_some given ≡ true
+pub given_among : (b : Bool) (given : Option (List ℕ)) → is_some (if b then given else None) ≡ true → is_some given ≡ true
 given_among true given some = some
 given_among false given some = false_true false refl some
 
@@ -286,7 +317,7 @@ module _ (service : Service) (log : Log) (e : Entry) (d : Decided) (n : Counts) 
     (setup : Setup) (plan : Plan) (of : IsOf (decided_with deeds n log e d) (length (with_entry log e)) plan)
     (before : AreCountsOf n (tale_of setup plan log)) (counts : AreCountsOf (counts_with deeds n log e) (tale_of setup plan (with_entry log e)))
     (was : All (AreJudged (book_of service) rules setup plan log) (tale_of setup plan log).clients)
-    (judged : IsJudgedThen service log e n deeds setup plan) where
+    (before_then behind_then : Administered) (judged : IsJudgedThen service log e n deeds setup plan before_then behind_then) where
   abbrev book : Rulebook
   book = book_of service
 
@@ -395,8 +426,8 @@ module _ (service : Service) (log : Log) (e : Entry) (d : Decided) (n : Counts) 
     taken_then less least (Some mine) is some =
         let has : HasFate plan now name mine = fate_so d n log e made (length log) plan recorded refl of_now name mine is (omega (arith, least)) in
         let fated : IsFated book setup plan client takings k mine =
-        judged_at book setup plan client takings (made.calls c) (made.halts c) (n.taken c) k mine
-        (judged_among book setup plan client takings known (n.taken c) (deeds.calls c) (deeds.halts c) (judged.takes client seated)) is in
+        judged_at book setup plan client takings (judged.states c.0) (judged.states (suc c.0)) (deeds.calls c) (deeds.halts c) (n.taken c) k mine
+        (judged.takes client seated) (fate_among known (deeds.calls c) (deeds.halts c) (suc (n.taken c)) (suc k) mine is) in
         let none : nat_le (suc k) (n.taken c) ≡ false = lt-leb (suc k) (n.taken c) (omega (arith, least)) in
         let P : Bool → Type 0 = λ b. IsJudged (record book { rules = if b then rules name else rules_in service }) setup plan (with_entry log e) name message.payload in
         subst P (sym none) (record {

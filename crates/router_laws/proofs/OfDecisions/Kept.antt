@@ -39,7 +39,7 @@ module _ (ruling : Ruling) where
 
   -- A message that is taken up drops some, and binds others.
 
-  key_kept : (was now : Statement) → was.prepared ≡ now.prepared → IsKept ruling was → IsKept ruling now
+  key_kept : (was now : Statement) → was.prepared ≡ now.prepared → IsKept ruling.since ruling.keys was → IsKept ruling.since ruling.keys now
   key_kept was now same kept = record {
     early = subst (λ (p : Prepared). p.key ≤ ruling.since) same kept.early;
     there = subst (λ (p : Prepared). is_some (ruling.keys p.key) ≡ true) same kept.there;
@@ -56,7 +56,7 @@ module _ (ruling : Ruling) where
 
   by_found : (refused : Bool) (number : ℕ) (payload : List ℕ) (found : Option Statement) (now : Statement)
       → option_and_then (noted refused number payload) (option_map numbered found) ≡ Some (numbered now)
-      → ((was : Statement) → found ≡ Some was → IsKept ruling was) → IsKept ruling now
+      → ((was : Statement) → found ≡ Some was → IsKept ruling.since ruling.keys was) → IsKept ruling.since ruling.keys now
   by_found refused number payload None now is kept = absurd (none-some (numbered now) is)
   by_found refused number payload (Some was) now is kept =
       key_kept was now (by_drop refused number payload was now (drops number payload) is) (kept was refl)

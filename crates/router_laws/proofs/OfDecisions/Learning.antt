@@ -44,6 +44,7 @@ use Rattle.router_laws.proofs.OfDecisions.Listing.{is_tale_of}
 use Rattle.router_laws.proofs.OfDecisions.Recording.{or_stays}
 use Rattle.router_laws.specs.decisions.Held.{AreHeld, IsHeld, KeepsTexts, keys_since}
 use Rattle.router_laws.specs.decisions.Records.{IsRecorded}
+use Rattle.core_promises.specs.Administers.{Administered}
 use Rattle.router_laws.specs.decisions.Routers.{AreKnown, IsLearned, IsRouter}
 
 -- What is found is there, or nothing is.
@@ -151,7 +152,7 @@ module _ (old new : Texts) (begun : HasBegun old) (more : AreMore old new) where
         asked = λ route routed some is. some_since route.key (key_at old route.key) refl (was.asked route routed some is);
       }
 
-module _ (service : Service) (old new : Texts) (log : Log) (t : Tabled) (roomy : ClientNo → Bool) (router : IsRouter service old log t roomy) where
+module _ (service : Service) (old new : Texts) (admin : Administered) (log : Log) (t : Tabled) (roomy : ClientNo → Bool) (router : IsRouter service old admin log t roomy) where
   abbrev d : Decided
   d = router.core.decided
 
@@ -178,7 +179,7 @@ module _ (service : Service) (old new : Texts) (log : Log) (t : Tabled) (roomy :
     unbegun = router.recorded.unbegun;
   }
 
-  pub learns : AreMore old new → IsRouter service new log t roomy
+  pub learns : AreMore old new → IsRouter service new admin log t roomy
   learns more = record {
     core = record {
       decided = keyed d (key_at new);
@@ -194,7 +195,9 @@ module _ (service : Service) (old new : Texts) (log : Log) (t : Tabled) (roomy :
     lawful = router.lawful;
     open_just = router.open_just;
     rules = router.rules;
-    ruled = router.ruled;
+    first = router.first;
+    began = router.began;
+    administers = λ setup codes plan of fits. router.administers setup codes plan (less plan of) (fit setup codes plan _ fits);
     spoken = record { own = router.spoken.own; words = router.spoken.words };
     waited = λ terms codes of fits. router.waited terms codes (less (plan_in terms) of) (fit (setup_in terms) codes (plan_in terms) _ fits);
     judged = λ setup codes plan of fits. router.judged setup codes plan (less plan of) (fit setup codes plan _ fits);
@@ -203,7 +206,7 @@ module _ (service : Service) (old new : Texts) (log : Log) (t : Tabled) (roomy :
         held_more old new more d setup plan (tale_of setup plan log) (router.held setup codes plan (less plan of) (fit setup codes plan _ fits));
   }
 
-  pub learned : HasBegun old → AreMore old new → IsLearned service new log t roomy
+  pub learned : HasBegun old → AreMore old new → IsLearned service new admin log t roomy
   unfolding learns
   learned begun more = record {
     router = learns more;
@@ -299,9 +302,9 @@ module _ (service : Serving) (g : Ground) (t : Tabled) (stands : Stands service 
   held_stays : IsHeld (key_at new) g.setup g.plan g.tale client
   held_stays = record { known = λ number made some is. known_stays number made some is; asked = λ route routed some is. asked_stays route routed some is }
 
-pub forgets : (service : Service) (old new : Texts) (log : Log) (t : Tabled) (roomy : ClientNo → Bool) → IsRouter service old log t roomy
-    → AreLess old new → KeepsTexts old new t → IsRouter service new log t roomy
-forgets service old new log t roomy router less keeps = record {
+pub forgets : (service : Service) (old new : Texts) (admin : Administered) (log : Log) (t : Tabled) (roomy : ClientNo → Bool) → IsRouter service old admin log t roomy
+    → AreLess old new → KeepsTexts old new t → IsRouter service new admin log t roomy
+forgets service old new admin log t roomy router less keeps = record {
   core = router.core;
   counts = router.counts;
   recorded = router.recorded;
@@ -313,7 +316,9 @@ forgets service old new log t roomy router less keeps = record {
   lawful = router.lawful;
   open_just = router.open_just;
   rules = router.rules;
-  ruled = router.ruled;
+  first = router.first;
+  began = router.began;
+  administers = router.administers;
   spoken = router.spoken;
   waited = router.waited;
   judged = router.judged;

@@ -31,6 +31,9 @@ use Rattle.core_laws.specs.entry.Tells.{Fits, IsOf, ground}
 use Rattle.router_laws.proofs.OfDecisions.Causing.{caused_then}
 use Rattle.router_laws.proofs.OfDecisions.Held.{held_then}
 use Rattle.router_laws.proofs.OfDecisions.Judging.{judged_then}
+use Rattle.router_laws.proofs.OfDecisions.Administering.{administers_then, agreed}
+use Rattle.router_laws.specs.decisions.Administering.{AdministersSoFar}
+use Rattle.query_rules.specs.Passing.{rules_of}
 use Rattle.router_laws.proofs.OfDecisions.Fates.{false_true, none_some}
 use Rattle.router_laws.proofs.OfDecisions.Gathering.{plans_so}
 use Rattle.router_laws.proofs.OfDecisions.Keeping.{first_so, recorded_then}
@@ -43,11 +46,12 @@ use Rattle.core_promises.specs.Causes.{AreCaused, CausedBy}
 use Rattle.core_promises.specs.Judges.{AreJudged, JudgesBy}
 use Rattle.router_laws.specs.decisions.Held.{AreHeldBy, IsHeld}
 use Rattle.router_laws.specs.decisions.Judges.{JudgesThen}
-use Rattle.router_laws.proofs.OfDecisions.Forcing.{forced_then, unloaded_rules}
 use Rattle.router_laws.specs.decisions.Force.{rules_then}
 use Rattle.router_laws.specs.decisions.Speaks.{AreOurs}
 use Rattle.router_laws.specs.decisions.Deeds.{Counts, Deeds, among, counts_with, decided_with, known_with, no_counts}
 use Rattle.router_laws.specs.decisions.Records.{AreCountsOf, IsRecorded, first_deciding}
+use Rattle.core_promises.specs.Administered.{IsFirst}
+use Rattle.core_promises.specs.Administers.{Administered}
 use Rattle.router_laws.specs.decisions.Routers.{AreOpenJust, IsBefore, GoesSo, GoesSoBy, IsRouter, WaitsThen}
 use Rattle.run_laws.proofs.Telling.{first_tells}
 
@@ -74,9 +78,9 @@ fits_before d n log e deeds setup codes plan default recorded heard fits = recor
   single = fits.single;
 }
 
-module _ {texts : Texts} (service : Service) (log : Log) (e : Entry) (deeds : Deeds) (t now : Tabled) (roomy room : ClientNo → Bool)
-    (router : IsRouter service texts log t roomy) (may : MayFollow log e) (ours : AreOurs (rules_in service) texts deeds)
-    (waits : WaitsThen service log e router.core.decided) (judges : JudgesThen service log e router.core.decided router.counts deeds)
+module _ {texts : Texts} {was is : Administered} (service : Service) (log : Log) (e : Entry) (deeds : Deeds) (t now : Tabled) (roomy room : ClientNo → Bool)
+    (router : IsRouter service texts was log t roomy) (may : MayFollow log e) (ours : AreOurs (rules_in service) texts deeds)
+    (waits : WaitsThen service log e router.core.decided) (judges : JudgesThen service log e router.core.decided router.counts deeds was is)
     (goes : GoesSoBy service.setup service.default_schema log e router.core.decided router.counts deeds t now roomy room) where
   abbrev new : Decided
   new = decided_with deeds router.counts log e router.core.decided
@@ -122,7 +126,19 @@ module _ {texts : Texts} (service : Service) (log : Log) (e : Entry) (deeds : De
       let then : IsOf router.core.decided (length log) plan = of_then setup codes plan of fits in
       let fitted : Fits router.core.decided.keys setup codes plan service.default_schema (tale_of setup plan log) = fits_then setup codes plan of fits in
       judged_then service log e router.core.decided router.counts deeds router.recorded router.rules setup plan of (router.counted setup codes plan then fitted)
-      (counts_now setup codes plan of fits) (router.judged setup codes plan then fitted) (judges setup codes plan of fits)
+      (counts_now setup codes plan of fits) (router.judged setup codes plan then fitted) was is (judges setup codes plan of fits)
+
+  administers_now : AdministersSoFar then_rules service.default_schema new (with_entry log e) router.first is
+  administers_now setup codes plan of fits outcomes agree =
+      let then : IsOf router.core.decided (length log) plan = of_then setup codes plan of fits in
+      let fitted : Fits router.core.decided.keys setup codes plan service.default_schema (tale_of setup plan log) = fits_then setup codes plan of fits in
+      let counted = router.counted setup codes plan then fitted in
+      let judged = judges setup codes plan of fits in
+      administers_then service log e router.core.decided router.counts deeds router.recorded router.rules setup plan of counted
+      (counts_now setup codes plan of fits) router.first was is judged outcomes agree
+      (router.administers setup codes plan then fitted outcomes
+      (agreed service log e router.core.decided router.counts deeds router.recorded router.rules setup plan of counted (counts_now setup codes plan of fits)
+      router.first was is judged outcomes agree))
 
   held_now : AreHeldBy (key_at texts) service.default_schema new (with_entry log e)
   held_now setup codes plan of fits =
@@ -139,7 +155,7 @@ module _ {texts : Texts} (service : Service) (log : Log) (e : Entry) (deeds : De
       caused_then service.wait_ms log e router.core.decided router.counts deeds router.recorded setup plan of (router.counted setup codes plan then fitted)
       (counts_now setup codes plan of fits) (router.caused setup codes plan then fitted) (judges setup codes plan of fits).why
 
-  pub router_goes_on : AreOpenJust (with_entry log e) now → IsRouter service texts (with_entry log e) now room
+  pub router_goes_on : AreOpenJust (with_entry log e) now → IsRouter service texts is (with_entry log e) now room
   router_goes_on open_just = record {
     core = record { decided = new; rests = rests_now; safe = safe_now; written = written_now; opened = λ l there. sym (open_just l) ∙ there };
     counts = counts_with deeds router.counts log e;
@@ -149,7 +165,9 @@ module _ {texts : Texts} (service : Service) (log : Log) (e : Entry) (deeds : De
     lawful = lawful-more MayFollow log e router.lawful may;
     open_just = open_just;
     rules = then_rules;
-    ruled = forced_then service log e router.counts router.rules router.ruled;
+    first = router.first;
+    began = router.began;
+    administers = administers_now;
     spoken = spoken_then (rules_in service) texts router.core.decided router.counts log e deeds router.recorded router.rules router.spoken ours;
     waited = waited_now;
     judged = judged_now;
@@ -157,8 +175,8 @@ module _ {texts : Texts} (service : Service) (log : Log) (e : Entry) (deeds : De
     caused = caused_now;
   }
 
-module _ {texts : Texts} (service : Service) (log : Log) (e : Entry) (t : Tabled) (roomy : ClientNo → Bool) (deeds : Deeds) (setup : Setup)
-    (codes : Codes) (plan : Plan) (router : IsRouter service texts log t roomy) (may : MayFollow log e)
+module _ {texts : Texts} {admin : Administered} (service : Service) (log : Log) (e : Entry) (t : Tabled) (roomy : ClientNo → Bool) (deeds : Deeds) (setup : Setup)
+    (codes : Codes) (plan : Plan) (router : IsRouter service texts admin log t roomy) (may : MayFollow log e)
     (of : IsOf (decided_with deeds router.counts log e router.core.decided) (length (with_entry log e)) plan)
     (fits : Fits (decided_with deeds router.counts log e router.core.decided).keys setup codes plan service.default_schema (tale_of setup plan (with_entry log e)))
     (heard : All (λ (client : Client). IsHeardMore (tale_of setup plan (with_entry log e)) client) (tale_of setup plan log).clients) where
@@ -168,7 +186,7 @@ module _ {texts : Texts} (service : Service) (log : Log) (e : Entry) (t : Tabled
   fits_old : Fits router.core.decided.keys setup codes plan service.default_schema (tale_of setup plan log)
   fits_old = fits_before router.core.decided router.counts log e deeds setup codes plan service.default_schema router.recorded heard fits
 
-  pub stood_before : IsBefore service texts log e t roomy router deeds setup codes plan
+  pub stood_before : IsBefore service texts admin log e t roomy router deeds setup codes plan
   stood_before = record {
     of = of_old;
     fits = fits_old;
@@ -180,9 +198,9 @@ module _ {texts : Texts} (service : Service) (log : Log) (e : Entry) (t : Tabled
         (router.counted setup codes plan of_old fits_old);
   }
 
-pub changed : {texts : Texts} (service : Service) (log : Log) (t now : Tabled) (roomy room : ClientNo → Bool)
-    → IsRouter service texts log t roomy → ((g : Ground) → Rests service.setup g t roomy → Rests service.setup g now room) → AreOpenJust log now
-    → IsRouter service texts log now room
+pub changed : {texts : Texts} {admin : Administered} (service : Service) (log : Log) (t now : Tabled) (roomy room : ClientNo → Bool)
+    → IsRouter service texts admin log t roomy → ((g : Ground) → Rests service.setup g t roomy → Rests service.setup g now room) → AreOpenJust log now
+    → IsRouter service texts admin log now room
 changed service log t now roomy room router rests open_just = record {
   core = record {
     decided = router.core.decided;
@@ -199,7 +217,9 @@ changed service log t now roomy room router rests open_just = record {
   lawful = router.lawful;
   open_just = open_just;
   rules = router.rules;
-  ruled = router.ruled;
+  first = router.first;
+  began = router.began;
+  administers = router.administers;
   spoken = router.spoken;
   waited = router.waited;
   judged = router.judged;
@@ -221,8 +241,8 @@ roomier service g t roomy room more rests = record {
   by c full true is = false_true (room c) full (more c is)
   by c full false is = is
 
-pub grows_roomier : {texts : Texts} (service : Service) (log : Log) (t : Tabled) (roomy room : ClientNo → Bool)
-    → IsRouter service texts log t roomy → ((c : ClientNo) → roomy c ≡ true → room c ≡ true) → IsRouter service texts log t room
+pub grows_roomier : {texts : Texts} {admin : Administered} (service : Service) (log : Log) (t : Tabled) (roomy room : ClientNo → Bool)
+    → IsRouter service texts admin log t roomy → ((c : ClientNo) → roomy c ≡ true → room c ≡ true) → IsRouter service texts admin log t room
 grows_roomier service log t roomy room router more =
     changed service log t t roomy room router (λ g rests. roomier service.setup g t roomy room more rests) router.open_just
 
@@ -248,11 +268,11 @@ not_by_now : (at : Option ℕ) → ((n : ℕ) → at ≡ Some n → 0 < n) → i
 not_by_now None later = refl
 not_by_now (Some n) later = let more : 0 < n = later n refl in grind arith
 
-pub router_of_none : (service : Service) (texts : Texts) (roomy : ClientNo → Bool) → service.loaded ≡ None → ((number : ℕ) → key_at texts number ≡ None)
+pub router_of_none : (service : Service) (texts : Texts) (admin : Administered) → IsFirst (rules_of service.configured) admin → (roomy : ClientNo → Bool) → service.loaded ≡ None → ((number : ℕ) → key_at texts number ≡ None)
     → ((setup : Setup) (codes : Codes) (plan : Plan) → plan.service ≡ service.setup → plan.room ≡ 1048576
     → ((c : ClientNo) → is_by_now 0 (plan.ends c) ≡ false) → Rests service.setup (first_ground setup codes plan) no_tables roomy)
-    → IsRouter service texts [] no_tables roomy
-router_of_none service texts roomy unloaded none stands = record {
+    → IsRouter service texts admin [] no_tables roomy
+router_of_none service texts admin begins roomy unloaded none stands = record {
   core = record {
     decided = first_deciding service.setup;
     rests = λ setup codes plan of fits.
@@ -269,7 +289,9 @@ router_of_none service texts roomy unloaded none stands = record {
   lawful = tt;
   open_just = λ l. refl;
   rules = λ name. rules_in service;
-  ruled = record { each = λ name. inl (unloaded_rules service unloaded); now = inl (unloaded_rules service unloaded) };
+  first = admin;
+  began = begins;
+  administers = λ setup codes plan of fits outcomes agree. refl;
   spoken = first_spoken (λ name. rules_in service) service.setup;
   waited = λ terms codes of fits. tt;
   judged = λ setup codes plan of fits. All-nil (AreJudged (book_of service) (λ name. rules_in service) setup plan []);

@@ -33,6 +33,7 @@ use Rattle.router_laws.specs.decisions.Counting.{CallsNone}
 use Rattle.router_laws.specs.decisions.Deeds as ds
 use Rattle.router_laws.specs.decisions.Deeds.{Word, known_with, taken_by}
 use Rattle.router_laws.specs.decisions.Plans.{HasNewcomer}
+use Rattle.core_promises.specs.Administers.{Administered}
 use Rattle.router_laws.specs.decisions.Routers.{AreOpenJust, GoesSo, IsBefore, IsRouter}
 use Rattle.router_laws.proofs.OfEntering.Deciding as deciding
 
@@ -47,8 +48,8 @@ away = Some (Some (record { place = Alone; payloads = away_payloads }))
 pub away_ours : IsEndOurs away
 away_ours = TurnedAway
 
-module _ {texts : Texts} (service : Service) (log : Log) (t now : Tabled) (roomy : ClientNo → Bool) (port : Port) (link : LinkId) (salt : List ℕ)
-    (c : ClientNo) (router : IsRouter service texts log t roomy) (may : MayFollow log (Accepted port link salt))
+module _ {texts : Texts} {admin : Administered} (service : Service) (log : Log) (t now : Tabled) (roomy : ClientNo → Bool) (port : Port) (link : LinkId) (salt : List ℕ)
+    (c : ClientNo) (router : IsRouter service texts admin log t roomy) (may : MayFollow log (Accepted port link salt))
     (count : c.0 ≡ length (accepted_links log) + 1) (last : Option (Option Word)) (said_ours : IsEndOurs last) where
   abbrev e : Entry
   e = Accepted port link salt
@@ -109,15 +110,15 @@ module _ {texts : Texts} (service : Service) (log : Log) (t now : Tabled) (roomy
       (setup : Setup) (codes : Codes) (plan : Plan) (of : IsOf new (length (with_entry log e)) plan) (fits : FitsThen new.keys setup codes plan service.default_schema log e)
       → GoesOn service.setup setup codes plan log e router.core.decided new t now roomy roomy
 
-  pub comes_routed : GoesBy → AreOpenJust (with_entry log e) now → IsRouter service texts (with_entry log e) now roomy
+  pub comes_routed : GoesBy → AreOpenJust (with_entry log e) now → IsRouter service texts admin (with_entry log e) now roomy
   comes_routed goes =
       router_goes_on service log e deeds t now roomy roomy router may
       (deciding.ours service log e t now roomy roomy router may c [] Resting last (All-nil (IsOurs (rules_in service) texts c)) said_ours) (λ terms codes of fits. tt)
-      (judges_of_none service log e router.core.decided router.counts c last) goes_so where
+      (judges_of_none service log e router.core.decided router.counts c last admin) goes_so where
         goes_so : (setup : Setup) (codes : Codes) (plan : Plan) → IsOf new (length (with_entry log e)) plan → FitsThen new.keys setup codes plan service.default_schema log e
             → GoesSo service.setup setup codes plan log e router.core.decided router.counts deeds t now roomy roomy
         goes_so setup codes plan of fits =
-            let was : IsBefore service texts log e t roomy router deeds setup codes plan =
+            let was : IsBefore service texts admin log e t roomy router deeds setup codes plan =
             deciding.before service log e t now roomy roomy router may c [] Resting last (All-nil (IsOurs (rules_in service) texts c)) said_ours setup codes plan of fits in
             record {
               goes = goes setup codes plan of fits;

@@ -50,14 +50,16 @@ use Rattle.router_laws.proofs.OfDecisions.Router.{router_goes_on, stood_before}
 use Rattle.router_laws.proofs.OfDecisions.Tallying.{counts_then}
 use Rattle.router_laws.proofs.OfDecisions.Working.{none_given}
 use Rattle.router_laws.proofs.OfDecisions.Speaking.{ours_alone, ours_of_one, ours_told}
-use Rattle.core_promises.specs.Ruled.{AreRuled, book_of, ruling_of}
-use Rattle.router_laws.specs.decisions.Judges.{JudgedFrom, JudgesThen}
+use Rattle.core_promises.specs.Ruled.{AreRuled, ruling_of}
+use Rattle.router_laws.proofs.OfDecisions.Stating.{IsNumbered}
+use Rattle.router_laws.specs.decisions.Judges.{JudgedFrom, JudgesThen, judging_by}
 use Rattle.router_laws.specs.decisions.Speaks.{AreOurs, IsEndOurs, IsOurs}
 use Rattle.router_laws.specs.decisions.Counting.{BeginsSo, TakesSo}
 use Rattle.router_laws.specs.decisions.Deeds as ds
 use Rattle.router_laws.specs.decisions.Deeds.{AreAlone, Deeds, Word, counts_with, decided_with, known_with, no_deeds, parting, taken_by, taking}
 use Rattle.router_laws.specs.decisions.Goings.{end_of}
 use Rattle.router_laws.specs.decisions.Plans.{HasDeeds, PlansSo}
+use Rattle.core_promises.specs.Administers.{Administered}
 use Rattle.router_laws.specs.decisions.Routers.{AreOpenJust, GoesSo, IsBefore, IsRouter, WaitsThen}
 use Rattle.router_laws.specs.decisions.Rulings.{AreKeptIn}
 use Rattle.core_texts.specs.Texts.{key_at}
@@ -113,8 +115,8 @@ and_none : (a : Bool) → (a && false) ≡ false
 and_none true = refl
 and_none false = refl
 
-module _ {texts : Texts} (service : Service) (log : Log) (e : Entry) (t now : Tabled) (roomy room : ClientNo → Bool)
-    (router : IsRouter service texts log t roomy) (may : MayFollow log e) (c : ClientNo) (choices : List Choice) (halt : Halt)
+module _ {texts : Texts} {admin : Administered} (service : Service) (log : Log) (e : Entry) (t now : Tabled) (roomy room : ClientNo → Bool)
+    (router : IsRouter service texts admin log t roomy) (may : MayFollow log e) (c : ClientNo) (choices : List Choice) (halt : Halt)
     (last : Option (Option Word)) (all_ours : All (IsOurs (rules_in service) texts c) choices) (end_ours : IsEndOurs last) where
   abbrev pub deeds : Deeds
   deeds = parting c last (taking c choices halt no_deeds)
@@ -141,7 +143,7 @@ module _ {texts : Texts} (service : Service) (log : Log) (e : Entry) (t now : Ta
     abbrev pub g : Ground
     g = ground setup codes plan d log
 
-    pub before : IsBefore service texts log e t roomy router deeds setup codes plan
+    pub before : IsBefore service texts admin log e t roomy router deeds setup codes plan
     before = stood_before service log e t roomy deeds setup codes plan router may of fits (heard_always setup plan log e)
 
     pub so : PlansSo g log e deeds
@@ -311,14 +313,15 @@ module _ {texts : Texts} (service : Service) (log : Log) (e : Entry) (t now : Ta
       (setup : Setup) (codes : Codes) (plan : Plan) (of : IsOf new (length (with_entry log e)) plan) (fits : FitsThen new.keys setup codes plan service.default_schema log e)
       → GoesTaking service.setup setup codes plan log e d new t now roomy room c (taken_by choices halt)
 
-  pub goes_router : WaitsThen service log e router.core.decided → JudgesThen service log e router.core.decided router.counts deeds → GoesBy → ((tale : Tale) (x : tales.Client) → HasCome tale e x → ⊥) → ((setup : Setup) (tale : Tale) → BeginsSo setup tale e deeds)
-      → AreOpenJust (with_entry log e) now → IsRouter service texts (with_entry log e) now room
-  goes_router waits judges goes uncome begins = router_goes_on service log e deeds t now roomy room router may ours waits judges goes_so where
+  pub goes_router : (is : Administered) → WaitsThen service log e router.core.decided
+      → JudgesThen service log e router.core.decided router.counts deeds admin is → GoesBy → ((tale : Tale) (x : tales.Client) → HasCome tale e x → ⊥) → ((setup : Setup) (tale : Tale) → BeginsSo setup tale e deeds)
+      → AreOpenJust (with_entry log e) now → IsRouter service texts is (with_entry log e) now room
+  goes_router is waits judges goes uncome begins = router_goes_on service log e deeds t now roomy room router may ours waits judges goes_so where
     goes_so : (setup : Setup) (codes : Codes) (plan : Plan) → IsOf new (length (with_entry log e)) plan → FitsThen new.keys setup codes plan service.default_schema log e
         → GoesSo service.setup setup codes plan log e d router.counts deeds t now roomy room
     goes_so setup codes plan of fits =
         let taking_it : GoesTaking service.setup setup codes plan log e d new t now roomy room c (taken_by choices halt) = goes setup codes plan of fits in
-        let was : IsBefore service texts log e t roomy router deeds setup codes plan = before setup codes plan of fits in
+        let was : IsBefore service texts admin log e t roomy router deeds setup codes plan = before setup codes plan of fits in
         record {
           goes = taking_it.goes;
           counts = counts_then setup plan d router.counts log e deeds router.recorded was.counts may
@@ -327,12 +330,14 @@ module _ {texts : Texts} (service : Service) (log : Log) (e : Entry) (t now : Ta
 
   -- and what it takes up is ruled
 
-  module _ (ordinal : ℕ) (mid turned : Tabled) (turns : Turns choices halt service.setup service.default_schema c mid turned)
-      (ruled : AreRuled (ruling_of service texts.since (key_at texts)) choices halt service.setup service.default_schema c mid turned turns) where
+  module _ (is : Administered) (settled : admin.rules ≡ rules_in service) (ordinal : ℕ) (mid turned : Tabled)
+      (turns : Turns choices halt service.setup service.default_schema c mid turned)
+      (ruled : AreRuled (ruling_of service texts.since (key_at texts) admin is) choices halt service.setup service.default_schema c mid turned turns) where
     pub record Finds (setup : Setup) (codes : Codes) (plan : Plan) : Type 0 where
       pub so : GoesFinding service.setup service.default_schema setup codes plan log e d new t now roomy room c ordinal choices halt mid turned turns
       pub next : ordinal ≡ suc (router.counts.taken c)
-      pub kept : AreKeptIn (ruling_of service texts.since (key_at texts)) (mid.clients c)
+      pub kept : AreKeptIn (ruling_of service texts.since (key_at texts) admin is) (mid.clients c)
+      pub numbered : IsNumbered (tale_of setup plan (with_entry log e)) c
 
     abbrev pub FindsBy : Type 0
     FindsBy =
@@ -340,18 +345,22 @@ module _ {texts : Texts} (service : Service) (log : Log) (e : Entry) (t now : Ta
         (fits : FitsThen new.keys setup codes plan service.default_schema log e) → Finds setup codes plan
 
     pub finds_router : WaitsThen service log e router.core.decided → FindsBy → ((tale : Tale) (x : tales.Client) → HasCome tale e x → ⊥)
-        → ((setup : Setup) (tale : Tale) → BeginsSo setup tale e deeds) → AreOpenJust (with_entry log e) now → IsRouter service texts (with_entry log e) now room
-    finds_router waits finds = goes_router waits (judges_taking service log e d router.counts c choices halt last judged) goes where
+        → ((setup : Setup) (tale : Tale) → BeginsSo setup tale e deeds) → AreOpenJust (with_entry log e) now → IsRouter service texts is (with_entry log e) now room
+    finds_router waits finds = goes_router is waits (judges_taking service log e d router.counts c choices halt last admin is settled judged) goes where
       goes : GoesBy
       goes setup codes plan of fits =
           subst (λ (k : ℕ). GoesTaking service.setup setup codes plan log e d new t now roomy room c k) (count_alike choices halt)
           (finds setup codes plan of fits).so.goes
 
       judged : (setup : Setup) (codes : Codes) (plan : Plan) → IsOf new (length (with_entry log e)) plan → FitsThen new.keys setup codes plan service.default_schema log e
-          → (client : tales.Client) → IsSeated (tale_of setup plan (with_entry log e)) client → client.number ≡ c
-          → JudgedFrom (book_of service) setup plan client (takings_at setup plan (tale_of setup plan log) e) (router.counts.taken c) choices halt
-      judged setup codes plan of fits client seated number =
-          judged_by (ruling_of service texts.since (key_at texts)) setup plan client (known_keys texts d.keys router.known setup fits.keyed) (takings_at setup plan (tale_of setup plan log) e) (router.counts.taken c) choices halt service.setup
-          service.default_schema c number mid turned turns
-          ((finds setup codes plan of fits).so.finds (before setup codes plan of fits).rests (router.counts.taken c) (finds setup codes plan of fits).next
-          client seated number) ruled (finds setup codes plan of fits).kept
+          → IsNumbered (tale_of setup plan (with_entry log e)) c
+          × ((client : tales.Client) → IsSeated (tale_of setup plan (with_entry log e)) client → client.number ≡ c
+          → JudgedFrom (judging_by service admin is) setup plan client (takings_at setup plan (tale_of setup plan log) e) (router.counts.taken c) choices halt)
+      judged setup codes plan of fits = (
+        (finds setup codes plan of fits).numbered,
+        λ client seated number.
+            judged_by (ruling_of service texts.since (key_at texts) admin is) setup plan client (known_keys texts d.keys router.known setup fits.keyed) (takings_at setup plan (tale_of setup plan log) e) (router.counts.taken c) choices halt service.setup
+            service.default_schema c number mid turned turns
+            ((finds setup codes plan of fits).so.finds (before setup codes plan of fits).rests (router.counts.taken c) (finds setup codes plan of fits).next
+            client seated number) ruled (finds setup codes plan of fits).kept,
+      )

@@ -18,6 +18,7 @@ use Rattle.private_model.specs.Story.{is_client}
 use Rattle.private_model.specs.View.{Setup}
 use Rattle.link_laws.specs.Stands.{Codes}
 use Rattle.log_story.specs.Plan.{Plan}
+use Rattle.log_story.specs.Headline.{tale_of}
 use Rattle.log_story.specs.Tale as tales
 use Rattle.log_story.specs.Tale.{Tale}
 use Rattle.tale_world.specs.Decided.{Decided}
@@ -32,6 +33,7 @@ use Rattle.router_laws.proofs.OfWaits.Then.{loss_waits}
 use Rattle.core_promises.specs.Ruled.{AreRuled, ruling_of}
 use Rattle.router_laws.specs.decisions.Speaks.{IsOurs, IsPartingOurs}
 use Rattle.router_laws.specs.decisions.Goings.{end_of}
+use Rattle.core_promises.specs.Administers.{Administered}
 use Rattle.router_laws.specs.decisions.Routers.{IsRouter}
 use Rattle.core_laws.specs.entry.Cores.{with_entry}
 use Rattle.core_laws.specs.entry.Safe.{IsSafe}
@@ -49,6 +51,7 @@ use Rattle.router_laws.proofs.OfDecisions.Kept.{anew_kept}
 use Rattle.router_laws.proofs.OfDecisions.KeptOn.{before_kept}
 use Rattle.router_laws.specs.decisions.Held.{AreHeldSince}
 use Rattle.router_laws.proofs.OfEntering.Deciding as deciding
+use Rattle.router_laws.proofs.OfDecisions.Stating.{IsNumbered, numbered_then}
 use Rattle.router_laws.proofs.OfEntering.Deciding.{Told}
 use Rattle.router_laws.proofs.OfEntering.Opening.{again_keeps, at_once_keeps, going_keeps, loss_opens, opens_kept}
 use Rattle.router_laws.specs.entering.Rooms.{OthersLack}
@@ -90,12 +93,12 @@ serves phase.LoggingIn b is = refl
 serves (phase.Serving account) b is = refl
 serves phase.Ended b is = absurd (false≢true is)
 
-pub again_routed : Again → (service : Service) (texts : Texts) (log : Log) (e : Entry) (t now : Tabled) (roomy : ClientNo → Bool) (link : LinkId) (c : ClientNo)
-    → IsRouter service texts log t roomy → MayFollow log e → IsLossOf link e → LeavesAgain link c t now
-    → IsRouter service texts (with_entry log e) now roomy
-again_routed law service texts log e t now roomy link c router may lost so =
-    deciding.goes_router service log e t now roomy roomy router may c [] Resting None (All-nil (IsOurs (rules_in service) texts c)) tt (loss_waits service log e link router.core.decided lost)
-    (judges_of_none service log e router.core.decided router.counts c None)
+pub again_routed : Again → (service : Service) (texts : Texts) (admin : Administered) (log : Log) (e : Entry) (t now : Tabled) (roomy : ClientNo → Bool) (link : LinkId) (c : ClientNo)
+    → IsRouter service texts admin log t roomy → MayFollow log e → IsLossOf link e → LeavesAgain link c t now
+    → IsRouter service texts admin (with_entry log e) now roomy
+again_routed law service texts admin log e t now roomy link c router may lost so =
+    deciding.goes_router service log e t now roomy roomy router may c [] Resting None (All-nil (IsOurs (rules_in service) texts c)) tt admin (loss_waits service log e link router.core.decided lost)
+    (judges_of_none service log e router.core.decided router.counts c None admin)
     (λ setup codes plan of fits.
     let was = deciding.before service log e t now roomy roomy router may c [] Resting None (All-nil (IsOurs (rules_in service) texts c)) tt setup codes plan of fits in
     law service.setup service.default_schema setup codes plan log e router.core.decided
@@ -104,12 +107,12 @@ again_routed law service texts log e t now roomy link c router may lost so =
     ((loss_of link e lost).none_comes) (loss_begins link e lost _)
     (opens_kept log e t now (loss_opens link e lost) (again_keeps link c t now so) router.open_just)
 
-pub at_once_routed : AtOnce → (service : Service) (texts : Texts) (log : Log) (e : Entry) (t now : Tabled) (roomy room : ClientNo → Bool) (link : LinkId)
-    (c : ClientNo) (links : List LinkId) → IsRouter service texts log t roomy → MayFollow log e → IsLossOf link e
-    → LeavesAtOnce link links c roomy t now → OthersLack c roomy room → IsRouter service texts (with_entry log e) now room
-at_once_routed law service texts log e t now roomy room link c links router may lost so others =
-    deciding.goes_router service log e t now roomy room router may c [] Resting (Some None) (All-nil (IsOurs (rules_in service) texts c)) tt (loss_waits service log e link router.core.decided lost)
-    (judges_of_none service log e router.core.decided router.counts c (Some None))
+pub at_once_routed : AtOnce → (service : Service) (texts : Texts) (admin : Administered) (log : Log) (e : Entry) (t now : Tabled) (roomy room : ClientNo → Bool) (link : LinkId)
+    (c : ClientNo) (links : List LinkId) → IsRouter service texts admin log t roomy → MayFollow log e → IsLossOf link e
+    → LeavesAtOnce link links c roomy t now → OthersLack c roomy room → IsRouter service texts admin (with_entry log e) now room
+at_once_routed law service texts admin log e t now roomy room link c links router may lost so others =
+    deciding.goes_router service log e t now roomy room router may c [] Resting (Some None) (All-nil (IsOurs (rules_in service) texts c)) tt admin (loss_waits service log e link router.core.decided lost)
+    (judges_of_none service log e router.core.decided router.counts c (Some None) admin)
     (λ setup codes plan of fits.
     let was = deciding.before service log e t now roomy room router may c [] Resting (Some None) (All-nil (IsOurs (rules_in service) texts c)) tt setup codes plan of fits in
     let g : Ground = ground setup codes plan router.core.decided log in
@@ -125,38 +128,40 @@ at_once_routed law service texts log e t now roomy room link c links router may 
     ((loss_of link e lost).none_comes) (loss_begins link e lost _)
     (opens_kept log e t now (loss_opens link e lost) (at_once_keeps link links c roomy t now so) router.open_just)
 
-pub going_routed : Going → Told → (service : Service) (texts : Texts) (log : Log) (e : Entry) (t now : Tabled) (roomy room : ClientNo → Bool) (link : LinkId)
+pub going_routed : Going → Told → (service : Service) (texts : Texts) (admin is : Administered) (log : Log) (e : Entry) (t now : Tabled) (roomy room : ClientNo → Bool) (link : LinkId)
     (c : ClientNo) (links : List LinkId) (ordinal : ℕ) (choices : List Choice) (halt : Halt) (parting : Parting)
-    → (router : IsRouter service texts log t roomy) → MayFollow log e → IsLossOf link e
+    → (router : IsRouter service texts admin log t roomy) → MayFollow log e → IsLossOf link e
     → (so : LeavesGoing service.setup service.default_schema link links ordinal choices halt parting c t now)
     → All (IsOurs (rules_in service) texts c) choices → IsPartingOurs parting
     → OthersLack c roomy room
-    → AreRuled (ruling_of service texts.since (key_at texts)) choices halt service.setup service.default_schema c so.between so.follows.turned so.follows.turns
-    → AreHeldSince texts service.default_schema router.core.decided log → IsRouter service texts (with_entry log e) now room
-going_routed law told service texts log e t now roomy room link c links ordinal choices halt parting router may lost so ours told_ours others ruled since =
-    deciding.finds_router service log e t now roomy room router may c choices halt (end_of parting) ours (end_ours parting told_ours) ordinal so.between
+    → AreRuled (ruling_of service texts.since (key_at texts) admin is) choices halt service.setup service.default_schema c so.between so.follows.turned so.follows.turns
+    → AreHeldSince texts service.default_schema router.core.decided log → admin.rules ≡ rules_in service
+    → IsRouter service texts is (with_entry log e) now room
+going_routed law told service texts admin is log e t now roomy room link c links ordinal choices halt parting router may lost so ours told_ours others ruled since settled =
+    deciding.finds_router service log e t now roomy room router may c choices halt (end_of parting) ours (end_ours parting told_ours) is settled ordinal so.between
     so.follows.turned so.follows.turns ruled (loss_waits service log e link router.core.decided lost)
     (λ setup codes plan of fits.
     let was = deciding.before service log e t now roomy room router may c choices halt (end_of parting) ours (end_ours parting told_ours) setup codes plan of fits in
     let g : Ground = ground setup codes plan router.core.decided log in
     let client : tales.Client = client_there service.setup g t link c so.row was.rests.stands so.its in
-    let is : IsKnown g c client = known service.setup g t link c so.row was.rests.stands so.its in
+    let at : IsKnown g c client = known service.setup g t link c so.row was.rests.stands so.its in
     let own = is_client_row service.setup g t link c so.row was.rests.stands so.its in
     let lives : is_ended so.row.desk.seat.phase ≡ false = serves so.row.desk.seat.phase so.row.desk.seat.answered so.rests in
     let going : g.over client.number ≡ false = goes_there g client so.row own lives in
-    let still : g.over c ≡ false = ap g.over (sym is.number) ∙ going in
+    let still : g.over c ≡ false = ap g.over (sym at.number) ∙ going in
     let arrived : so.row.desk.seat.client.arrived ≡ client.taken = arrived_there g client so.row own lives in
     record {
       so = law service.setup service.default_schema setup codes plan log e router.core.decided
           (deciding.new service log e t now roomy room router may c choices halt (end_of parting) ours (end_ours parting told_ours)) t now roomy room link c links ordinal choices halt
           parting fits lost was.safe
-          (deciding.turns_of_it service log e t now roomy room router may c choices halt (end_of parting) ours (end_ours parting told_ours) setup codes plan of fits client is.seated is.number
+          (deciding.turns_of_it service log e t now roomy room router may c choices halt (end_of parting) ours (end_ours parting told_ours) setup codes plan of fits client at.seated at.number
           still ordinal parting (so.next ∙ ap suc arrived) refl so.follows.once told) so others;
       next = so.next ∙ ap suc (arrived ∙ deciding.counted_so service log e t now roomy room router may c choices halt (end_of parting) ours
-          (end_ours parting told_ours) setup codes plan of fits client is.seated is.number still);
-      kept = anew_kept (ruling_of service texts.since (key_at texts)) links c so.row t so.between so.leaves so.its.there
-          (before_kept (ruling_of service texts.since (key_at texts)) service.setup setup codes plan router.core.decided log t client c is.number
-          was.rests.stands is.seated going (since setup codes plan was.of was.fits));
+          (end_ours parting told_ours) setup codes plan of fits client at.seated at.number still);
+      numbered = subst (IsNumbered (tale_of setup plan (with_entry log e))) at.number (numbered_then setup plan log e client at.seated);
+      kept = anew_kept (ruling_of service texts.since (key_at texts) admin is) links c so.row t so.between so.leaves so.its.there
+          (before_kept (ruling_of service texts.since (key_at texts) admin is) service.setup setup codes plan router.core.decided log t client c at.number
+          was.rests.stands at.seated going (since setup codes plan was.of was.fits));
     })
     ((loss_of link e lost).none_comes) (loss_begins link e lost _)
     (opens_kept log e t now (loss_opens link e lost)

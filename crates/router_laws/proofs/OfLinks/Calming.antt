@@ -38,6 +38,7 @@ use Rattle.router_laws.specs.decisions.Speaks.{AreOurs}
 use Rattle.router_laws.specs.decisions.Counting.{BeginsSo}
 use Rattle.router_laws.specs.decisions.Deeds.{AreAlone, Deeds, counts_with, decided_with, taken_by}
 use Rattle.router_laws.specs.decisions.Plans.{EndsNone, PlansSo}
+use Rattle.core_promises.specs.Administers.{Administered}
 use Rattle.router_laws.specs.decisions.Routers.{AreOpenJust, GoesSo, IsBefore, IsRouter, WaitsThen}
 
 -- nobody has anything to take up by these
@@ -47,8 +48,8 @@ pub record IsIdleBy (deeds : Deeds) : Type 0 where
   pub none : EndsNone deeds
   pub takes : (c : ClientNo) → taken_by (deeds.calls c) (deeds.halts c) ≡ 0
 
-module _ {texts : Texts} (service : Service) (log : Log) (e : Entry) (deeds : Deeds) (t now : Tabled) (roomy room : ClientNo → Bool)
-    (router : IsRouter service texts log t roomy) (may : MayFollow log e) (idle : IsIdleBy deeds)
+module _ {texts : Texts} {admin : Administered} (service : Service) (log : Log) (e : Entry) (deeds : Deeds) (t now : Tabled) (roomy room : ClientNo → Bool)
+    (router : IsRouter service texts admin log t roomy) (may : MayFollow log e) (idle : IsIdleBy deeds)
     (waits : WaitsThen service log e router.core.decided) where
   abbrev d : Decided
   d = router.core.decided
@@ -58,7 +59,7 @@ module _ {texts : Texts} (service : Service) (log : Log) (e : Entry) (deeds : De
 
   -- what there is by one setup and plan
   pub record IsKnown (setup : Setup) (codes : Codes) (plan : Plan) : Type 0 where
-    pub stood : IsBefore service texts log e t roomy router deeds setup codes plan
+    pub stood : IsBefore service texts admin log e t roomy router deeds setup codes plan
     pub so : PlansSo (ground setup codes plan d log) log e deeds
     pub decided : IsDecided (ground setup codes plan d log) nobody (over_by new)
 
@@ -73,7 +74,7 @@ module _ {texts : Texts} (service : Service) (log : Log) (e : Entry) (deeds : De
     abbrev g : Ground
     g = ground setup codes plan d log
 
-    stood_so : IsBefore service texts log e t roomy router deeds setup codes plan
+    stood_so : IsBefore service texts admin log e t roomy router deeds setup codes plan
     stood_so = stood_before service log e t roomy deeds setup codes plan router may of fits (heard_always setup plan log e)
 
     plans : PlansSo g log e deeds
@@ -113,8 +114,8 @@ module _ {texts : Texts} (service : Service) (log : Log) (e : Entry) (deeds : De
       }
 
   pub calm_router : ((setup : Setup) (codes : Codes) (plan : Plan) → IsKnown setup codes plan → GoesCalm setup codes plan) → AreOpenJust (with_entry log e) now
-      → IsRouter service texts (with_entry log e) now room
+      → IsRouter service texts admin (with_entry log e) now room
   calm_router makes rows =
       router_goes_on service log e deeds t now roomy room router may (idle.ours (rules_in service) texts) waits
-      (judges_none service log e d router.counts deeds idle.takes idle.none.given)
+      (judges_none service log e d router.counts deeds admin idle.takes idle.none.given)
       (λ setup codes plan of fits. goes_so setup codes plan of fits (makes setup codes plan (known setup codes plan of fits))) rows

@@ -43,6 +43,7 @@ use Rattle.router_laws.specs.clients.Plans.{IsDecided, PlansEnd, ends_of, over_b
 use Rattle.router_laws.proofs.OfDecisions.Judging.{judges_of_none}
 use Rattle.router_laws.proofs.OfWaits.Then.{break_waits}
 use Rattle.router_laws.specs.decisions.Speaks.{IsOurs}
+use Rattle.core_promises.specs.Administers.{Administered}
 use Rattle.router_laws.specs.decisions.Routers.{IsRouter}
 use Rattle.router_laws.specs.links.Loses.{Break, LosesEnded, entry_by}
 
@@ -59,8 +60,8 @@ works_going : (g : Ground) (client : tales.Client) (row : Client) (work : Work) 
 works_going g client row work works true is = absurd (none-some work (sym is.idle ∙ works))
 works_going g client row work works false is = is.going
 
-module _ {texts : Texts} (laws : Laws) (service : Service) (log : Log) (t now : Tabled) (roomy : ClientNo → Bool) (l : LinkId) (how : Break)
-    (c : ClientNo) (links : List LinkId) (router : IsRouter service texts log t roomy) (may : MayFollow log (entry_by how l))
+module _ {texts : Texts} {admin : Administered} (laws : Laws) (service : Service) (log : Log) (t now : Tabled) (roomy : ClientNo → Bool) (l : LinkId) (how : Break)
+    (c : ClientNo) (links : List LinkId) (router : IsRouter service texts admin log t roomy) (may : MayFollow log (entry_by how l))
     (so : LosesEnded l c links t now) where
   abbrev e : Entry
   e = entry_by how l
@@ -87,9 +88,9 @@ module _ {texts : Texts} (laws : Laws) (service : Service) (log : Log) (t now : 
       (ap (word_at plan (suc g.tale.moment)) is.number ∙ ends.wordless_now) (λ m route its routed. fits.single m route routed)
       (subst (λ (ks : List LinkId). Ascend (λ k. k.0) ks) (sym (log_links setup plan log first_tale)) ends.rising))
 
-  pub ended_routed : IsRouter service texts (with_entry log e) now roomy
+  pub ended_routed : IsRouter service texts admin (with_entry log e) now roomy
   ended_routed =
-      deciding.goes_router service log e t now roomy roomy router may c [] Resting (Some None) (All-nil (IsOurs (rules_in service) texts c)) tt (break_waits service log how l router.core.decided)
-      (judges_of_none service log e router.core.decided router.counts c (Some None)) goes
+      deciding.goes_router service log e t now roomy roomy router may c [] Resting (Some None) (All-nil (IsOurs (rules_in service) texts c)) tt admin (break_waits service log how l router.core.decided)
+      (judges_of_none service log e router.core.decided router.counts c (Some None) admin) goes
       (λ tale x come. (lost_plain tale how l).comes x come) (λ setup tale. lost_begins setup tale how l _)
       (loses_open log t now how l router.open_just (ended_keeps l c links t now so))

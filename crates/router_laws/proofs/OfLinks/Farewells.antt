@@ -20,8 +20,9 @@ use Rattle.core_tables.specs.declared.client.Client.{Client}
 use Rattle.core_tables.specs.Tables.{IsSame, Tabled}
 use Rattle.core_tables.specs.Writing.{wrote_on}
 use Rattle.core_promises.specs.Ruled.{ruling_of}
-use Rattle.router_laws.specs.decisions.Rulings.{IsRuledOn}
+use Rattle.router_laws.specs.decisions.Rulings.{IsRuledOn, IsSettledFor}
 use Rattle.router_laws.specs.decisions.Speaks.{AreGivenOurs, AreGoingOurs}
+use Rattle.core_promises.specs.Administers.{Administered}
 use Rattle.router_laws.specs.decisions.Routers.{IsRouter}
 use Rattle.core_laws.specs.entry.Cores.{with_entry}
 use Rattle.core_laws.specs.clients.Going.{GivenUp, Going, IsCalled, is_going, told_to}
@@ -38,22 +39,22 @@ use Rattle.core_texts.specs.Texts.{key_at}
 
 -- The laws by which it goes.
 pub record Laws : Type 0 where
-  pub marks : (service : Service) (texts : Texts) (log marks : Log) (t : Tabled) (roomy : ClientNo → Bool) → IsRouter service texts log t roomy
-      → AreMarks marks → length (log ++ marks) < 281474976710656 → IsRouter service texts (log ++ marks) t roomy
-  pub quiet : (service : Service) (texts : Texts) (log : Log) (e : Entry) (t : Tabled) (roomy : ClientNo → Bool)
-      → IsRouter service texts log t roomy → MayFollow log e → is_quiet e ≡ true → IsDrainedAt t log e → IsRouter service texts (with_entry log e) t roomy
-  pub writes : (service : Service) (texts : Texts) (log : Log) (t now : Tabled) (roomy : ClientNo → Bool) (l : LinkId) (offer : Sent) (count : ℕ)
-      → IsRouter service texts log t roomy → MayFollow log (entry.Wrote l offer.tag (take count offer.bytes)) → WritesSo l offer count t now
-      → IsRouter service texts (with_entry log (entry.Wrote l offer.tag (take count offer.bytes))) now roomy
-  pub loses : (service : Service) (texts : Texts) (log : Log) (t now : Tabled) (roomy : ClientNo → Bool) (l : LinkId) (how : Break)
-      (given : Option GivenUp) (going : Option Going) → (router : IsRouter service texts log t roomy) → MayFollow log (entry_by how l)
+  pub marks : (service : Service) (texts : Texts) (admin : Administered) (log marks : Log) (t : Tabled) (roomy : ClientNo → Bool) → IsRouter service texts admin log t roomy
+      → AreMarks marks → length (log ++ marks) < 281474976710656 → IsRouter service texts admin (log ++ marks) t roomy
+  pub quiet : (service : Service) (texts : Texts) (admin : Administered) (log : Log) (e : Entry) (t : Tabled) (roomy : ClientNo → Bool)
+      → IsRouter service texts admin log t roomy → MayFollow log e → is_quiet e ≡ true → IsDrainedAt t log e → IsRouter service texts admin (with_entry log e) t roomy
+  pub writes : (service : Service) (texts : Texts) (admin : Administered) (log : Log) (t now : Tabled) (roomy : ClientNo → Bool) (l : LinkId) (offer : Sent) (count : ℕ)
+      → IsRouter service texts admin log t roomy → MayFollow log (entry.Wrote l offer.tag (take count offer.bytes)) → WritesSo l offer count t now
+      → IsRouter service texts admin (with_entry log (entry.Wrote l offer.tag (take count offer.bytes))) now roomy
+  pub loses : (service : Service) (texts : Texts) (admin is : Administered) (log : Log) (t now : Tabled) (roomy : ClientNo → Bool) (l : LinkId) (how : Break)
+      (given : Option GivenUp) (going : Option Going) → (router : IsRouter service texts admin log t roomy) → MayFollow log (entry_by how l)
       → AreGivenOurs given → AreGoingOurs (rules_in service) texts going → (so : LosesSo service.setup service.default_schema l given going t now)
-      → IsRuledOn (ruling_of service texts.since (key_at texts)) going service.setup service.default_schema so.lost now so.goes → IsLostFor l t given
-      → AreHeldFor going texts service.default_schema router.core.decided log
-      → IsRouter service texts (with_entry log (entry_by how l)) now roomy
-  pub closes : (service : Service) (texts : Texts) (log : Log) (t now : Tabled) (roomy room : ClientNo → Bool) (l : LinkId)
-      → IsRouter service texts log t roomy → MayFollow log (entry.Closed l) → ((c : ClientNo) → room c ≡ false → roomy c ≡ false)
-      → ClosesSo l room t now → IsRouter service texts (with_entry log (entry.Closed l)) now room
+      → IsRuledOn (ruling_of service texts.since (key_at texts) admin is) going service.setup service.default_schema so.lost now so.goes → IsLostFor l t given
+      → AreHeldFor going texts service.default_schema router.core.decided log → IsSettledFor going service admin
+      → IsRouter service texts is (with_entry log (entry_by how l)) now roomy
+  pub closes : (service : Service) (texts : Texts) (admin : Administered) (log : Log) (t now : Tabled) (roomy room : ClientNo → Bool) (l : LinkId)
+      → IsRouter service texts admin log t roomy → MayFollow log (entry.Closed l) → ((c : ClientNo) → room c ≡ false → roomy c ≡ false)
+      → ClosesSo l room t now → IsRouter service texts admin (with_entry log (entry.Closed l)) now room
 
 -- No more is taken than there is.
 
@@ -81,8 +82,8 @@ is_not : (b : Bool) → not b ≡ true → b ≡ false
 is_not false is = refl
 is_not true is = absurd (false≢true is)
 
-module _ {texts : Texts} (laws : Laws) (service : Service) (log marks : Log) (t : Tabled) (roomy room : ClientNo → Bool) (l : LinkId)
-    (lent : Option Sent) (router : IsRouter service texts log t roomy) (only : AreMarks marks)
+module _ {texts : Texts} {admin : Administered} (laws : Laws) (service : Service) (log marks : Log) (t : Tabled) (roomy room : ClientNo → Bool) (l : LinkId)
+    (lent : Option Sent) (router : IsRouter service texts admin log t roomy) (only : AreMarks marks)
     (rooms : (c : ClientNo) → room c ≡ false → roomy c ≡ false) (may : MayClose l room t)
     (says : MaySayFarewell l (λ (c : ClientNo). not (is_going (t.clients c))) t) (lends : IsLentThere l lent t) where
   abbrev now : Tabled
@@ -91,15 +92,15 @@ module _ {texts : Texts} (laws : Laws) (service : Service) (log marks : Log) (t 
   abbrev Goes : Entry → Type 0
   Goes e =
       MayFollow log e → MayFollow (log ++ e ∷ [] ++ marks) (entry.Closed l)
-      → IsRouter service texts (log ++ e ∷ [] ++ marks ++ entry.Closed l ∷ []) now room
+      → IsRouter service texts admin (log ++ e ∷ [] ++ marks ++ entry.Closed l ∷ []) now room
 
   -- behind the write
-  behind : (e : Entry) (x : Tabled) → MayFollow (log ++ e ∷ [] ++ marks) (entry.Closed l) → IsRouter service texts (with_entry log e) x roomy
-      → ClosesSo l room x now → IsRouter service texts (log ++ e ∷ [] ++ marks ++ entry.Closed l ∷ []) now room
+  behind : (e : Entry) (x : Tabled) → MayFollow (log ++ e ∷ [] ++ marks) (entry.Closed l) → IsRouter service texts admin (with_entry log e) x roomy
+      → ClosesSo l room x now → IsRouter service texts admin (log ++ e ∷ [] ++ marks ++ entry.Closed l ∷ []) now room
   behind e x follow stood so =
       let size : length (log ++ e ∷ [] ++ marks) + 1 < 281474976710656 = follow.bounded in
-      laws.closes service texts (log ++ e ∷ [] ++ marks) x now roomy room l
-      (laws.marks service texts (with_entry log e) marks x roomy stood only (less (length (log ++ e ∷ [] ++ marks)) size)) follow rooms so
+      laws.closes service texts admin (log ++ e ∷ [] ++ marks) x now roomy room l
+      (laws.marks service texts admin (with_entry log e) marks x roomy stood only (less (length (log ++ e ∷ [] ++ marks)) size)) follow rooms so
     where
       less : (n : ℕ) → n + 1 < 281474976710656 → n < 281474976710656
       less n is = omega (arith, is)
@@ -107,7 +108,7 @@ module _ {texts : Texts} (laws : Laws) (service : Service) (log marks : Log) (t 
   -- nothing was written
   nothing : Goes (entry.WriteNothing l)
   nothing follow last =
-      behind (entry.WriteNothing l) t last (laws.quiet service texts log (entry.WriteNothing l) t roomy router follow refl tt)
+      behind (entry.WriteNothing l) t last (laws.quiet service texts admin log (entry.WriteNothing l) t roomy router follow refl tt)
       (record { may = may; same = same_itself now })
 
   -- so much was
@@ -117,7 +118,7 @@ module _ {texts : Texts} (laws : Laws) (service : Service) (log marks : Log) (t 
       let x : Tabled = wrote_on l count 0 t in
       let some : 0 < count = subst (λ (xs : List ℕ). 0 < length xs) (least_taken n sent.bytes) follow.fits.some in
       behind (entry.Wrote l sent.tag (take count sent.bytes)) x last
-      (laws.writes service texts log t x roomy l sent count router follow (record {
+      (laws.writes service texts admin log t x roomy l sent count router follow (record {
         server = says.server;
         there = says.there;
         lent = lends.lends sent is;
@@ -141,7 +142,7 @@ module _ {texts : Texts} (laws : Laws) (service : Service) (log marks : Log) (t 
   failed follow last =
       let x : Tabled = lost_in l t in
       behind (entry.WriteFailed l) x last
-      (laws.loses service texts log t x roomy l WriteFails None None router follow tt tt (record {
+      (laws.loses service texts admin admin log t x roomy l WriteFails None None router follow tt tt (record {
         server = says.server;
         there = says.there;
         may = tt;
@@ -150,7 +151,7 @@ module _ {texts : Texts} (laws : Laws) (service : Service) (log marks : Log) (t 
         loses = given_nobody x;
         called = none_called (name_in says.server.row.link.state.carries) refl;
         goes = same_itself x;
-      }) tt tt tt)
+      }) refl tt tt tt)
       (closes_lost l room t x may (same_itself x))
 
   part_of : (to : LinkId) (tag : Tag) (bytes : List ℕ) → to ≡ l → IsPartOf lent tag bytes → Goes (entry.Wrote to tag bytes)

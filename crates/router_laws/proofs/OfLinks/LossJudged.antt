@@ -1,6 +1,6 @@
 -- What becomes of the messages of the one client that goes on as a link to a server is lost.
-use Rattle.std.specs.Prelude.{◌≡◌, ◌⊎◌, Bool, length, List, Option, Some, None}
-use Rattle.std.proofs.Common.{subst, inl, inr}
+use Rattle.std.specs.Prelude.{◌≡◌, ◌⊎◌, ℕ, suc, Bool, length, List, Option, Some, None}
+use Rattle.std.proofs.Common.{refl, sym, subst, inl, inr, arith}
 use Rattle.mx_wire.specs.Log.{Log}
 use Rattle.mx_wire.specs.Tells.{MayFollow}
 use Rattle.mx_wire.specs.declared.entry.Entry.{Entry}
@@ -28,11 +28,12 @@ use Rattle.core_laws.specs.entry.Tells.{Fits, IsOf, ground}
 use Rattle.core_laws.specs.clients.Going.{GivenUp, Going}
 use Rattle.router_promises.specs.Takings.{Taking, takings_at}
 use Rattle.router_laws.specs.clients.Continues.{HasCome, WasThere}
-use Rattle.router_laws.specs.decisions.Judges.{JudgedFrom, JudgesThen}
+use Rattle.router_laws.specs.decisions.Judges.{JudgedFrom, JudgesThen, judging_by}
 use Rattle.router_laws.specs.decisions.Deeds.{decided_with}
 use Rattle.router_laws.specs.decisions.Goings.{deeds_of}
+use Rattle.core_promises.specs.Administers.{Administered}
 use Rattle.router_laws.specs.decisions.Routers.{IsBefore, IsRouter}
-use Rattle.router_laws.specs.decisions.Rulings.{IsRuledOn}
+use Rattle.router_laws.specs.decisions.Rulings.{IsRuledOn, IsSettledFor}
 use Rattle.router_laws.proofs.OfDecisions.Causing.{loss_why}
 use Rattle.router_laws.proofs.OfDecisions.JudgedOn.{FollowsJudge}
 use Rattle.router_laws.proofs.OfDecisions.KeptOn.{follow_held}
@@ -44,6 +45,7 @@ use Rattle.router_laws.proofs.OfLinks.Breaking.{lost_plain}
 use Rattle.router_laws.proofs.OfLinks.Going.{IsPlain}
 use Rattle.router_laws.proofs.OfLinks.LossOnward as onward
 use Rattle.router_laws.proofs.OfLinks.LossOnward.{Laws}
+use Rattle.router_laws.proofs.OfDecisions.Stating.{IsNumbered, numbered_then, one_begins, one_ends, one_state}
 use Rattle.router_laws.proofs.OfLinks.Losses as losses
 use Rattle.router_laws.proofs.OfLinks.Losses.{IsLoss}
 use Rattle.router_laws.proofs.OfLinks.OneLoses as somebody
@@ -52,8 +54,8 @@ use Rattle.router_laws.specs.decisions.Speaks.{AreGoingOurs}
 use Rattle.core_texts.specs.Texts.{key_at}
 use Rattle.router_laws.proofs.OfDecisions.Speaking.{known_keys}
 
-module _ {texts : Texts} (laws : Laws) (judges : FollowsJudge) (carried : CarriedLaw) (service : Service) (log : Log) (t now : Tabled) (roomy : ClientNo → Bool) (l : LinkId) (how : Break)
-    (given : Option GivenUp) (router : IsRouter service texts log t roomy) (follow : MayFollow log (entry_by how l)) where
+module _ {texts : Texts} {admin : Administered} (laws : Laws) (judges : FollowsJudge) (carried : CarriedLaw) (service : Service) (log : Log) (t now : Tabled) (roomy : ClientNo → Bool) (l : LinkId) (how : Break)
+    (given : Option GivenUp) (router : IsRouter service texts admin log t roomy) (follow : MayFollow log (entry_by how l)) (end : Administered) where
   abbrev e : Entry
   e = entry_by how l
 
@@ -61,7 +63,7 @@ module _ {texts : Texts} (laws : Laws) (judges : FollowsJudge) (carried : Carrie
   book = book_of service
 
   abbrev ruling : Ruling
-  ruling = ruling_of service texts.since (key_at texts)
+  ruling = ruling_of service texts.since (key_at texts) admin end
 
   module _ (it : Going) (so : LosesSo service.setup service.default_schema l given (Some it) t now)
       (ours : AreGoingOurs (rules_in service) texts (Some it)) (tells : TellsSo (Some it) service.setup)
@@ -75,7 +77,7 @@ module _ {texts : Texts} (laws : Laws) (judges : FollowsJudge) (carried : Carrie
     abbrev last : Tale
     last = tale_step setup plan g.tale e
 
-    before : IsBefore service texts log e t roomy router (deeds_of given (Some it)) setup codes plan
+    before : IsBefore service texts admin log e t roomy router (deeds_of given (Some it)) setup codes plan
     before = onward.before laws service log t now roomy l how given (Some it) router follow so ours tells setup codes plan of fits
 
     is : IsLoss service.setup service.default_schema g log e given (Some it)
@@ -90,7 +92,7 @@ module _ {texts : Texts} (laws : Laws) (judges : FollowsJudge) (carried : Carrie
     abbrev takings : List Taking
     takings = takings_at setup plan g.tale e
 
-    judged : JudgedFrom book setup plan x takings x.taken it.choices it.halt
+    judged : JudgedFrom (judging_by service admin end) setup plan x takings x.taken it.choices it.halt
     judged =
         judges ruling service.setup service.default_schema g so.lost so.goes.turned g.fresh e x
         (losses.later laws.losses service.setup service.default_schema g log t now roomy l how given (Some it) before.rests is so)
@@ -110,18 +112,27 @@ module _ {texts : Texts} (laws : Laws) (judges : FollowsJudge) (carried : Carrie
     plain : IsPlain g.tale e
     plain = lost_plain g.tale how l
 
+    abbrev IsJudgedBy : tales.Client → Type 0
+    IsJudgedBy y =
+        JudgedFrom (judging_by service (one_state it.client admin end y.number.0) (one_state it.client admin end (suc y.number.0))) setup plan y takings
+        (router.counts.taken y.number) ((deeds_of given (Some it)).calls y.number) ((deeds_of given (Some it)).halts y.number)
+
+    numbered : IsNumbered (tale_of setup plan (with_entry log e)) it.client
+    numbered =
+        subst (IsNumbered (tale_of setup plan (with_entry log e))) number
+        (numbered_then setup plan log e x
+        (somebody.seated laws.losses service.setup service.default_schema g log t now roomy l how given it before.rests is so))
+
     by_was : (y : tales.Client) → WasThere plan g.tale e y ⊎ HasCome g.tale e y
-        → JudgedFrom book setup plan y takings (router.counts.taken y.number) ((deeds_of given (Some it)).calls y.number)
-        ((deeds_of given (Some it)).halts y.number)
+        → IsJudgedBy y
     by_was y (inr come) = absurd (plain.comes y come)
     by_was y (inl was) =
-        one_judged book setup plan g.tale e router.counts.taken before.counts.taken given it x
+        one_judged book admin end setup plan g.tale e router.counts.taken before.counts.taken given it x
         (somebody.seated laws.losses service.setup service.default_schema g log t now roomy l how given it before.rests is so) number takings judged y was.was
         was.seated was.continued (plain.reads was.was.link)
 
     one_judges : (y : tales.Client) → IsSeated (tale_of setup plan (with_entry log e)) y
-        → JudgedFrom book setup plan y takings (router.counts.taken y.number) ((deeds_of given (Some it)).calls y.number)
-        ((deeds_of given (Some it)).halts y.number)
+        → IsJudgedBy y
     one_judges y seated =
         by_was y
         (seated_of (λ (z : tales.Client). WasThere plan g.tale e z ⊎ HasCome g.tale e z) last y
@@ -131,14 +142,23 @@ module _ {texts : Texts} (laws : Laws) (judges : FollowsJudge) (carried : Carrie
   pub loses_judge : (going : Option Going) (so : LosesSo service.setup service.default_schema l given going t now)
       → AreGoingOurs (rules_in service) texts going → TellsSo going service.setup
       → IsRuledOn ruling going service.setup service.default_schema so.lost now so.goes → IsLostFor l t given
-      → AreHeldFor going texts service.default_schema router.core.decided log → JudgesThen service log e router.core.decided router.counts (deeds_of given going)
-  loses_judge None so ours tells ruled why since = λ setup codes plan of fits. record {
-    takes = λ y seated. tt;
+      → AreHeldFor going texts service.default_schema router.core.decided log → IsSettledFor going service admin
+      → JudgesThen service log e router.core.decided router.counts (deeds_of given going) admin end
+  loses_judge None so ours tells ruled why since settled = λ setup codes plan of fits. record {
+    states = λ number. admin;
+    begins = refl;
+    ends = sym ruled;
+    forced = λ c some. absurd (omega (arith, some));
+    takes = λ y seated. (tt, refl);
     gives = onward.sent laws service log t now roomy l how given None router follow so ours tells setup codes plan of fits;
     why = loss_why carried service.wait_ms setup codes plan router.core.decided log t l so.server so.there
         ((onward.before laws service log t now roomy l how given None router follow so ours tells setup codes plan of fits).rests.stands.servers l) how given why;
   }
-  loses_judge (Some it) so ours tells ruled why since = λ setup codes plan of fits. record {
+  loses_judge (Some it) so ours tells ruled why since settled = λ setup codes plan of fits. record {
+    states = one_state it.client admin end;
+    begins = one_begins (tale_of setup plan (with_entry log e)) it.client admin end (numbered it so ours tells ruled since setup codes plan of fits);
+    ends = one_ends (tale_of setup plan (with_entry log e)) it.client admin end (numbered it so ours tells ruled since setup codes plan of fits);
+    forced = λ c some. settled;
     takes = λ y seated. one_judges it so ours tells ruled since setup codes plan of fits y seated;
     gives = onward.sent laws service log t now roomy l how given (Some it) router follow so ours tells setup codes plan of fits;
     why = loss_why carried service.wait_ms setup codes plan router.core.decided log t l so.server so.there

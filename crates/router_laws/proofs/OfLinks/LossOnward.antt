@@ -62,6 +62,7 @@ use Rattle.router_laws.proofs.OfDecisions.Working.{all_sent}
 use Rattle.router_laws.specs.decisions.Judges.{AreSent}
 use Rattle.router_laws.specs.decisions.Plans.{AreUngiven, AreUnreplied, HasDeeds, KeepsAnswers, PlansSo}
 use Rattle.router_laws.specs.decisions.Records.{AreCountsOf, IsRecorded}
+use Rattle.core_promises.specs.Administers.{Administered}
 use Rattle.router_laws.specs.decisions.Routers.{AreOpenJust, GoesSo, IsBefore, IsRouter}
 use Rattle.router_laws.proofs.OfReading.Onward.{none_left, or_first, or_second, there_by, word_placed}
 use Rattle.router_laws.proofs.OfReading.Rested.{Follows}
@@ -94,12 +95,12 @@ pub record Laws : Type 0 where
       → AreCountsOf n (tale_of setup plan log) → TakesSo n deeds (tale_step setup plan (tale_of setup plan log) e)
       → BeginsSo setup (tale_of setup plan log) e deeds
       → AreCountsOf (counts_with deeds n log e) (tale_of setup plan (with_entry log e))
-  pub stood : (service : Service) (texts : Texts) (log : Log) (e : Entry) (t : Tabled) (roomy : ClientNo → Bool) (deeds : Deeds)
-      (setup : Setup) (codes : Codes) (plan : Plan) → (router : IsRouter service texts log t roomy) → MayFollow log e
+  pub stood : (service : Service) (texts : Texts) (admin : Administered) (log : Log) (e : Entry) (t : Tabled) (roomy : ClientNo → Bool) (deeds : Deeds)
+      (setup : Setup) (codes : Codes) (plan : Plan) → (router : IsRouter service texts admin log t roomy) → MayFollow log e
       → IsOf (decided_with deeds router.counts log e router.core.decided) (length (with_entry log e)) plan
       → Fits (decided_with deeds router.counts log e router.core.decided).keys setup codes plan service.default_schema (tale_of setup plan (with_entry log e))
       → All (λ (client : tales.Client). IsHeardMore (tale_of setup plan (with_entry log e)) client) (tale_of setup plan log).clients
-      → IsBefore service texts log e t roomy router deeds setup codes plan
+      → IsBefore service texts admin log e t roomy router deeds setup codes plan
   pub rise : (setup : Setup) (plan : Plan) (log : Log) → AllLawful MayFollow log → Ascend (λ l. l.0) (tale_of setup plan log).links
 
 -- What a loss is for the rest.
@@ -154,8 +155,8 @@ loses_open log t now how l rows keeps =
     let same : (k : LinkId) → has_row now k ≡ has_row t k = λ k. λ i. keeps.links k i || is_some (keeps.numbers k i) in
     open_one log t now rows (entry_by how l) l (lost_link how l) (lost_open how l (is_open l log) ∙ rows l ∙ sym (same l)) (λ k apart. same k)
 
-module _ {texts : Texts} (laws : Laws) (service : Service) (log : Log) (t now : Tabled) (roomy : ClientNo → Bool) (l : LinkId) (how : Break)
-    (given : Option GivenUp) (going : Option Going) (router : IsRouter service texts log t roomy) (follow : MayFollow log (entry_by how l))
+module _ {texts : Texts} {admin : Administered} (laws : Laws) (service : Service) (log : Log) (t now : Tabled) (roomy : ClientNo → Bool) (l : LinkId) (how : Break)
+    (given : Option GivenUp) (going : Option Going) (router : IsRouter service texts admin log t roomy) (follow : MayFollow log (entry_by how l))
     (so : LosesSo service.setup service.default_schema l given going t now) (ours : AreGoingOurs (rules_in service) texts going)
     (tells : TellsSo going service.setup) (setup : Setup) (codes : Codes) (plan : Plan)
     (of : IsOf (decided_with (deeds_of given going) router.counts log (entry_by how l) router.core.decided) (length (with_entry log (entry_by how l))) plan)
@@ -181,8 +182,8 @@ module _ {texts : Texts} (laws : Laws) (service : Service) (log : Log) (t now : 
   abbrev over : ClientNo → Bool
   over = over_by later
 
-  pub before : IsBefore service texts log e t roomy router its_deeds setup codes plan
-  before = laws.stood service texts log e t roomy its_deeds setup codes plan router follow of fits (heard_always setup plan log e)
+  pub before : IsBefore service texts admin log e t roomy router its_deeds setup codes plan
+  before = laws.stood service texts admin log e t roomy its_deeds setup codes plan router follow of fits (heard_always setup plan log e)
 
   gives : AreGivenUp (told_to given) (λ (other : LinkId). is_link_id other l) t
   gives = given_up_with service.setup g t l given before.rests.stands so.may

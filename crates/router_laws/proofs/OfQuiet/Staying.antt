@@ -44,6 +44,7 @@ use Rattle.router_laws.proofs.OfDecisions.Tallying.{counts_then}
 use Rattle.router_laws.proofs.OfDecisions.Working.{none_given}
 use Rattle.router_laws.specs.decisions.Deeds.{IsAlone, counts_with, decided_with, no_deeds}
 use Rattle.router_laws.specs.decisions.Plans.{EndsNone, PlansSo}
+use Rattle.core_promises.specs.Administers.{Administered}
 use Rattle.router_laws.specs.decisions.Routers.{AreOpenJust, GoesSo, IsBefore, IsRouter, WaitsThen}
 use Rattle.router_laws.proofs.OfQuiet.Making.{IsMade, IsOfNoLink, is_made, none_written, open_alike, of_no_link, rests_then, step_is}
 use Rattle.router_laws.specs.quiet.Quiet.{is_quiet}
@@ -60,8 +61,8 @@ pub record Knows (service : Serving) : Type 0 where
 none_end : EndsNone no_deeds
 none_end = record { given = λ c. refl; ends = λ c. refl }
 
-module _ {texts : Texts} (service : Service) (knows : Knows service.setup) (log : Log) (e : Entry) (t : Tabled) (roomy : ClientNo → Bool)
-    (router : IsRouter service texts log t roomy) (may : MayFollow log e) (quiet : is_quiet e ≡ true)
+module _ {texts : Texts} {admin : Administered} (service : Service) (knows : Knows service.setup) (log : Log) (e : Entry) (t : Tabled) (roomy : ClientNo → Bool)
+    (router : IsRouter service texts admin log t roomy) (may : MayFollow log e) (quiet : is_quiet e ≡ true)
     (waits : WaitsThen service log e router.core.decided) where
   abbrev d : Decided
   d = router.core.decided
@@ -74,7 +75,7 @@ module _ {texts : Texts} (service : Service) (knows : Knows service.setup) (log 
     abbrev g : Ground
     g = ground setup codes plan d log
 
-    stood : IsBefore service texts log e t roomy router no_deeds setup codes plan
+    stood : IsBefore service texts admin log e t roomy router no_deeds setup codes plan
     stood = stood_before service log e t roomy no_deeds setup codes plan router may of fits (heard_always setup plan log e)
 
     so : PlansSo g log e no_deeds
@@ -158,9 +159,9 @@ module _ {texts : Texts} (service : Service) (knows : Knows service.setup) (log 
   open_same : AreOpenJust (with_entry log e) t
   open_same l = open_with log e l ∙ open_by l (is_link l (link_of e)) ∙ router.open_just l
 
-  pub quiet_router : IsRouter service texts (with_entry log e) t roomy
+  pub quiet_router : IsRouter service texts admin (with_entry log e) t roomy
   quiet_router = router_goes_on service log e no_deeds t t roomy roomy router may (ours_of_none (rules_in service) texts) waits
-      (judges_none service log e d router.counts no_deeds (λ c. refl) (λ c. refl)) goes_so open_same
+      (judges_none service log e d router.counts no_deeds admin (λ c. refl) (λ c. refl)) goes_so open_same
 
 -- As many marks as a log may have.
 
@@ -179,17 +180,17 @@ mark_drained t log (entry.Exec link) mark = tt
 mark_drained t log (entry.Drop link) mark = tt
 mark_drained t log _ mark = absurd mark
 
-pub with_marks : (service : Service) (texts : Texts) (t : Tabled) (roomy : ClientNo → Bool)
-    → ((log : Log) (e : Entry) → IsRouter service texts log t roomy → MayFollow log e → is_quiet e ≡ true → IsDrainedAt t log e
-    → IsRouter service texts (with_entry log e) t roomy)
-    → (log marks : Log) → IsRouter service texts log t roomy → AreMarks marks → length (log ++ marks) < 281474976710656
-    → IsRouter service texts (log ++ marks) t roomy
-with_marks service texts t roomy quiets log [] router are few =
-    subst (λ (all : Log). IsRouter service texts all t roomy) (sym (append-nil log)) router
-with_marks service texts t roomy quiets log (e ∷ marks) router are few =
+pub with_marks : (service : Service) (texts : Texts) (admin : Administered) (t : Tabled) (roomy : ClientNo → Bool)
+    → ((log : Log) (e : Entry) → IsRouter service texts admin log t roomy → MayFollow log e → is_quiet e ≡ true → IsDrainedAt t log e
+    → IsRouter service texts admin (with_entry log e) t roomy)
+    → (log marks : Log) → IsRouter service texts admin log t roomy → AreMarks marks → length (log ++ marks) < 281474976710656
+    → IsRouter service texts admin (log ++ marks) t roomy
+with_marks service texts admin t roomy quiets log [] router are few =
+    subst (λ (all : Log). IsRouter service texts admin all t roomy) (sym (append-nil log)) router
+with_marks service texts admin t roomy quiets log (e ∷ marks) router are few =
     let size : length (log ++ e ∷ marks) ≡ length log + length (e ∷ marks) = length-append log (e ∷ marks) in
-    let next : IsRouter service texts (with_entry log e) t roomy =
+    let next : IsRouter service texts admin (with_entry log e) t roomy =
     quiets log e router (mark_may log e are.0 (omega (arith, size, few))) (mark_quiet e are.0) (mark_drained t log e are.0) in
     let same : (log ++ e ∷ []) ++ marks ≡ log ++ e ∷ marks = append_assoc log (e ∷ []) marks in
-    subst (λ (all : Log). IsRouter service texts all t roomy) same
-    (with_marks service texts t roomy quiets (with_entry log e) marks next are.1 (subst (λ (all : Log). length all < 281474976710656) (sym same) few))
+    subst (λ (all : Log). IsRouter service texts admin all t roomy) same
+    (with_marks service texts admin t roomy quiets (with_entry log e) marks next are.1 (subst (λ (all : Log). length all < 281474976710656) (sym same) few))

@@ -67,6 +67,7 @@ use Rattle.router_laws.proofs.OfDecisions.Working.{all_sent}
 use Rattle.router_laws.specs.decisions.Judges.{AreSent}
 use Rattle.router_laws.specs.decisions.Plans.{AreUngiven, AreUnreplied, HasDeeds, KeepsAnswers, PlansSo}
 use Rattle.router_laws.specs.decisions.Records.{AreCountsOf, IsRecorded}
+use Rattle.core_promises.specs.Administers.{Administered}
 use Rattle.router_laws.specs.decisions.Routers.{GoesSo, IsBefore, IsRouter}
 use Rattle.core_laws.proofs.OfLinks.OneRead.{read_clients, read_links}
 use Rattle.router_laws.proofs.OfReading.Hearing as hearing
@@ -96,12 +97,12 @@ pub record Laws : Type 0 where
       → AreCountsOf n (tale_of setup plan log) → TakesSo n deeds (tale_step setup plan (tale_of setup plan log) e)
       → BeginsSo setup (tale_of setup plan log) e deeds
       → AreCountsOf (counts_with deeds n log e) (tale_of setup plan (with_entry log e))
-  pub stood : (service : Service) (texts : Texts) (log : Log) (e : Entry) (t : Tabled) (roomy : ClientNo → Bool) (deeds : Deeds)
-      (setup : Setup) (codes : Codes) (plan : Plan) → (router : IsRouter service texts log t roomy) → MayFollow log e
+  pub stood : (service : Service) (texts : Texts) (admin : Administered) (log : Log) (e : Entry) (t : Tabled) (roomy : ClientNo → Bool) (deeds : Deeds)
+      (setup : Setup) (codes : Codes) (plan : Plan) → (router : IsRouter service texts admin log t roomy) → MayFollow log e
       → IsOf (decided_with deeds router.counts log e router.core.decided) (length (with_entry log e)) plan
       → Fits (decided_with deeds router.counts log e router.core.decided).keys setup codes plan service.default_schema (tale_of setup plan (with_entry log e))
       → All (λ (client : tales.Client). IsHeardMore (tale_of setup plan (with_entry log e)) client) (tale_of setup plan log).clients
-      → IsBefore service texts log e t roomy router deeds setup codes plan
+      → IsBefore service texts admin log e t roomy router deeds setup codes plan
   pub rise : (setup : Setup) (plan : Plan) (log : Log) → AllLawful MayFollow log → Ascend (λ l. l.0) (tale_of setup plan log).links
   pub tells : (service : Serving) (payload : List ℕ) (g : Ground) (c : ClientNo) (moment : ℕ) (word : LastWord) → g.over c ≡ false
       → word_at g.plan moment c ≡ Some word → word.place ≡ Behind → word.payloads ≡ payload ∷ [] → StandTold payload service g c moment
@@ -165,8 +166,8 @@ pub there_by : (g : Ground) (client : tales.Client) (found : Option Client) → 
 there_by g client None is going = absurd (true≢false (sym is.over ∙ going))
 there_by g client (Some row) is going = refl
 
-module _ {texts : Texts} (laws : Laws) (service : Service) (log : Log) (t now : Tabled) (roomy : ClientNo → Bool) (l : LinkId) (bytes : List ℕ)
-    (clock : ℕ) (given : Option GivenUp) (going : Option Going) (router : IsRouter service texts log t roomy) (follow : MayFollow log (entry.Got l bytes))
+module _ {texts : Texts} {admin : Administered} (laws : Laws) (service : Service) (log : Log) (t now : Tabled) (roomy : ClientNo → Bool) (l : LinkId) (bytes : List ℕ)
+    (clock : ℕ) (given : Option GivenUp) (going : Option Going) (router : IsRouter service texts admin log t roomy) (follow : MayFollow log (entry.Got l bytes))
     (bytes_are : AreBytes bytes) (so : HearsSo service.setup service.default_schema l bytes clock given going t now)
     (ours : AreGoingOurs (rules_in service) texts going) (setup : Setup)
     (codes : Codes) (plan : Plan)
@@ -196,8 +197,8 @@ module _ {texts : Texts} (laws : Laws) (service : Service) (log : Log) (t now : 
   abbrev said : Tale
   said = told setup plan g.tale e
 
-  pub before : IsBefore service texts log e t roomy router its_deeds setup codes plan
-  before = laws.stood service texts log e t roomy its_deeds setup codes plan router follow of fits (heard_always setup plan log e)
+  pub before : IsBefore service texts admin log e t roomy router its_deeds setup codes plan
+  before = laws.stood service texts admin log e t roomy its_deeds setup codes plan router follow of fits (heard_always setup plan log e)
 
   stands : Stands service.setup (on g said) so.heard
   stands =

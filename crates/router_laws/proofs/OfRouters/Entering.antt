@@ -35,12 +35,13 @@ use Rattle.router_laws.proofs.OfDecisions.Speaking.{ours_of_link}
 use Rattle.router_laws.specs.decisions.Counting.{CallsNone, is_no_event}
 use Rattle.router_laws.specs.decisions.Deeds.{AreAlone, Deeds, IsAlone, counts_with, decided_with}
 use Rattle.router_laws.specs.decisions.Plans.{EndsNone, PlansSo}
+use Rattle.core_promises.specs.Administers.{Administered}
 use Rattle.router_laws.specs.decisions.Routers.{AreOpenJust, GoesSo, IsBefore, IsRouter, WaitsThen}
 use Rattle.router_laws.specs.routers.Enters.{Enters, EntersBy, of_link}
 
-module _ {texts : Texts} (service : Service) (log : Log) (e : Entry) (login : Option Login) (begun : Option (Option StepText)) (t now : Tabled)
-    (roomy room : ClientNo → Bool) (router : IsRouter service texts log t roomy) (may : MayFollow log e) (quiet : is_no_event e ≡ true)
-    (waits : WaitsThen service log e router.core.decided) (enters : EntersBy service texts log e t now roomy room router (of_link login begun)) where
+module _ {texts : Texts} {admin : Administered} (service : Service) (log : Log) (e : Entry) (login : Option Login) (begun : Option (Option StepText)) (t now : Tabled)
+    (roomy room : ClientNo → Bool) (router : IsRouter service texts admin log t roomy) (may : MayFollow log e) (quiet : is_no_event e ≡ true)
+    (waits : WaitsThen service log e router.core.decided) (enters : EntersBy service texts admin log e t now roomy room router (of_link login begun)) where
   abbrev deeds : Deeds
   deeds = of_link login begun
 
@@ -64,7 +65,7 @@ module _ {texts : Texts} (service : Service) (log : Log) (e : Entry) (login : Op
     abbrev g : Ground
     g = ground setup codes plan d log
 
-    stood : IsBefore service texts log e t roomy router deeds setup codes plan
+    stood : IsBefore service texts admin log e t roomy router deeds setup codes plan
     stood = stood_before service log e t roomy deeds setup codes plan router may of fits (heard_always setup plan log e)
 
     so : PlansSo g log e deeds
@@ -93,6 +94,6 @@ module _ {texts : Texts} (service : Service) (log : Log) (e : Entry) (login : Op
       counts = counts_kept setup plan d router.counts log e deeds router.recorded may of stood.counts quiet none_called entered.begins;
     }
 
-  pub router_enters : AreOpenJust (with_entry log e) now → IsRouter service texts (with_entry log e) now room
+  pub router_enters : AreOpenJust (with_entry log e) now → IsRouter service texts admin (with_entry log e) now room
   router_enters = router_goes_on service log e deeds t now roomy room router may (ours_of_link (rules_in service) texts login begun) waits
-      (judges_none service log e d router.counts deeds (λ c. refl) (λ c. refl)) goes_so
+      (judges_none service log e d router.counts deeds admin (λ c. refl) (λ c. refl)) goes_so

@@ -44,6 +44,7 @@ use Rattle.core_laws.proofs.OfArrival.Finding.{at-known}
 use Rattle.core_laws.specs.entry.Tells.{Fits, IsOf, IsWhoItSays, ground}
 use Rattle.router_laws.proofs.OfDecisions.Fates.{false_true, none_some}
 use Rattle.router_laws.proofs.OfDecisions.Listing.{is_tale_of}
+use Rattle.core_promises.specs.Administers.{Administered}
 use Rattle.router_laws.specs.decisions.Routers.{IsRouter}
 use Rattle.router_laws.specs.routers.Somehow.{IsLinked, RestsSomehow}
 
@@ -168,7 +169,7 @@ module _ (default : List ℕ) (d : Decided) (log : Log) where
     single = single_by d.routes single;
   }
 
-module _ {texts : Texts} (service : Service) (log : Log) (t : Tabled) (roomy : ClientNo → Bool) (router : IsRouter service texts log t roomy) where
+module _ {texts : Texts} {admin : Administered} (service : Service) (log : Log) (t : Tabled) (roomy : ClientNo → Bool) (router : IsRouter service texts admin log t roomy) where
   abbrev d : Decided
   d = router.core.decided
 

@@ -20,6 +20,7 @@ use Rattle.router_promises.specs.Terms.{Terms, plan_in, setup_in}
 use Rattle.core_promises.specs.Waits.{IsDone}
 use Rattle.router_laws.specs.clients.Leaves.{IsLossOf}
 use Rattle.router_laws.specs.links.Loses.{Break, ReadEnds, ReadFails, WriteFails, entry_by}
+use Rattle.core_promises.specs.Administers.{Administered}
 use Rattle.router_laws.specs.decisions.Routers.{AreOpenJust, IsRouter, WaitsThen}
 use Rattle.router_laws.specs.waits.Drained.{IsDrainedAt, IsDrainedFor}
 
@@ -33,7 +34,7 @@ Done = (service : Service) (terms : Terms) (codes : Codes) (d : Decided) (log : 
     → ((c : ClientNo) → d.ends c ≡ None → d.words c ≡ None) → AreOpenJust log t → IsDrainedFor t log
     → IsDone terms log (now_at terms log)
 
-module _ {texts : Texts} (done : Done) (service : Service) (log : Log) (t : Tabled) (roomy : ClientNo → Bool) (router : IsRouter service texts log t roomy) where
+module _ {texts : Texts} {admin : Administered} (done : Done) (service : Service) (log : Log) (t : Tabled) (roomy : ClientNo → Bool) (router : IsRouter service texts admin log t roomy) where
   -- whatever the decisions call for
   all_done : IsDrainedFor t log → (terms : Terms) (codes : Codes) → IsOf router.core.decided (length log) (plan_in terms)
       → Fits router.core.decided.keys (setup_in terms) codes (plan_in terms) service.default_schema (tale_of (setup_in terms) (plan_in terms) log)

@@ -1,5 +1,5 @@
 -- A router goes on with an entry that tells nothing, at which statements are given up, and clients are called.
-use Rattle.std.specs.Prelude.{◌≡◌, ◌⊎◌, ◌+◌, ◌||◌, ◌&&◌, not, ℕ, suc, Bool, true, false, All, cond, is_some, nat_le, if◌then◌else◌, length, List, [], ◌∷◌, Option, Some, None}
+use Rattle.std.specs.Prelude.{◌≡◌, ◌⊎◌, ◌+◌, ◌<◌, ◌≤◌, ◌||◌, ◌&&◌, not, ℕ, suc, Bool, true, false, All, cond, is_some, nat_le, if◌then◌else◌, length, List, [], ◌∷◌, Option, Some, None}
 use Rattle.std.specs.List.{flat_map}
 use Rattle.std.specs.Option.{option_map, option_map_or}
 use Rattle.std.proofs.Common.{refl, sym, ap, ◌∙◌, subst, arith, inl, inr}
@@ -71,12 +71,15 @@ use Rattle.router_laws.proofs.OfWakes.Saying.{ours_of_calls}
 use Rattle.router_laws.specs.decisions.Speaks.{AreOurs, IsGivenOurs}
 use Rattle.router_laws.proofs.OfDecisions.Tallying.{counts_then}
 use Rattle.router_laws.proofs.OfDecisions.Working.{all_sent, none_replied, ungiven}
-use Rattle.router_laws.specs.decisions.Judges.{IsJudgedThen, JudgedFrom, JudgesThen}
+use Rattle.router_laws.proofs.OfDecisions.Stating.{IsNumbered, numbered_then}
+use Rattle.router_laws.proofs.OfWakes.States.{called_all, early_state, late_state, others_state, state_of}
+use Rattle.router_laws.specs.decisions.Judges.{IsJudgedThen, JudgedFrom, JudgesThen, judging_by}
 use Rattle.router_laws.specs.decisions.Counting.{BeginsSo}
 use Rattle.router_laws.specs.decisions.Deeds as deeds
 use Rattle.router_laws.specs.decisions.Deeds.{AreAlone, Deeds, counts_with, decided_with, ends_in, known_with, taken_by, word_of}
 use Rattle.router_laws.specs.decisions.Goings.{end_of}
 use Rattle.router_laws.specs.decisions.Plans.{HasDeeds, PlansSo}
+use Rattle.core_promises.specs.Administers.{Administered}
 use Rattle.router_laws.specs.decisions.Routers.{AreOpenJust, GoesSo, IsBefore, IsRouter, WaitsThen}
 use Rattle.router_laws.specs.decisions.Rulings.{AreRuledAll}
 use Rattle.router_laws.proofs.OfReading.Judged.{one_seated}
@@ -162,13 +165,14 @@ given_keep given t late same = keeps_same t (given_up_in given t) late (record {
   numbers = λ l. refl;
 }) same
 
-module _ {texts : Texts} (service : Service) (knows : Knows service.setup) (log : Log) (e : Entry) (is_entry : IsOfNoLink e) (t mid now : Tabled)
-    (roomy room : ClientNo → Bool) (given : List GivenUp) (callers : List Caller) (links : List LinkId) (router : IsRouter service texts log t roomy)
+module _ {texts : Texts} {admin : Administered} (service : Service) (knows : Knows service.setup) (log : Log) (e : Entry) (is_entry : IsOfNoLink e) (t mid now : Tabled)
+    (roomy room : ClientNo → Bool) (given : List GivenUp) (callers : List Caller) (links : List LinkId) (router : IsRouter service texts admin log t roomy)
     (may : MayFollow log e) (gives : GivesUpAll given t mid) (theirs : (c : ClientNo) → is_given given c ≡ true → is_called callers c ≡ true)
     (so_calls : CallsSo service.setup service.default_schema callers links mid now) (given_ours : All IsGivenOurs given)
     (ours : All (IsCallerOurs (rules_in service) texts) callers) (waits : WaitsThen service log e router.core.decided) (judges : TurnsJudge)
     (caused : (setup : Setup) (plan : Plan) (c : ClientNo) (payload : List ℕ) → payload_in given c ≡ Some payload → IsCause service.wait_ms setup plan log e c payload)
-    (ruled : AreRuledAll (ruling_of service texts.since (key_at texts)) callers service.setup service.default_schema mid so_calls.turned so_calls.going)
+    (is : Administered) (settled : admin.rules ≡ rules_in service)
+    (ruled : AreRuledAll (ruling_of service texts.since (key_at texts) admin is) callers service.setup service.default_schema mid so_calls.turned so_calls.going)
     (since : AreHeldSince texts service.default_schema router.core.decided log)
     (tells : All (λ (k : Caller). TellsFor k.parting service.setup k.client) callers)
     (called_so : (g : Ground) → Rests service.setup g t roomy → PlansSo g log e (calls_deeds given callers) → AreCalled g e (is_called callers) roomy room) where
@@ -218,7 +222,7 @@ module _ {texts : Texts} (service : Service) (knows : Knows service.setup) (log 
     abbrev instant : ℕ
     instant = suc g.tale.moment
 
-    stood : IsBefore service texts log e t roomy router made setup codes plan
+    stood : IsBefore service texts admin log e t roomy router made setup codes plan
     stood = stood_before service log e t roomy made setup codes plan router may of fits (heard_always setup plan log e)
 
     given_up : AreGivenUp given_of (λ (l : LinkId). false) t
@@ -445,25 +449,46 @@ module _ {texts : Texts} (service : Service) (knows : Knows service.setup) (log 
     abbrev takings : List Taking
     takings = takings_at setup plan g.tale e
 
+    abbrev states : (number : ℕ) → Administered
+    states = state_of service.setup service.default_schema (ruling_of service texts.since (key_at texts) admin is) callers mid so_calls.turned so_calls.going ruled
+
     abbrev IsJudgedBy : tales.Client → Option Caller → Type 0
     IsJudgedBy y o =
-        JudgedFrom book setup plan y takings (router.counts.taken y.number) (option_map_or (λ (j : Caller). j.choices) o [])
+        JudgedFrom (judging_by service (states y.number.0) (states (suc y.number.0))) setup plan y takings (router.counts.taken y.number) (option_map_or (λ (j : Caller). j.choices) o [])
         (option_map_or (λ (j : Caller). j.halt) o Resting)
+
+    numbered : All (λ (k : Caller). IsNumbered (tale_of setup plan (with_entry log e)) k.client) callers
+    numbered =
+        All-weaker (λ (k : Caller). called k.client ≡ true) (λ (k : Caller). IsNumbered (tale_of setup plan (with_entry log e)) k.client)
+        (λ k its.
+        let at =
+        judged_of knows.laws knows.frees judges (ruling_of service texts.since (key_at texts) admin is) service.setup service.default_schema g t mid now roomy room over e callers links stood.rests
+        calling stands_mid rested so_calls ruled (known_keys texts d.keys router.known setup fits.keyed)
+        (λ x seated going. (held_before (keys_since texts.since (key_at texts)) d setup plan g.tale x (since setup codes plan stood.of stood.fits) seated going).known)
+        k.client its in
+        subst (IsNumbered (tale_of setup plan (with_entry log e))) at.number (numbered_then setup plan log e at.x at.seated)) callers (called_all callers)
 
     judged_by : (y : tales.Client) → WasThere plan g.tale e y → (b : Bool) → called y.number ≡ b → IsJudgedBy y (found_in callers y.number)
     judged_by y was true its =
         let at =
-        judged_of knows.laws knows.frees judges (ruling_of service texts.since (key_at texts)) service.setup service.default_schema g t mid now roomy room over e callers links stood.rests calling
-        stands_mid rested so_calls ruled (known_keys texts d.keys router.known setup fits.keyed)
+        judged_of knows.laws knows.frees judges (ruling_of service texts.since (key_at texts) admin is) service.setup service.default_schema g t mid now roomy room over e callers links stood.rests
+        calling stands_mid rested so_calls ruled (known_keys texts d.keys router.known setup fits.keyed)
         (λ x seated going. (held_before (keys_since texts.since (key_at texts)) d setup plan g.tale x (since setup codes plan stood.of stood.fits) seated going).known)
         y.number its in
         let same : at.x ≡ was.was =
         one_seated at.x was.was (seats g.tale was.was.number) (sym at.seated ∙ ap (seats g.tale) (at.number ∙ was.continued.number)) was.seated in
         subst (IsJudgedBy y) (sym at.found)
-        (judged_on book setup plan takings g.tale e was.was y was.continued (is_entry.unread was.was.link) (router.counts.taken y.number)
+        (judged_on (judging_by service (states y.number.0) (states (suc y.number.0))) setup plan takings g.tale e was.was y was.continued (is_entry.unread was.was.link) (router.counts.taken y.number)
         (taken_before was.was was.seated ∙ ap router.counts.taken (sym was.continued.number)) at.caller.choices at.caller.halt
-        (subst (λ (z : tales.Client). JudgedFrom book setup plan z takings z.taken at.caller.choices at.caller.halt) same at.judged))
-    judged_by y was false other = subst (IsJudgedBy y) (sym (none_found callers y.number other)) tt
+        (subst (λ (c : ClientNo). JudgedFrom (judging_by service (states c.0) (states (suc c.0))) setup plan was.was takings was.was.taken at.caller.choices
+        at.caller.halt) (sym was.continued.number)
+        (subst (λ (z : tales.Client). JudgedFrom (judging_by service (states z.number.0) (states (suc z.number.0))) setup plan z takings z.taken at.caller.choices
+        at.caller.halt) same at.judged)))
+    judged_by y was false other =
+        subst (IsJudgedBy y) (sym (none_found callers y.number other)) (
+          tt,
+          others_state service.setup service.default_schema (ruling_of service texts.since (key_at texts) admin is) callers mid so_calls.turned so_calls.going ruled y.number other,
+        )
 
     judged_there : (y : tales.Client) → WasThere plan g.tale e y ⊎ HasCome g.tale e y → IsJudgedBy y (found_in callers y.number)
     judged_there y (inl was) = judged_by y was (called y.number) refl
@@ -476,14 +501,23 @@ module _ {texts : Texts} (service : Service) (knows : Knows service.setup) (log 
         (subst (λ (tale : Tale). IsSeated tale y) (tale_more setup plan log e) seated)
         (all_were setup plan g.tale e stood.rests.stands.clients.counted))
 
-    judged_so : IsJudgedThen service log e router.counts made setup plan
+    judged_so : IsJudgedThen service log e router.counts made setup plan admin is
     judged_so = record {
+      states = states;
+      begins = early_state service.setup service.default_schema (ruling_of service texts.since (key_at texts) admin is) callers mid so_calls.turned so_calls.going ruled 1
+          (All-weaker (λ (k : Caller). IsNumbered (tale_of setup plan (with_entry log e)) k.client) (λ (k : Caller). 1 ≤ k.client.0) (λ k at. at.least) callers numbered);
+      ends = late_state service.setup service.default_schema (ruling_of service texts.since (key_at texts) admin is) callers mid so_calls.turned so_calls.going ruled
+          (suc (length (tale_of setup plan (with_entry log e)).clients))
+          (All-weaker (λ (k : Caller). IsNumbered (tale_of setup plan (with_entry log e)) k.client)
+          (λ (k : Caller). k.client.0 < suc (length (tale_of setup plan (with_entry log e)).clients))
+          (λ k at. let most : k.client.0 ≤ length (tale_of setup plan (with_entry log e)).clients = at.most in omega (arith, most)) callers numbered);
+      forced = λ c some. settled;
       takes = judges_of;
       gives = all_sent service.setup g t given_of (λ (l : LinkId). false) stood.rests.stands given_up;
       why = caused setup plan;
     }
 
-  judges_then : JudgesThen service log e d router.counts made
+  judges_then : JudgesThen service log e d router.counts made admin is
   judges_then setup codes plan of fits = judged_so setup codes plan of fits
 
   -- no link opens or closes
@@ -497,5 +531,5 @@ module _ {texts : Texts} (service : Service) (knows : Knows service.setup) (log 
       open_with log e l ∙ open_by l (is_link l (link_of e)) ∙ router.open_just l
       ∙ sym (λ i. rows_kept.links l i || is_some (rows_kept.numbers l i))
 
-  pub calls_router : IsRouter service texts (with_entry log e) now room
+  pub calls_router : IsRouter service texts is (with_entry log e) now room
   calls_router = router_goes_on service log e made t now roomy room router may all_ours waits judges_then goes_so open_same

@@ -31,7 +31,9 @@ use Rattle.core_laws.specs.clients.Turns.{Turns}
 use Rattle.core_promises.proofs.Takings.{Covers, IsSeenAlike, cover_on, entry_covers, paired_cover, seen_back, seen_itself, seen_like, seen_on, seen_spared, takings_paired}
 use Rattle.core_promises.specs.Ruled.{AreRuled, Ruling}
 use Rattle.router_promises.specs.Takings.{Taking, takings_at, takings_of}
-use Rattle.router_laws.specs.decisions.Judges.{HasKeys, JudgedFrom}
+use Rattle.core_promises.specs.Administers.{Administered}
+use Rattle.router_laws.proofs.OfWakes.States.{AreRuledEach, ruled_each, ruling_at, state_of}
+use Rattle.router_laws.specs.decisions.Judges.{HasKeys, JudgedFrom, judging_of}
 use Rattle.router_laws.specs.decisions.Rulings.{AreRuledAll}
 use Rattle.router_laws.proofs.OfDecisions.JudgedOn.{TurnsJudge}
 use Rattle.router_laws.proofs.OfDecisions.KeptOn.{AreKnownHeld, held_alike}
@@ -45,7 +47,7 @@ use Rattle.router_laws.proofs.OfWakes.Going.{Laws, MayGoOn}
 use Rattle.router_laws.specs.wakes.Calling.{AllGoOn, Caller, CallerGoesOn, CallsSo, is_called}
 use Rattle.router_laws.specs.wakes.Deciding.{found_in}
 
-module _ (laws : Laws) (judges : TurnsJudge) (ruling : Ruling) (service : Service) (default : List ℕ) (g : Ground) (looked : (x : ClientNo) → g.fresh x ≡ false)
+module _ (laws : Laws) (judges : TurnsJudge) (ruling : Ruling) (states : (number : ℕ) → Administered) (service : Service) (default : List ℕ) (g : Ground) (looked : (x : ClientNo) → g.fresh x ≡ false)
     (classes : AreClasses g.setup.reads) (single : (whose : ClientNo → Bool) → AreSingle g.plan whose) (heard : Tale) (whose : ClientNo → Bool)
     (keyed : HasKeys ruling.keys g.setup) (takings : List Taking)
     (covers : (x : tales.Client) → IsSeated heard x → whose x.number ≡ true → g.over x.number ≡ false
@@ -60,7 +62,8 @@ module _ (laws : Laws) (judges : TurnsJudge) (ruling : Ruling) (service : Servic
 
   -- of this caller, which is this client
   abbrev pub IsCallerJudged : Caller → tales.Client → Type 0
-  IsCallerJudged caller x = JudgedFrom ruling.book g.setup g.plan x takings x.taken caller.choices caller.halt
+  IsCallerJudged caller x =
+      JudgedFrom (judging_of (ruling_at ruling.book ruling.since ruling.keys states x.number)) g.setup g.plan x takings x.taken caller.choices caller.halt
 
   -- it stands as the entry was told
   pub record IsHeard (late : Tale) (x : tales.Client) : Type 0 where
@@ -71,7 +74,7 @@ module _ (laws : Laws) (judges : TurnsJudge) (ruling : Ruling) (service : Servic
   module _ (cs : List ClientNo) (early late : Tale) (over : ClientNo → Bool) (t now : Tabled) (at : At cs early late over t) (caller : Caller)
       (x : tales.Client) (is : IsCaller service default g caller x) (aside : AreAside cs x) (seated : IsSeated late x) (there : IsHeard late x)
       (goes : CallerGoesOn service default caller t now)
-      (ruled : AreRuled ruling caller.choices caller.halt service default caller.client t goes.turned goes.turns) where
+      (ruled : AreRuled (ruling_at ruling.book ruling.since ruling.keys states caller.client) caller.choices caller.halt service default caller.client t goes.turned goes.turns) where
     abbrev h : Ground
     h = with_over laws service default g looked classes single over early
 
@@ -108,14 +111,16 @@ module _ (laws : Laws) (judges : TurnsJudge) (ruling : Ruling) (service : Servic
 
     one_judged : IsCallerJudged caller x
     one_judged =
-        judges ruling service default x x early (on h early) t goes.turned caller.choices caller.halt caller.client is.number
+        subst (λ (c : ClientNo). JudgedFrom (judging_of (ruling_at ruling.book ruling.since ruling.keys states c)) g.setup g.plan x takings x.taken caller.choices caller.halt)
+        (sym is.number)
+        (judges (ruling_at ruling.book ruling.since ruling.keys states caller.client) service default x x early (on h early) t goes.turned caller.choices caller.halt caller.client is.number
         (going.turning laws service default h looked early t goes.turned now x caller may at.stands
         (subst (λ (c : ClientNo). Turns caller.choices caller.halt service default c t goes.turned) (sym is.number) goes.turns)
         (subst (λ (c : ClientNo). PartsSo caller.parting c goes.turned now) (sym is.number) goes.parts))
         may.chosen goes.turns ruled
         (held_alike (view_of g.setup heard) (view_of g.setup early) (sym seen_early.replies) g.plan x (keys_since ruling.since ruling.keys)
         (held x there.seated is.going))
-        keyed takings (subst (λ (c : ClientNo). Covers g.setup c (its_takings early) takings) is.number covered)
+        keyed takings (subst (λ (c : ClientNo). Covers g.setup c (its_takings early) takings) is.number covered))
 
   abbrev pub AreJudgedAll : List Caller → List tales.Client → Type 0
   AreJudgedAll [] xs = Unit {0}
@@ -138,7 +143,7 @@ module _ (laws : Laws) (judges : TurnsJudge) (ruling : Ruling) (service : Servic
 
   pub all_judged : (ks : List Caller) (xs : List tales.Client) → AreCallers service default g ks xs → (cs : List ClientNo) (early late : Tale)
       (over : ClientNo → Bool) (t now : Tabled) → AreApart cs xs → All (IsSeated late) xs → All (IsHeard late) xs → At cs early late over t
-      → (goes : AllGoOn ks service default t now) → AreRuledAll ruling ks service default t now goes → AreJudgedAll ks xs
+      → (goes : AllGoOn ks service default t now) → AreRuledEach ruling.book ruling.since ruling.keys states ks service default t now goes → AreJudgedAll ks xs
   all_judged [] xs are cs early late over t now apart seated there at goes ruled = tt
   all_judged (k ∷ ks) [] are cs early late over t now apart seated there at goes ruled = tt
   all_judged (k ∷ ks) (x ∷ xs) are cs early late over t now apart seated there at goes ruled =
@@ -200,6 +205,9 @@ module _ (laws : Laws) (frees : Frees) (judges : TurnsJudge) (ruling : Ruling) (
     (ruled : AreRuledAll ruling ks service default mid so.turned so.going) (keyed : HasKeys ruling.keys g.setup)
     (held : (x : tales.Client) → IsSeated g.tale x → g.over x.number ≡ false
     → AreKnownHeld (keys_since ruling.since ruling.keys) (view_on g) g.plan x) where
+  abbrev pub states : (number : ℕ) → Administered
+  states = state_of service default ruling ks mid so.turned so.going ruled
+
   abbrev heard : Tale
   heard = counted g.tale
 
@@ -223,7 +231,7 @@ module _ (laws : Laws) (frees : Frees) (judges : TurnsJudge) (ruling : Ruling) (
       → is_called_by g.plan (suc g.tale.moment) (view_on g) e y ≡ true) heard x seated is.calls going its)
 
   abbrev IsHeardThere : tales.Client → Type 0
-  IsHeardThere = IsHeard laws judges ruling service default g rests.looked is.classes is.single heard (is_called ks) keyed takings covers held heard
+  IsHeardThere = IsHeard laws judges ruling states service default g rests.looked is.classes is.single heard (is_called ks) keyed takings covers held heard
 
   heard_there : All IsHeardThere xs
   heard_there =
@@ -234,18 +242,18 @@ module _ (laws : Laws) (frees : Frees) (judges : TurnsJudge) (ruling : Ruling) (
         filter_passes (λ (y : tales.Client). is_called ks y.number) heard.clients k d within,
       ))
 
-  judged : AreJudgedAll laws judges ruling service default g rests.looked is.classes is.single heard (is_called ks) keyed takings covers held ks xs
+  judged : AreJudgedAll laws judges ruling states service default g rests.looked is.classes is.single heard (is_called ks) keyed takings covers held ks xs
   judged =
-      all_judged laws judges ruling service default g rests.looked is.classes is.single heard (is_called ks) keyed takings covers held ks xs
+      all_judged laws judges ruling states service default g rests.looked is.classes is.single heard (is_called ks) keyed takings covers held ks xs
       (called.are laws frees service default g t mid now roomy room over e ks links rests is stands rested so) [] heard heard g.over mid so.turned
       (called.kept_apart (is_called ks) 1 heard.clients
       (called.numbered laws frees service default g t mid now roomy room over e ks links rests is stands rested so))
       (called.seated_xs laws frees service default g t mid now roomy room over e ks links rests is stands rested so) heard_there
-      (called.first laws frees service default g t mid now roomy room over e ks links rests is stands rested so) so.going ruled
+      (called.first laws frees service default g t mid now roomy room over e ks links rests is stands rested so) so.going (ruled_each service default ruling ks mid so.turned so.going ruled so.in_order)
 
   pub judged_of : (c : ClientNo) → is_called ks c ≡ true
-      → IsJudgedIn laws judges ruling service default g rests.looked is.classes is.single heard (is_called ks) keyed takings covers held ks heard c
+      → IsJudgedIn laws judges ruling states service default g rests.looked is.classes is.single heard (is_called ks) keyed takings covers held ks heard c
   judged_of c there =
-      judged_in laws judges ruling service default g rests.looked is.classes is.single heard (is_called ks) keyed takings covers held heard c ks xs
+      judged_in laws judges ruling states service default g rests.looked is.classes is.single heard (is_called ks) keyed takings covers held heard c ks xs
       (called.are laws frees service default g t mid now roomy room over e ks links rests is stands rested so)
       (called.seated_xs laws frees service default g t mid now roomy room over e ks links rests is stands rested so) judged there

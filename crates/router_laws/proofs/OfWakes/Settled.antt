@@ -32,6 +32,7 @@ use Rattle.core_tables.specs.declared.server.Server.{Server}
 use Rattle.core_stands.specs.Grounds.{AreNamed, Ground}
 use Rattle.core_stands.specs.Stands.{Rests, Stands}
 use Rattle.core_laws.specs.entry.Tells.{AreOpen, IsCore}
+use Rattle.core_promises.specs.Administers.{Administered}
 use Rattle.router_laws.specs.decisions.Routers.{AreKnown, AreOpenJust, IsRouter}
 use Rattle.core_laws.specs.writing.Planned.{IsOpen, IsToPrepare}
 use Rattle.router_laws.proofs.OfWakes.Aside.{RowsStay, noted_aside, readied_aside, shelved_aside, stands_aside}
@@ -280,10 +281,10 @@ just_settled texts log t now by just l =
     let rows = rows_settled texts by.steps t now by.path in
     just l ∙ sym (λ i. rows.links l i || is_some (rows.numbers l i))
 
-pub router_settled : (laws : Laws) (service : Service) (texts : Texts) (log : Log) (t now : Tabled) (roomy : ClientNo → Bool)
-    → IsRouter service texts log t roomy → Settles texts t now → IsRouter service texts log now roomy
+pub router_settled : (laws : Laws) (service : Service) (texts : Texts) (admin : Administered) (log : Log) (t now : Tabled) (roomy : ClientNo → Bool)
+    → IsRouter service texts admin log t roomy → Settles texts t now → IsRouter service texts admin log now roomy
 unfolding core_settled
-router_settled laws service texts log t now roomy router by = record {
+router_settled laws service texts admin log t now roomy router by = record {
   core = core_settled laws service.setup texts service.default_schema log t now roomy router.core router.known by;
   counts = router.counts;
   recorded = router.recorded;
@@ -292,7 +293,9 @@ router_settled laws service texts log t now roomy router by = record {
   lawful = router.lawful;
   open_just = just_settled texts log t now by router.open_just;
   rules = router.rules;
-  ruled = router.ruled;
+  first = router.first;
+  began = router.began;
+  administers = router.administers;
   spoken = router.spoken;
   waited = router.waited;
   judged = router.judged;

@@ -37,6 +37,7 @@ use Rattle.core_promises.specs.InForce.{has_administrator}
 use Rattle.router_laws.proofs.OfDecisions.Causing.{all_why}
 use Rattle.router_laws.specs.decisions.Causes.{AreLate, AreRefused}
 use Rattle.router_laws.specs.decisions.Plans.{HasDeeds, PlansSo}
+use Rattle.core_promises.specs.Administers.{Administered}
 use Rattle.router_laws.specs.decisions.Routers.{IsRouter, WaitsThen}
 use Rattle.router_laws.specs.decisions.Rulings.{AreRuledAll}
 use Rattle.router_laws.specs.decisions.Speaks.{IsGivenOurs}
@@ -162,16 +163,17 @@ module _ (service : Service) (given : List GivenUp) (callers : List Caller) (lin
           (λ x at other going none. full x at other going) g.tale.clients rests.stands.clients.each;
     }
 
-  pub woke_router : {texts : Texts} → Knows service.setup → (router : IsRouter service texts log t roomy) → MayFollow log e → All IsGivenOurs given
+  pub woke_router : {texts : Texts} {admin : Administered} → Knows service.setup → (router : IsRouter service texts admin log t roomy) → MayFollow log e → All IsGivenOurs given
       → AreLate service.wait_ms now_ms (has_administrator log) given
       → All (IsCallerOurs (rules_in service) texts) callers → WaitsThen service log e router.core.decided → TurnsJudge
-      → AreRuledAll (ruling_of service texts.since (key_at texts)) callers service.setup service.default_schema wakes.late wakes.calls.turned wakes.calls.going
+      → (is : Administered) → admin.rules ≡ rules_in service
+      → AreRuledAll (ruling_of service texts.since (key_at texts) admin is) callers service.setup service.default_schema wakes.late wakes.calls.turned wakes.calls.going
       → AreHeldSince texts service.default_schema router.core.decided log
-      → All (λ (k : Caller). TellsFor k.parting service.setup k.client) callers → IsRouter service texts (with_entry log e) now room
-  woke_router knows router may given_ours late ours waits judges ruled since tells =
+      → All (λ (k : Caller). TellsFor k.parting service.setup k.client) callers → IsRouter service texts is (with_entry log e) now room
+  woke_router knows router may given_ours late ours waits judges is settled ruled since tells =
       calls_router service knows log e (woke_tells until_ms now_ms) t wakes.late now roomy room given callers links router may wakes.gives wakes.all_given
       wakes.calls given_ours ours waits judges
-      (λ setup plan c payload is. all_why (IsLateCause service.wait_ms now_ms (has_administrator log)) given late c payload is) ruled since tells woke_called
+      (λ setup plan c payload is. all_why (IsLateCause service.wait_ms now_ms (has_administrator log)) given late c payload is) is settled ruled since tells woke_called
 
 -- An open that failed.
 
@@ -213,12 +215,13 @@ module _ (service : Service) (given : List GivenUp) (callers : List Caller) (lin
       rooms = λ i x within. λ other going none. none;
     }
 
-  pub fails_router : {texts : Texts} → Knows service.setup → (router : IsRouter service texts log t roomy) → MayFollow log failed → All IsGivenOurs given → AreRefused given
+  pub fails_router : {texts : Texts} {admin : Administered} → Knows service.setup → (router : IsRouter service texts admin log t roomy) → MayFollow log failed → All IsGivenOurs given → AreRefused given
       → All (IsCallerOurs (rules_in service) texts) callers → TurnsJudge
-      → AreRuledAll (ruling_of service texts.since (key_at texts)) callers service.setup service.default_schema fails.late fails.calls.turned fails.calls.going
+      → (is : Administered) → admin.rules ≡ rules_in service
+      → AreRuledAll (ruling_of service texts.since (key_at texts) admin is) callers service.setup service.default_schema fails.late fails.calls.turned fails.calls.going
       → AreHeldSince texts service.default_schema router.core.decided log
-      → All (λ (k : Caller). TellsFor k.parting service.setup k.client) callers → IsRouter service texts (with_entry log failed) now roomy
-  fails_router knows router may given_ours refused ours judges ruled since tells =
+      → All (λ (k : Caller). TellsFor k.parting service.setup k.client) callers → IsRouter service texts is (with_entry log failed) now roomy
+  fails_router knows router may given_ours refused ours judges is settled ruled since tells =
       calls_router service knows log failed (fails_tells server address) t fails.late now roomy roomy given callers links router may fails.gives
       fails.all_given fails.calls given_ours ours (λ terms codes of fits. tt) judges
-      (λ setup plan c payload is. all_why (λ (p : List ℕ). p ≡ connection_refused) given refused c payload is) ruled since tells fails_called
+      (λ setup plan c payload is. all_why (λ (p : List ℕ). p ≡ connection_refused) given refused c payload is) is settled ruled since tells fails_called

@@ -1,4 +1,6 @@
 -- The core with all that is carried from entry to entry.
+use Rattle.core_promises.specs.Administered.{IsFirst}
+use Rattle.core_promises.specs.Administers.{Administered}
 use Rattle.std.specs.Prelude.{◌≡◌, ◌<◌, ◌||◌, ℕ, Bool, is_some, length, List, Option, None, Some}
 use Rattle.mx_wire.specs.Log.{Log, is_open}
 use Rattle.mx_wire.specs.Moments.{AllLawful}
@@ -8,6 +10,7 @@ use Rattle.core_service.specs.declared.service.Service.{Service}
 use Rattle.core_texts.specs.Texts.{key_at}
 use Rattle.core_texts.specs.declared.texts.Texts.{Texts}
 use Rattle.client_session.specs.Setups.{Setup as Serving}
+use Rattle.query_rules.specs.Passing.{rules_of}
 use Rattle.query_rules.specs.declared.rule.Rule.{Rule}
 use Rattle.private_model.specs.Names.{ClientNo, LinkId, MessageName}
 use Rattle.private_model.specs.Story.{Key}
@@ -28,7 +31,7 @@ use Rattle.core_promises.specs.Waits.{AreDoneBy, WaitsSo}
 use Rattle.core_promises.specs.Causes.{CausedBy}
 use Rattle.core_promises.specs.Judges.{JudgesBy}
 use Rattle.core_promises.specs.Ruled.{book_of}
-use Rattle.router_laws.specs.decisions.Force.{AreInForce}
+use Rattle.router_laws.specs.decisions.Administering.{AdministersSoFar}
 use Rattle.router_laws.specs.decisions.Held.{AreHeldBy, AreHeldSince}
 use Rattle.router_laws.specs.decisions.Speaks.{DecidesOwn}
 use Rattle.router_laws.specs.decisions.Plans.{AreUngiven, PlansSo}
@@ -43,7 +46,7 @@ pub record AreKnown (texts : Texts) (keys : (number : ℕ) → Option Key) : Typ
   pub told : (number : ℕ) (key : Key) → key_at texts number ≡ Some key → keys number ≡ Some key
   pub later : (number : ℕ) → texts.last < number → keys number ≡ None
 
-pub record IsRouter (service : Service) (texts : Texts) (log : Log) (t : Tabled) (roomy : ClientNo → Bool) : Type 0 where
+pub record IsRouter (service : Service) (texts : Texts) (admin : Administered) (log : Log) (t : Tabled) (roomy : ClientNo → Bool) : Type 0 where
   pub core : IsCore service.setup service.default_schema log t roomy
   pub counts : Counts
   pub recorded : IsRecorded core.decided counts log
@@ -52,7 +55,9 @@ pub record IsRouter (service : Service) (texts : Texts) (log : Log) (t : Tabled)
   pub lawful : AllLawful MayFollow log
   pub open_just : AreOpenJust log t
   pub rules : MessageName → List Rule
-  pub ruled : AreInForce service log rules
+  pub first : Administered
+  pub began : IsFirst (rules_of service.configured) first
+  pub administers : AdministersSoFar rules service.default_schema core.decided log first admin
   pub spoken : DecidesOwn rules core.decided
   pub waited : AreDoneBy service.default_schema core.decided log
   pub judged : JudgesBy (book_of service) rules service.default_schema core.decided log
@@ -60,8 +65,8 @@ pub record IsRouter (service : Service) (texts : Texts) (log : Log) (t : Tabled)
   pub caused : CausedBy service.wait_ms service.default_schema core.decided log
 
 -- as an entry goes on, by which texts came: those that clients may still name were kept before
-pub record IsLearned (service : Service) (texts : Texts) (log : Log) (t : Tabled) (roomy : ClientNo → Bool) : Type 0 where
-  pub router : IsRouter service texts log t roomy
+pub record IsLearned (service : Service) (texts : Texts) (admin : Administered) (log : Log) (t : Tabled) (roomy : ClientNo → Bool) : Type 0 where
+  pub router : IsRouter service texts admin log t roomy
   pub since : AreHeldSince texts service.default_schema router.core.decided log
 
 -- where the entry is a wait, all is done
@@ -84,8 +89,8 @@ GoesSoBy service default log e d n deeds t now roomy room =
     → GoesSo service setup codes plan log e d n deeds t now roomy room
 
 -- What there was before an entry, by one setup and plan of what is decided behind it; and the plan has its deeds.
-pub record IsBefore (service : Service) (texts : Texts) (log : Log) (e : Entry) (t : Tabled) (roomy : ClientNo → Bool)
-    (router : IsRouter service texts log t roomy) (deeds : Deeds) (setup : Setup) (codes : Codes) (plan : Plan) : Type 0 where
+pub record IsBefore (service : Service) (texts : Texts) (admin : Administered) (log : Log) (e : Entry) (t : Tabled) (roomy : ClientNo → Bool)
+    (router : IsRouter service texts admin log t roomy) (deeds : Deeds) (setup : Setup) (codes : Codes) (plan : Plan) : Type 0 where
   pub of : IsOf router.core.decided (length log) plan
   pub fits : Fits router.core.decided.keys setup codes plan service.default_schema (tale_of setup plan log)
   pub rests : Rests service.setup (ground setup codes plan router.core.decided log) t roomy

@@ -19,6 +19,7 @@ use Rattle.router_laws.specs.clients.Plans.{FitsThen, IsDecided, nobody, over_by
 use Rattle.router_laws.specs.decisions.Counting.{BeginsSo}
 use Rattle.router_laws.specs.decisions.Deeds.{Counts, Deeds, decided_with, no_deeds}
 use Rattle.router_laws.specs.decisions.Plans.{PlansSo}
+use Rattle.core_promises.specs.Administers.{Administered}
 use Rattle.router_laws.specs.decisions.Routers.{IsBefore, IsRouter}
 
 -- what is decided of a link alone
@@ -32,10 +33,10 @@ pub record Enters (service : Serving) (log : Log) (e : Entry) (d : Decided) (n :
   pub begins : BeginsSo setup (tale_of setup plan log) e deeds
 
 -- by each that has what is decided then, and fits
-abbrev pub EntersBy : (service : Service) (texts : Texts) (log : Log) (e : Entry) (t now : Tabled) (roomy room : ClientNo → Bool)
-    → IsRouter service texts log t roomy → Deeds → Type 0
-EntersBy service texts log e t now roomy room router deeds =
-    (setup : Setup) (codes : Codes) (plan : Plan) → IsBefore service texts log e t roomy router deeds setup codes plan
+abbrev pub EntersBy : (service : Service) (texts : Texts) (admin : Administered) (log : Log) (e : Entry) (t now : Tabled) (roomy room : ClientNo → Bool)
+    → IsRouter service texts admin log t roomy → Deeds → Type 0
+EntersBy service texts admin log e t now roomy room router deeds =
+    (setup : Setup) (codes : Codes) (plan : Plan) → IsBefore service texts admin log e t roomy router deeds setup codes plan
     → FitsThen (decided_with deeds router.counts log e router.core.decided).keys setup codes plan service.default_schema log e → PlansSo (ground setup codes plan router.core.decided log) log e deeds
     → IsDecided (ground setup codes plan router.core.decided log) nobody (over_by (decided_with deeds router.counts log e router.core.decided))
     → Enters service.setup log e router.core.decided router.counts deeds t now roomy room setup codes plan

@@ -5,7 +5,6 @@ ghost use Rattle.mx_wire.specs.Tells.{MayFollow};
 ghost use Rattle.mx_wire.specs.declared.entry.Entry.{Entry};
 ghost use Rattle.core_service.specs.Serves.{rules_in};
 ghost use Rattle.core_service.specs.declared.service.Service.{Service};
-ghost use Rattle.core_promises.specs.InForce.{AreLoaded, has_administrator};
 ghost use Rattle.query_rules.specs.Passing.{rules_of};
 ghost use Rattle.query_rules.specs.declared.rules.Rules.{Rules};
 ghost use Rattle.core_texts.specs.Texts.{AreLess, AreMore, key_at};
@@ -28,31 +27,33 @@ ghost use Rattle.router_laws.specs.decisions.Held.{KeepsTexts};
 ghost use Rattle.router_laws.specs.decisions.Judges.{JudgesThen};
 ghost use Rattle.router_laws.specs.decisions.Speaks.{AreOurs};
 ghost use Rattle.router_laws.specs.decisions.Records.{IsRecorded};
+ghost use Rattle.core_promises.specs.Administered.{IsFirst};
+ghost use Rattle.core_promises.specs.Administers.{Administered};
 ghost use Rattle.router_laws.specs.decisions.Routers.{AreOpenJust, GoesSoBy, IsBefore, IsRouter, WaitsThen};
 
-/// Empty tables are a router's of the empty log, with no texts and with the rules of the configuration.
+/// Empty tables are a router's of the empty log, with no texts, and with the rules of the configuration in force and staged.
 pub fn first_router()
-    ensures { (service : Service) (texts : Texts) (roomy : ClientNo → Bool) → service.loaded ≡ None
-        → ((number : ℕ) → key_at texts number ≡ None) → IsRouter service texts [] no_tables roomy }
+    ensures { (service : Service) (texts : Texts) (admin : Administered) → IsFirst (rules_of service.configured) admin
+        → (roomy : ClientNo → Bool) → service.loaded ≡ None
+        → ((number : ℕ) → key_at texts number ≡ None) → IsRouter service texts admin [] no_tables roomy }
 {
     core_stands::first_stands();
 }
 
-/// Once an administrator came, rules may be loaded: all is so with them in force.
+/// Rules may be loaded: all is so with them in force.
 pub fn routers_load()
-    ensures { (service : Service) (texts : Texts) (log : Log) (t : Tabled) (roomy : ClientNo → Bool) (loaded : Rules)
-        → IsRouter service texts log t roomy → has_administrator log ≡ true → AreLoaded (rules_of loaded)
-        → IsRouter (record service { loaded = Some loaded }) texts log t roomy }
+    ensures { (service : Service) (texts : Texts) (admin : Administered) (log : Log) (t : Tabled) (roomy : ClientNo → Bool) (loaded : Rules)
+        → IsRouter service texts admin log t roomy → IsRouter (record service { loaded = Some loaded }) texts admin log t roomy }
 {}
 
 /// A router goes on with an entry by its deeds.
 pub fn routers_go_on()
-    ensures { (service : Service) (texts : Texts) (log : Log) (e : Entry) (deeds : Deeds) (t now : Tabled) (roomy room : ClientNo → Bool)
-        → (router : IsRouter service texts log t roomy) → MayFollow log e
+    ensures { (service : Service) (texts : Texts) (was is : Administered) (log : Log) (e : Entry) (deeds : Deeds) (t now : Tabled) (roomy room : ClientNo → Bool)
+        → (router : IsRouter service texts was log t roomy) → MayFollow log e
         → AreOurs (rules_in service) texts deeds → WaitsThen service log e router.core.decided
-        → JudgesThen service log e router.core.decided router.counts deeds
+        → JudgesThen service log e router.core.decided router.counts deeds was is
         → GoesSoBy service.setup service.default_schema log e router.core.decided router.counts deeds t now roomy room → AreOpenJust (with_entry log e) now
-        → IsRouter service texts (with_entry log e) now room }
+        → IsRouter service texts is (with_entry log e) now room }
 {}
 
 /// A plan that has what is decided behind an entry, and fits there, was one and fitted before, where all clients are there of which more was read.
@@ -68,31 +69,31 @@ pub fn routers_went()
 
 /// So it stood before an entry, by a plan that has what is decided behind it.
 pub fn routers_stood()
-    ensures { (service : Service) (texts : Texts) (log : Log) (e : Entry) (t : Tabled) (roomy : ClientNo → Bool) (deeds : Deeds)
-        (setup : Setup) (codes : Codes) (plan : Plan) → (router : IsRouter service texts log t roomy) → MayFollow log e
+    ensures { (service : Service) (texts : Texts) (admin : Administered) (log : Log) (e : Entry) (t : Tabled) (roomy : ClientNo → Bool) (deeds : Deeds)
+        (setup : Setup) (codes : Codes) (plan : Plan) → (router : IsRouter service texts admin log t roomy) → MayFollow log e
         → IsOf (decided_with deeds router.counts log e router.core.decided) (length (with_entry log e)) plan
         → Fits (decided_with deeds router.counts log e router.core.decided).keys setup codes plan service.default_schema (tale_of setup plan (with_entry log e))
         → All (λ (client : Client). IsHeardMore (tale_of setup plan (with_entry log e)) client) (tale_of setup plan log).clients
-        → IsBefore service texts log e t roomy router deeds setup codes plan }
+        → IsBefore service texts admin log e t roomy router deeds setup codes plan }
 {}
 
 /// Other tables that rest wherever these did are a router's of the same log.
 pub fn routers_change()
-    ensures { (service : Service) (texts : Texts) (log : Log) (t now : Tabled) (roomy room : ClientNo → Bool)
-        → IsRouter service texts log t roomy → ((g : Ground) → Rests service.setup g t roomy → Rests service.setup g now room) → AreOpenJust log now
-        → IsRouter service texts log now room }
+    ensures { (service : Service) (texts : Texts) (admin : Administered) (log : Log) (t now : Tabled) (roomy room : ClientNo → Bool)
+        → IsRouter service texts admin log t roomy → ((g : Ground) → Rests service.setup g t roomy → Rests service.setup g now room) → AreOpenJust log now
+        → IsRouter service texts admin log now room }
 {}
 
 /// More clients may be among those who have room again.
 pub fn routers_are_roomier()
-    ensures { (service : Service) (texts : Texts) (log : Log) (t : Tabled) (roomy room : ClientNo → Bool)
-        → IsRouter service texts log t roomy → ((c : ClientNo) → roomy c ≡ true → room c ≡ true) → IsRouter service texts log t room }
+    ensures { (service : Service) (texts : Texts) (admin : Administered) (log : Log) (t : Tabled) (roomy room : ClientNo → Bool)
+        → IsRouter service texts admin log t roomy → ((c : ClientNo) → roomy c ≡ true → room c ≡ true) → IsRouter service texts admin log t room }
 {}
 
 /// It stays a router as texts come, and as some are forgotten.
 pub fn routers_learn()
-    ensures more { (service : Service) (old new : Texts) (log : Log) (t : Tabled) (roomy : ClientNo → Bool)
-        → IsRouter service old log t roomy → AreMore old new → IsRouter service new log t roomy }
-    ensures less { (service : Service) (old new : Texts) (log : Log) (t : Tabled) (roomy : ClientNo → Bool)
-        → IsRouter service old log t roomy → AreLess old new → KeepsTexts old new t → IsRouter service new log t roomy }
+    ensures more { (service : Service) (old new : Texts) (admin : Administered) (log : Log) (t : Tabled) (roomy : ClientNo → Bool)
+        → IsRouter service old admin log t roomy → AreMore old new → IsRouter service new admin log t roomy }
+    ensures less { (service : Service) (old new : Texts) (admin : Administered) (log : Log) (t : Tabled) (roomy : ClientNo → Bool)
+        → IsRouter service old admin log t roomy → AreLess old new → KeepsTexts old new t → IsRouter service new admin log t roomy }
 {}

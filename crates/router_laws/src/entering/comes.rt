@@ -11,24 +11,25 @@ ghost use Rattle.private_model.specs.Names.{ClientNo};
 ghost use Rattle.core_tables.specs.Tables.{Tabled};
 ghost use Rattle.core_laws.specs.entry.Cores.{with_entry};
 ghost use Rattle.router_laws.specs.clients.Comes.{ComesSo, Served, TurnedAway};
+ghost use Rattle.core_promises.specs.Administers.{Administered};
 ghost use Rattle.router_laws.specs.decisions.Routers.{IsRouter};
 
 /// It is served.
 pub fn comes_router()
-    ensures { (service : Service) (texts : Texts) (log : Log) (t now : Tabled) (roomy : ClientNo → Bool) (port : Port) (link : LinkId)
-        (salt : List ℕ) (c : ClientNo) → IsRouter service texts log t roomy → MayFollow log (Accepted port link salt)
+    ensures { (service : Service) (texts : Texts) (admin : Administered) (log : Log) (t now : Tabled) (roomy : ClientNo → Bool) (port : Port) (link : LinkId)
+        (salt : List ℕ) (c : ClientNo) → IsRouter service texts admin log t roomy → MayFollow log (Accepted port link salt)
         → c.0 ≡ length (accepted_links log) + 1 → ComesSo Served service.setup port link salt c t now
-        → IsRouter service texts (with_entry log (Accepted port link salt)) now roomy }
+        → IsRouter service texts admin (with_entry log (Accepted port link salt)) now roomy }
 {
     crate::clients::comes_go();
 }
 
 /// It is turned away, and ends at once.
 pub fn turned_away_router()
-    ensures { (service : Service) (texts : Texts) (log : Log) (t now : Tabled) (roomy : ClientNo → Bool) (port : Port) (link : LinkId)
-        (salt : List ℕ) (c : ClientNo) → IsRouter service texts log t roomy → MayFollow log (Accepted port link salt)
+    ensures { (service : Service) (texts : Texts) (admin : Administered) (log : Log) (t now : Tabled) (roomy : ClientNo → Bool) (port : Port) (link : LinkId)
+        (salt : List ℕ) (c : ClientNo) → IsRouter service texts admin log t roomy → MayFollow log (Accepted port link salt)
         → c.0 ≡ length (accepted_links log) + 1 → ComesSo TurnedAway service.setup port link salt c t now
-        → IsRouter service texts (with_entry log (Accepted port link salt)) now roomy }
+        → IsRouter service texts admin (with_entry log (Accepted port link salt)) now roomy }
 {
     crate::clients::turned_away_go();
 }

@@ -11,6 +11,7 @@ ghost use Rattle.private_model.specs.Names.{ClientNo, LinkId};
 ghost use Rattle.core_tables.specs.Parting.{lost_in, unlinked};
 ghost use Rattle.core_tables.specs.Tables.{IsSame, Tabled};
 ghost use Rattle.core_laws.specs.clients.Going.{is_going};
+ghost use Rattle.core_promises.specs.Administers.{Administered};
 ghost use Rattle.router_laws.specs.decisions.Routers.{IsRouter};
 ghost use Rattle.core_laws.specs.entry.Cores.{with_entry};
 ghost use Rattle.ready_loop.specs.Machine.{IsFarewell};
@@ -21,12 +22,12 @@ use crate::links::routers::{closes_router, writes_router};
 
 /// Before a link is closed one write is offered there, and marks may be made: it is forgotten then as it would have been at once.
 pub fn farewells_router()
-    ensures { (service : Service) (texts : Texts) (log marks : Log) (e : Entry) (t : Tabled) (roomy room : ClientNo → Bool) (l : LinkId)
-        (lent : Option offers.Sent) → IsRouter service texts log t roomy → AreMarks marks
+    ensures { (service : Service) (texts : Texts) (admin : Administered) (log marks : Log) (e : Entry) (t : Tabled) (roomy room : ClientNo → Bool) (l : LinkId)
+        (lent : Option offers.Sent) → IsRouter service texts admin log t roomy → AreMarks marks
         → ((c : ClientNo) → room c ≡ false → roomy c ≡ false) → MayClose l room t
         → MaySayFarewell l (λ (c : ClientNo). not (is_going (t.clients c))) t → IsLentThere l lent t → IsFarewell lent l e
         → MayFollow log e → MayFollow (log ++ e ∷ [] ++ marks) (Closed l)
-        → IsRouter service texts (log ++ e ∷ [] ++ marks ++ Closed l ∷ []) (unlinked l (lost_in l t)) room }
+        → IsRouter service texts admin (log ++ e ∷ [] ++ marks ++ Closed l ∷ []) (unlinked l (lost_in l t)) room }
 {
     crate::quiet::marks_router();
     crate::quiet::quiets_router();
@@ -37,10 +38,10 @@ pub fn farewells_router()
 
 /// One that was lost by the core's own wish, of which nothing is told before.
 pub fn lost_closes_router()
-    ensures { (service : Service) (texts : Texts) (log : Log) (t x : Tabled) (roomy room : ClientNo → Bool) (l : LinkId)
-        → IsRouter service texts log t roomy → ((c : ClientNo) → room c ≡ false → roomy c ≡ false) → MayClose l room t
+    ensures { (service : Service) (texts : Texts) (admin : Administered) (log : Log) (t x : Tabled) (roomy room : ClientNo → Bool) (l : LinkId)
+        → IsRouter service texts admin log t roomy → ((c : ClientNo) → room c ≡ false → roomy c ≡ false) → MayClose l room t
         → IsSame x (lost_in l t) → MayFollow log (Closed l)
-        → IsRouter service texts (with_entry log (Closed l)) (unlinked l (lost_in l x)) room }
+        → IsRouter service texts admin (with_entry log (Closed l)) (unlinked l (lost_in l x)) room }
 {
     closes_router();
 }

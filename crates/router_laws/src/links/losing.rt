@@ -25,7 +25,8 @@ ghost use Rattle.router_laws.specs.decisions.Causes.{IsLostFor};
 ghost use Rattle.router_laws.specs.decisions.Held.{AreHeldFor};
 ghost use Rattle.router_laws.specs.decisions.Judges.{JudgesThen};
 ghost use Rattle.router_laws.specs.decisions.Goings.{deeds_of};
-ghost use Rattle.router_laws.specs.decisions.Rulings.{IsRuledOn};
+ghost use Rattle.router_laws.specs.decisions.Rulings.{IsRuledOn, IsSettledFor};
+ghost use Rattle.core_promises.specs.Administers.{Administered};
 ghost use Rattle.router_laws.specs.decisions.Routers.{IsRouter};
 ghost use Rattle.router_laws.specs.links.Loses.{Break, LosesEnded, LosesSo, MayGiveUpWith, entry_by};
 
@@ -38,12 +39,13 @@ pub fn given_up_with_it()
 /// Where the turns of the client that goes on are ruled as a link is lost, so is what becomes of its messages; and what is given up went to a
 /// server, and has its cause.
 pub fn loses_judge()
-    ensures { (service : Service) (texts : Texts) (log : Log) (t now : Tabled) (roomy : ClientNo → Bool) (l : LinkId) (how : Break)
-        (given : Option GivenUp) (going : Option Going) → (router : IsRouter service texts log t roomy) → MayFollow log (entry_by how l)
+    ensures { (service : Service) (texts : Texts) (admin is : Administered) (log : Log) (t now : Tabled) (roomy : ClientNo → Bool) (l : LinkId) (how : Break)
+        (given : Option GivenUp) (going : Option Going) → (router : IsRouter service texts admin log t roomy) → MayFollow log (entry_by how l)
         → (so : LosesSo service.setup service.default_schema l given going t now) → AreGoingOurs (rules_in service) texts going
-        → IsRuledOn (ruling_of service texts.since (key_at texts)) going service.setup service.default_schema so.lost now so.goes → IsLostFor l t given
+        → IsRuledOn (ruling_of service texts.since (key_at texts) admin is) going service.setup service.default_schema so.lost now so.goes → IsLostFor l t given
         → AreHeldFor going texts service.default_schema router.core.decided log
-        → JudgesThen service log (entry_by how l) router.core.decided router.counts (deeds_of given going) }
+        → IsSettledFor going service admin
+        → JudgesThen service log (entry_by how l) router.core.decided router.counts (deeds_of given going) admin is }
 {
     core_laws::parting::carried_homes();
     core_laws::parting::lost_stands();
@@ -62,12 +64,12 @@ pub fn loses_judge()
 
 /// A link to a server is lost, and whoever is called goes on.
 pub fn loses_router()
-    ensures { (service : Service) (texts : Texts) (log : Log) (t now : Tabled) (roomy : ClientNo → Bool) (l : LinkId) (how : Break)
-        (given : Option GivenUp) (going : Option Going) → (router : IsRouter service texts log t roomy) → MayFollow log (entry_by how l)
+    ensures { (service : Service) (texts : Texts) (admin is : Administered) (log : Log) (t now : Tabled) (roomy : ClientNo → Bool) (l : LinkId) (how : Break)
+        (given : Option GivenUp) (going : Option Going) → (router : IsRouter service texts admin log t roomy) → MayFollow log (entry_by how l)
         → AreGivenOurs given → AreGoingOurs (rules_in service) texts going → (so : LosesSo service.setup service.default_schema l given going t now)
-        → IsRuledOn (ruling_of service texts.since (key_at texts)) going service.setup service.default_schema so.lost now so.goes → IsLostFor l t given
+        → IsRuledOn (ruling_of service texts.since (key_at texts) admin is) going service.setup service.default_schema so.lost now so.goes → IsLostFor l t given
         → AreHeldFor going texts service.default_schema router.core.decided log
-        → IsRouter service texts (with_entry log (entry_by how l)) now roomy }
+        → IsSettledFor going service admin → IsRouter service texts is (with_entry log (entry_by how l)) now roomy }
 {
     loses_judge();
     core_laws::parting::lost_stands();
@@ -86,9 +88,9 @@ pub fn loses_router()
 
 /// And with it the client ends whose present session it carries.
 pub fn loses_ended_router()
-    ensures { (service : Service) (texts : Texts) (log : Log) (t now : Tabled) (roomy : ClientNo → Bool) (l : LinkId) (how : Break) (c : ClientNo)
-        (links : List LinkId) → IsRouter service texts log t roomy → MayFollow log (entry_by how l) → LosesEnded l c links t now
-        → IsRouter service texts (with_entry log (entry_by how l)) now roomy }
+    ensures { (service : Service) (texts : Texts) (admin : Administered) (log : Log) (t now : Tabled) (roomy : ClientNo → Bool) (l : LinkId) (how : Break) (c : ClientNo)
+        (links : List LinkId) → IsRouter service texts admin log t roomy → MayFollow log (entry_by how l) → LosesEnded l c links t now
+        → IsRouter service texts admin (with_entry log (entry_by how l)) now roomy }
 {
     core_laws::parting::lost_stands();
     core_laws::parting::left_stands();

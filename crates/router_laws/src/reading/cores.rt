@@ -25,6 +25,7 @@ ghost use Rattle.router_laws.specs.decisions.Held.{AreHeldSince};
 ghost use Rattle.router_laws.specs.decisions.Judges.{JudgesThen};
 ghost use Rattle.router_laws.specs.decisions.Goings.{deeds_of};
 ghost use Rattle.router_laws.specs.decisions.Rulings.{IsRuledOn};
+ghost use Rattle.core_promises.specs.Administers.{Administered};
 ghost use Rattle.router_laws.specs.decisions.Routers.{GoesSoBy, IsRouter};
 ghost use Rattle.router_laws.specs.reading.Givings.{MayGiveUp};
 ghost use Rattle.core_promises.specs.Ruled.{Ruling, ruling_of};
@@ -39,8 +40,8 @@ pub fn hears_keep()
 
 /// The core goes on, by what is given up, and what is decided of the one client that goes on.
 pub fn hears_goes()
-    ensures { (service : Service) (texts : Texts) (log : Log) (t now : Tabled) (roomy : ClientNo → Bool) (l : LinkId) (bytes : List ℕ)
-        (clock : ℕ) (given : Option GivenUp) (going : Option Going) → (router : IsRouter service texts log t roomy) → MayFollow log (Got l bytes)
+    ensures { (service : Service) (texts : Texts) (admin : Administered) (log : Log) (t now : Tabled) (roomy : ClientNo → Bool) (l : LinkId) (bytes : List ℕ)
+        (clock : ℕ) (given : Option GivenUp) (going : Option Going) → (router : IsRouter service texts admin log t roomy) → MayFollow log (Got l bytes)
         → AreBytes bytes → HearsSo service.setup service.default_schema l bytes clock given going t now
         → AreGoingOurs (rules_in service) texts going
         → GoesSoBy service.setup service.default_schema log (Got l bytes) router.core.decided router.counts (deeds_of given going) t now roomy roomy }
@@ -62,13 +63,14 @@ pub fn hears_goes()
 
 /// Where the turns of the client that goes on are ruled, so is what becomes of its messages; and what is given up went to a server, and has its cause.
 pub fn hears_judge()
-    ensures { (service : Service) (texts : Texts) (log : Log) (t now : Tabled) (roomy : ClientNo → Bool) (l : LinkId) (bytes : List ℕ)
-        (clock : ℕ) (given : Option GivenUp) (going : Option Going) → (router : IsRouter service texts log t roomy) → MayFollow log (Got l bytes)
+    ensures { (service : Service) (texts : Texts) (admin is : Administered) (log : Log) (t now : Tabled) (roomy : ClientNo → Bool) (l : LinkId) (bytes : List ℕ)
+        (clock : ℕ) (given : Option GivenUp) (going : Option Going) → (router : IsRouter service texts admin log t roomy) → MayFollow log (Got l bytes)
         → AreBytes bytes → (so : HearsSo service.setup service.default_schema l bytes clock given going t now)
         → AreGoingOurs (rules_in service) texts going
-        → IsRuledOn (ruling_of service texts.since (key_at texts)) going service.setup service.default_schema so.freed now so.goes → IsHeardFor l t given
+        → IsRuledOn (ruling_of service texts.since (key_at texts) admin is) going service.setup service.default_schema so.freed now so.goes → IsHeardFor l t given
         → AreHeldSince texts service.default_schema router.core.decided log
-        → JudgesThen service log (Got l bytes) router.core.decided router.counts (deeds_of given going) }
+        → admin.rules ≡ rules_in service
+        → JudgesThen service log (Got l bytes) router.core.decided router.counts (deeds_of given going) admin is }
 {
     core_laws::hearing::bytes_are_heard();
     core_laws::parting::carried_homes();
@@ -89,13 +91,13 @@ pub fn hears_judge()
 
 /// So a router does.
 pub fn hears_router()
-    ensures { (service : Service) (texts : Texts) (log : Log) (t now : Tabled) (roomy : ClientNo → Bool) (l : LinkId) (bytes : List ℕ)
-        (clock : ℕ) (given : Option GivenUp) (going : Option Going) → (router : IsRouter service texts log t roomy) → MayFollow log (Got l bytes)
+    ensures { (service : Service) (texts : Texts) (admin is : Administered) (log : Log) (t now : Tabled) (roomy : ClientNo → Bool) (l : LinkId) (bytes : List ℕ)
+        (clock : ℕ) (given : Option GivenUp) (going : Option Going) → (router : IsRouter service texts admin log t roomy) → MayFollow log (Got l bytes)
         → AreBytes bytes → (so : HearsSo service.setup service.default_schema l bytes clock given going t now) → AreGivenOurs given
         → AreGoingOurs (rules_in service) texts going
-        → IsRuledOn (ruling_of service texts.since (key_at texts)) going service.setup service.default_schema so.freed now so.goes → IsHeardFor l t given
+        → IsRuledOn (ruling_of service texts.since (key_at texts) admin is) going service.setup service.default_schema so.freed now so.goes → IsHeardFor l t given
         → AreHeldSince texts service.default_schema router.core.decided log
-        → IsRouter service texts (with_entry log (Got l bytes)) now roomy }
+        → admin.rules ≡ rules_in service → IsRouter service texts is (with_entry log (Got l bytes)) now roomy }
 {
     hears_judge();
     hears_goes();

@@ -11,6 +11,7 @@ ghost use Rattle.core_tables.specs.Tables.{IsSame, Tabled};
 ghost use Rattle.core_stands.specs.Grounds.{AreNamed, Ground};
 ghost use Rattle.core_stands.specs.Stands.{Rests, Stands};
 ghost use Rattle.router_laws.specs.decisions.Judges.{HasKeys};
+ghost use Rattle.core_promises.specs.Administers.{Administered};
 ghost use Rattle.router_laws.specs.decisions.Routers.{AreKnown, IsRouter};
 ghost use Rattle.core_laws.specs.entry.Tells.{IsCore};
 ghost use Rattle.router_laws.specs.wakes.Settling.{Settles, SettlesBy, Settling};
@@ -24,8 +25,8 @@ pub fn settling_stands()
     ensures core { (service : Serving) (texts : Texts) (default : List ℕ) (log : Log) (t now : Tabled) (roomy : ClientNo → Bool)
         → (core : IsCore service default log t roomy) → AreKnown texts core.decided.keys → Settles texts t now
         → IsCore service default log now roomy }
-    ensures router { (service : Service) (texts : Texts) (log : Log) (t now : Tabled) (roomy : ClientNo → Bool)
-        → IsRouter service texts log t roomy → Settles texts t now → IsRouter service texts log now roomy }
+    ensures router { (service : Service) (texts : Texts) (admin : Administered) (log : Log) (t now : Tabled) (roomy : ClientNo → Bool)
+        → IsRouter service texts admin log t roomy → Settles texts t now → IsRouter service texts admin log now roomy }
 {
     core_laws::parting::rows_of_others_stay();
     core_laws::parting::same_stands();

@@ -2,7 +2,7 @@ use Rattle.core_promises.proofs.Verdicts.{asks-by}
 use Rattle.apart_cases.proofs.worked.kept_is_apart.Goals as goal
 
 pub returns : goal.returns
-returns c = λ terms log keeps rules force speaks gives waits judges copies. record {
+returns c = λ terms log keeps rules administers speaks gives waits judges copies. record {
   router = keeps.router;
   fits = keeps.fits;
   who = keeps.who;
@@ -10,7 +10,7 @@ returns c = λ terms log keeps rules force speaks gives waits judges copies. rec
   lawful = keeps.lawful;
   due = keeps.due;
   rules = rules;
-  force = force;
+  administers = administers;
   speaks = speaks;
   gives = gives;
   waits = waits;

@@ -1,28 +1,33 @@
 use Rattle.std.specs.Prelude.{◌≡◌, ℕ, Bool, List, []}
 use Rattle.std.proofs.Common.{refl, subst, sym}
 use Rattle.core_promises.specs.Administers.{IsAdminAnswer}
+use Rattle.core_service.specs.Serves.{rules_in}
 use Rattle.core_tables.specs.Tables.{tables_of}
-use Rattle.core_turns.specs.Administering.{IsWritten, IsWrittenAs}
-use Rattle.core_turns.proofs.Administered.{quits-only, told-up}
+use Rattle.core_turns.specs.Administering.{IsWritten, IsWrittenAs, administered}
+use Rattle.core_turns.proofs.Administered.{by, quits-only, told-up}
 use Rattle.core_turns.proofs.administering.administer.Goals as goal
 
 pub returns-then-branch-clause-is : goal.returns-then-branch-clause-is
 returns-then-branch-clause-is c =
     let said : c.as_slice.result.now ≡ c.append_reply.new.out.items = cc in
-    λ ruling ordinal. told-up ruling c.args.client (tables_of c.args.marked.now.tables) (tables_of c.tell.new.marked.tables) c.as_slice.result.now
-    c.requires.port
+    let was = administered (rules_in c.args.service.now) c.args.admin.now in
+    let is = administered (rules_in c.args.service.now) c.append_reply.new.admin in
+    λ book since keys ordinal. told-up (by book since keys was is) c.args.client (tables_of c.args.marked.now.tables) (tables_of c.tell.new.marked.tables)
+    c.as_slice.result.now c.requires.port
     (λ row there message found.
-    subst (λ (packets : List ℕ). IsWrittenAs (IsAdminAnswer message.payload) row.desk.seat.first [] packets) (sym said)
-    (subst (λ (before : List ℕ). IsWrittenAs (IsAdminAnswer message.payload) row.desk.seat.first before c.append_reply.new.out.items) c.new-packets.ensures.items
-    (subst (λ (answered : Bool). IsWritten answered message.payload row.desk.seat.first c.new-packets.result.items c.append_reply.new.out.items) c.if-branch.true
+    subst (λ (packets : List ℕ). IsWrittenAs (IsAdminAnswer message.payload was is) row.desk.seat.first [] packets) (sym said)
+    (subst (λ (before : List ℕ). IsWrittenAs (IsAdminAnswer message.payload was is) row.desk.seat.first before c.append_reply.new.out.items) c.new-packets.ensures.items
+    (subst (λ (answered : Bool). IsWritten answered message.payload was is row.desk.seat.first c.new-packets.result.items c.append_reply.new.out.items) c.if-branch.true
     (c.in_ok-append_reply.ensures row there message found))))
-    (c.in_ok-tell.ensures.is ruling)
+    (c.in_ok-tell.ensures.is (by book since keys was is))
 
 pub returns-clause-is : goal.returns-clause-is
-returns-clause-is c = λ ruling ordinal row there message found. record {
-  quits_only =
-      quits-only message
-      (subst (λ (answered : Bool). IsWritten answered message.payload row.desk.seat.first c.new-packets.result.items c.append_reply.new.out.items) c.if-branch.false
-      (c.in_ok-append_reply.ensures row there message found));
-  same = record { clients = λ n. refl; numbers = λ l. refl; links = λ l. refl };
-}
+returns-clause-is c =
+    let was = administered (rules_in c.args.service.now) c.args.admin.now in
+    let is = administered (rules_in c.args.service.now) c.append_reply.new.admin in
+    λ book since keys ordinal row there message found.
+    let quits = subst (λ (answered : Bool). IsWritten answered message.payload was is row.desk.seat.first c.new-packets.result.items c.append_reply.new.out.items)
+    c.if-branch.false (c.in_ok-append_reply.ensures row there message found) in (
+      record { quits_only = quits-only message quits.0; same = record { clients = λ n. refl; numbers = λ l. refl; links = λ l. refl } },
+      quits.1,
+    )

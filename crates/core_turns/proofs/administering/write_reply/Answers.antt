@@ -8,10 +8,13 @@ use Rattle.message_judge.specs.Told.{payloads_of}
 use Rattle.message_judge.specs.declared.told.OwnError.TheVariants as own
 use Rattle.message_judge.specs.declared.told.Told.TheVariants as told
 use Rattle.core_promises.specs.Administers.{IsCommandAnswer}
+use Rattle.core_service.specs.Serves.{rules_in}
+use Rattle.core_turns.specs.Administering.{administered}
 use Rattle.core_turns.proofs.administering.write_reply.Goals as goal
 
 pub returns-in_ok-write_told-in-Ping : goal.returns-in_ok-write_told-in-Ping
 returns-in_ok-write_told-in-Ping c =
+    let was = administered (rules_in c.args.service.now) c.args.admin.now in
     let said : List (List ℕ) = payloads_of c.args.client.0 (told.Ok 2 c.new.result) in
     record {
       payloads = said;
@@ -19,8 +22,8 @@ returns-in_ok-write_told-in-Ping c =
         c.read_command.result,
         (
           c.read_command.ensures,
-          subst (λ (command : AdminCommand). IsCommandAnswer command said) (sym c.in-Ping.is)
-              (ap (λ (info : List ℕ). ok_payload status info ∷ []) c.new.ensures),
+          subst (λ (command : AdminCommand). IsCommandAnswer command was was said) (sym c.in-Ping.is)
+              (ap (λ (info : List ℕ). ok_payload status info ∷ []) c.new.ensures, refl),
         ),
       );
       spelt = c.in_ok-write_told-in-Ping.ensures;
@@ -33,7 +36,8 @@ returns-in_ok-write_told-in-Malformed c = record {
     c.read_command.result,
     (
       c.read_command.ensures,
-      subst (λ (command : AdminCommand). IsCommandAnswer command (malformed_command ∷ [])) (sym c.in-Malformed.is) refl,
+      subst (λ (command : AdminCommand). IsCommandAnswer command (administered (rules_in c.args.service.now) c.args.admin.now)
+          (administered (rules_in c.args.service.now) c.args.admin.now) (malformed_command ∷ [])) (sym c.in-Malformed.is) (refl, refl),
     ),
   );
   spelt = c.in_ok-write_told-in-Malformed.ensures;
@@ -46,7 +50,8 @@ returns-in_ok-write_told-in-Unknown c = record {
     c.read_command.result,
     (
       c.read_command.ensures,
-      subst (λ (command : AdminCommand). IsCommandAnswer command (unknown_command ∷ [])) (sym c.in-Unknown.is) refl,
+      subst (λ (command : AdminCommand). IsCommandAnswer command (administered (rules_in c.args.service.now) c.args.admin.now)
+          (administered (rules_in c.args.service.now) c.args.admin.now) (unknown_command ∷ [])) (sym c.in-Unknown.is) (refl, refl),
     ),
   );
   spelt = c.in_ok-write_told-in-Unknown.ensures;

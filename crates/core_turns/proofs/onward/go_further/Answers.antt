@@ -1,7 +1,6 @@
 use Rattle.std.proofs.Common.{subst}
-use Rattle.core_promises.specs.Ruled.{ruling_of}
 use Rattle.core_tables.specs.Tables.{tables_of}
-use Rattle.core_texts.specs.Texts.{key_at}
+use Rattle.core_turns.specs.Administering.{ruling_by}
 use Rattle.core_turns.specs.Turned.{IsTurned}
 use Rattle.core_turns.specs.declared.turn.Turn.{Turn}
 use Rattle.core_turns.proofs.Turning.{answered-choice, due-choice}
@@ -9,13 +8,13 @@ use Rattle.core_turns.proofs.onward.go_further.Goals as goal
 
 pub returns-in-Answered-clause-is : goal.returns-in-Answered-clause-is
 returns-in-Answered-clause-is c =
-    answered-choice (ruling_of c.args.service.now c.take_there.new.texts.since (key_at c.take_there.new.texts)) c.args.service.now.setup c.args.service.now.default_schema c.args.client (tables_of c.args.marked.now.tables) (tables_of c.take_there.new.marked.tables)
-    (subst (λ (t : Turn). IsTurned t (ruling_of c.args.service.now c.take_there.new.texts.since (key_at c.take_there.new.texts)) c.args.service.now.setup c.args.service.now.default_schema c.args.client (tables_of c.args.marked.now.tables)
+    answered-choice (ruling_by c.args.service.now c.take_there.new.texts c.args.admin.now c.take_there.new.admin) c.args.service.now.setup c.args.service.now.default_schema c.args.client (tables_of c.args.marked.now.tables) (tables_of c.take_there.new.marked.tables)
+    (subst (λ (t : Turn). IsTurned t (ruling_by c.args.service.now c.take_there.new.texts c.args.admin.now c.take_there.new.admin) c.args.service.now.setup c.args.service.now.default_schema c.args.client (tables_of c.args.marked.now.tables)
     (tables_of c.take_there.new.marked.tables)) c.in-Answered.is c.in_ok-stop.ensures.is)
 
 pub returns-in-Due-clause-is : goal.returns-in-Due-clause-is
 returns-in-Due-clause-is c =
-    due-choice (ruling_of c.args.service.now c.take_there.new.texts.since (key_at c.take_there.new.texts)) c.args.service.now.setup c.args.service.now.default_schema c.args.client (tables_of c.args.marked.now.tables)
+    due-choice (ruling_by c.args.service.now c.take_there.new.texts c.args.admin.now c.take_there.new.admin) c.args.service.now.setup c.args.service.now.default_schema c.args.client (tables_of c.args.marked.now.tables)
     (tables_of c.take_there.new.marked.tables) c.in-Due.hostgroup
-    (subst (λ (t : Turn). IsTurned t (ruling_of c.args.service.now c.take_there.new.texts.since (key_at c.take_there.new.texts)) c.args.service.now.setup c.args.service.now.default_schema c.args.client (tables_of c.args.marked.now.tables)
+    (subst (λ (t : Turn). IsTurned t (ruling_by c.args.service.now c.take_there.new.texts c.args.admin.now c.take_there.new.admin) c.args.service.now.setup c.args.service.now.default_schema c.args.client (tables_of c.args.marked.now.tables)
     (tables_of c.take_there.new.marked.tables)) c.in-Due.is c.in_ok-stop.ensures.is)

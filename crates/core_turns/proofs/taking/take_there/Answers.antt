@@ -1,13 +1,12 @@
 use Rattle.std.specs.Prelude.{◌≡◌, false, Bool, List, ℕ}
-use Rattle.std.proofs.Common.{sym, subst, ◌∙◌}
+use Rattle.std.proofs.Common.{refl, sym, subst, ◌∙◌}
 use Rattle.std.proofs.lemmas.Result.{IfOk-weaker, on_ok_weaker}
 use Rattle.client_seat.specs.declared.next.Next.{Next}
 use Rattle.client_seat.specs.declared.next.Next.TheVariants as next
-use Rattle.core_promises.specs.Ruled.{ruling_of}
 use Rattle.core_tables.specs.Arrivals.{IsUpIn, looked, next_of}
 use Rattle.core_tables.specs.Tables.{IsSame, Tabled, tables_of}
-use Rattle.core_texts.specs.Texts.{key_at}
 use Rattle.marked_tables.proofs.Going.{goes_along}
+use Rattle.core_turns.specs.Administering.{ruling_by}
 use Rattle.core_turns.specs.Turned.{IsLookable}
 use Rattle.core_turns.proofs.Turning.{ends-there, looked-some, rests-there, taken-next, there-of, up-there}
 use Rattle.core_turns.proofs.taking.take_there.Goals as goal
@@ -23,7 +22,7 @@ returns-in-Nothing-clause-is c =
     let said : next.Nothing ≡ next_of c.args.service.now.setup c.args.service.now.default_schema (old.clients c.args.client) =
     subst (λ (d : List ℕ). next.Nothing ≡ next_of c.args.service.now.setup d (old.clients c.args.client)) c.as_slice.ensures
     (sym c.in-Nothing.is ∙ c.in_ok-look.ensures.next) in
-    rests-there c.args.service.now.setup c.args.service.now.default_schema c.args.client old between at.0 at.1 same able said
+    (rests-there c.args.service.now.setup c.args.service.now.default_schema c.args.client old between at.0 at.1 same able said, refl)
 
 pub returns-in-Ended-clause-is : goal.returns-in-Ended-clause-is
 returns-in-Ended-clause-is c =
@@ -36,7 +35,7 @@ returns-in-Ended-clause-is c =
     let said : next.Ended ≡ next_of c.args.service.now.setup c.args.service.now.default_schema (old.clients c.args.client) =
     subst (λ (d : List ℕ). next.Ended ≡ next_of c.args.service.now.setup d (old.clients c.args.client)) c.as_slice.ensures
     (sym c.in-Ended.is ∙ c.in_ok-look.ensures.next) in
-    ends-there c.args.service.now.setup c.args.service.now.default_schema c.args.client old between at.0 at.1 same able said
+    (ends-there c.args.service.now.setup c.args.service.now.default_schema c.args.client old between at.0 at.1 same able said, refl)
 
 pub returns-in-Message-clause-is : goal.returns-in-Message-clause-is
 returns-in-Message-clause-is c =
@@ -52,7 +51,7 @@ returns-in-Message-clause-is c =
     let up : IsUpIn (next.Message c.in-Message.ordinal) (between.clients c.args.client) =
     subst (λ (n : Next). IsUpIn n (between.clients c.args.client)) c.in-Message.is c.in_ok-look.ensures.up in
     IfOk-weaker c.take_up.result _ _
-    (λ turned taken. taken-next c.args.service.now.setup c.args.service.now.default_schema c.args.client old between at.0 at.1 same (ruling_of c.args.service.now c.take_up.new.texts.since (key_at c.take_up.new.texts)) c.in-Message.ordinal turned _
+    (λ turned taken. taken-next c.args.service.now.setup c.args.service.now.default_schema c.args.client old between at.0 at.1 same (ruling_by c.args.service.now c.take_up.new.texts c.args.admin.now c.take_up.new.admin) c.in-Message.ordinal turned _
     able said up taken) c.take_up.ensures.is
 
 pub returns-in-Message-clause-goes : goal.returns-in-Message-clause-goes

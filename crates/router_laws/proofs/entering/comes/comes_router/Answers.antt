@@ -5,7 +5,7 @@ use Rattle.router_laws.proofs.OfEntering.Opening.{came_opens}
 use Rattle.router_laws.proofs.entering.comes.comes_router.Goals as goal
 
 pub returns : goal.returns
-returns law = λ service texts log t now roomy port link salt c router may count so.
+returns law = λ service texts admin log t now roomy port link salt c router may count so.
     comes_routed service log t now roomy port link salt c router may count None tt
     (λ setup codes plan of fits.
     law.comes_go.ensures service.setup service.default_schema setup codes plan log router.core.decided

@@ -6,7 +6,7 @@ use Rattle.router_laws.proofs.OfEntering.Opening.{away_opens, came_opens}
 use Rattle.router_laws.proofs.entering.comes.turned_away_router.Goals as goal
 
 pub returns : goal.returns
-returns law = λ service texts log t now roomy port link salt c router may count so.
+returns law = λ service texts admin log t now roomy port link salt c router may count so.
     comes_routed service log t now roomy port link salt c router may count away away_ours
     (λ setup codes plan of fits.
     law.turned_away_go.ensures service.setup service.default_schema setup codes plan log router.core.decided

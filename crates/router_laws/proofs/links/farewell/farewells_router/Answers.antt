@@ -2,7 +2,7 @@ use Rattle.router_laws.proofs.OfLinks.Farewells.{farewell}
 use Rattle.router_laws.proofs.links.farewell.farewells_router.Goals as goal
 
 pub returns : goal.returns
-returns c = λ service texts log marks e t roomy room l lent router only rooms may says lends is follow last.
+returns c = λ service texts admin log marks e t roomy room l lent router only rooms may says lends is follow last.
     farewell (record {
       marks = c.marks_router.ensures;
       quiet = c.quiets_router.ensures;

@@ -2,7 +2,7 @@ use Rattle.router_laws.proofs.OfLinks.EndedRouted.{ended_routed}
 use Rattle.router_laws.proofs.links.losing.loses_ended_router.Goals as goal
 
 pub returns : goal.returns
-returns c = λ service texts log t now roomy l how n links router may so.
+returns c = λ service texts admin log t now roomy l how n links router may so.
     ended_routed (record {
       loses = c.lost_stands.ensures;
       leaves = c.left_stands.ensures.ends;

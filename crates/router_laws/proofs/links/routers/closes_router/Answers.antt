@@ -6,7 +6,7 @@ use Rattle.router_laws.proofs.OfLinks.Routing.{closed_has, closed_none, none_idl
 use Rattle.router_laws.proofs.links.routers.closes_router.Goals as goal
 
 pub returns : goal.returns
-returns c = λ service texts log t now roomy room l router may rooms so.
+returns c = λ service texts admin log t now roomy room l router may rooms so.
     calm_router service log (Closed l) no_deeds t now roomy room router may none_idle (λ terms codes of fits. tt)
     (λ setup codes plan k. record {
       goes = c.closes_go.ensures.goes service.setup setup codes plan log router.core.decided (decided_with no_deeds router.counts log (Closed l) router.core.decided) t now roomy room l k.decided rooms so;

@@ -10,7 +10,7 @@ use Rattle.router_laws.proofs.OfLinks.Routing.{open_one, opened_row, opening, op
 use Rattle.router_laws.proofs.links.routers.opens_router.Goals as goal
 
 pub returns : goal.returns
-returns c = λ service texts log t now roomy server address l login router may so.
+returns c = λ service texts admin log t now roomy server address l login router may so.
     let new : Decided = decided_with (opening login) router.counts log (Opened server address l) router.core.decided in
     calm_router service log (Opened server address l) (opening login) t now roomy roomy router may (opening_idle login) (λ terms codes of fits. tt)
     (λ setup codes plan k. record {

@@ -17,7 +17,7 @@ use Rattle.router_laws.proofs.links.routers.writes_router.Goals as goal
 use Rattle.router_laws.specs.links.Steps.{begins_on, step_on}
 
 pub returns : goal.returns
-returns c = λ service texts log t now roomy l offer count router may so.
+returns c = λ service texts admin log t now roomy l offer count router may so.
     let bytes : List ℕ = take count offer.bytes in
     let new : Decided = decided_with (writing (begins_on l t)) router.counts log (Wrote l offer.tag bytes) router.core.decided in
     let steps : (setup : Setup) (codes : Codes) (plan : Plan) → Rests service.setup (ground setup codes plan router.core.decided log) t roomy

@@ -3,7 +3,7 @@ use Rattle.router_laws.proofs.OfQuiet.Staying.{quiet_router}
 use Rattle.router_laws.proofs.quiet.quiet.quiets_router.Goals as goal
 
 pub returns : goal.returns
-returns c = λ service texts log e t roomy router may quiet drained.
+returns c = λ service texts admin log e t roomy router may quiet drained.
     quiet_router service
     (record {
       counting = c.counts_alone.ensures service.setup;

@@ -2,7 +2,7 @@ use Rattle.router_laws.proofs.OfReading.Onward.{goes_so}
 use Rattle.router_laws.proofs.reading.cores.hears_goes.Goals as goal
 
 pub returns : goal.returns
-returns c = λ service texts log t now roomy l bytes clock given going router follow bytes_are so ours setup codes plan of fits.
+returns c = λ service texts admin log t now roomy l bytes clock given going router follow bytes_are so ours setup codes plan of fits.
     goes_so (record {
       reads = record {
         hears = c.bytes_are_heard.ensures;

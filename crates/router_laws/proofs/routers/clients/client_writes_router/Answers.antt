@@ -13,7 +13,7 @@ use Rattle.router_laws.proofs.routers.clients.client_writes_router.Goals as goal
 use Rattle.router_laws.specs.routers.Enters.{of_link}
 
 pub returns : goal.returns
-returns c = λ service texts log t now roomy room link tag bytes count client router may so.
+returns c = λ service texts admin log t now roomy room link tag bytes count client router may so.
     router_enters service log (Wrote link tag bytes) None None t now roomy room router may refl (λ terms codes of fits. tt)
     (λ setup codes plan stood fits plans decided.
     record {

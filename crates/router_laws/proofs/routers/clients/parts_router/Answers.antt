@@ -10,7 +10,7 @@ use Rattle.router_laws.specs.routers.Enters.{of_link}
 use Rattle.router_laws.specs.routers.Somehow.{RestsSomehow}
 
 pub returns : goal.returns
-returns c = λ service texts log t now roomy link client router may so.
+returns c = λ service texts admin log t now roomy link client router may so.
     let some : RestsSomehow service.setup log t roomy = somehow service log t roomy router in
     router_enters service log (Closed link) None None t now roomy roomy router may refl (λ terms codes of fits. tt)
     (λ setup codes plan stood fits plans decided.

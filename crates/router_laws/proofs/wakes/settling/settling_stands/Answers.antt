@@ -20,6 +20,6 @@ returns c =
     record {
       stands = λ service texts g t now classes named keys is by. settles_stand laws service texts g classes named keys t now by is;
       rests = λ service texts g t now roomy classes named keys is by. settles_rest laws service texts g classes named keys t now roomy by is;
-      router = λ service texts log t now roomy router by. router_settled laws service texts log t now roomy router by;
+      router = λ service texts admin log t now roomy router by. router_settled laws service texts admin log t now roomy router by;
       core = λ service texts default log t now roomy core known by. core_settled laws service texts default log t now roomy core known by;
     }

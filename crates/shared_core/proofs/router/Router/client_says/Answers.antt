@@ -1,7 +1,7 @@
 use Rattle.std.proofs.Common.{sym}
 use Rattle.std.proofs.lemmas.Result.{on_ok_weaker}
 use Rattle.shared_core.proofs.Clients.{moves_of, none_read, on_both, speaks_carry}
-use Rattle.shared_core.proofs.Keeping.{keeps_still}
+use Rattle.shared_core.proofs.Keeping.{but_moves, keeps_still}
 use Rattle.shared_core.proofs.router.Router.client_says.Goals as goal
 
 pub returns-in-Some-clause-carries : goal.returns-in-Some-clause-carries
@@ -12,7 +12,7 @@ returns-in-Some-clause-carries c =
 
 pub returns-in-Some-clause-moves : goal.returns-in-Some-clause-moves
 returns-in-Some-clause-moves c =
-    on_ok_weaker c.speaks.result (λ keeps. moves_of c.args.self.now c.speaks.new.self keeps) c.speaks.ensures.keeps
+    on_ok_weaker c.speaks.result (λ keeps. but_moves c.args.self.now c.speaks.new.self keeps) c.speaks.ensures.keeps
 
 pub returns-in-None-clause-carries : goal.returns-in-None-clause-carries
 returns-in-None-clause-carries c = λ aside reads. absurd (none_read c.args.link c.args.self.now aside (sym c.in-None.ensures) reads)

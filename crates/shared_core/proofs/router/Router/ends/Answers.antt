@@ -12,4 +12,4 @@ returns-then-may_end-clause-ends c =
 pub returns-then-may_end-clause-keeps : goal.returns-then-may_end-clause-keeps
 returns-then-may_end-clause-keeps c =
     keeps_then _ _ _ c.changed.ensures
-    (record { goes = c.end.ensures.goes; roomy = refl; came = refl; asked = refl; client = refl; link = refl; texts = itself_more _ })
+    (record { goes = c.end.ensures.goes; roomy = refl; came = refl; asked = refl; client = refl; link = refl; texts = itself_more _; work = refl })

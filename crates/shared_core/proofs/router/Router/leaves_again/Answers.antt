@@ -12,4 +12,4 @@ returns-then-has_lives-clause-leaves c = λ link numbered.
 
 pub returns-then-has_lives-clause-keeps : goal.returns-then-has_lives-clause-keeps
 returns-then-has_lives-clause-keeps c =
-    record { goes = c.leave.ensures.goes; roomy = refl; came = refl; asked = refl; client = refl; link = refl; texts = itself_more _ }
+    record { goes = c.leave.ensures.goes; roomy = refl; came = refl; asked = refl; client = refl; link = refl; texts = itself_more _; work = refl }

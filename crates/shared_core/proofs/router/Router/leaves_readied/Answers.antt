@@ -6,4 +6,4 @@ use Rattle.shared_core.proofs.router.Router.leaves_readied.Goals as goal
 pub returns-clause-settles : goal.returns-clause-settles
 returns-clause-settles c =
     notes_so c.in-Some-readied.link None c.args.client None c.args.self.now (record c.args.self.now { marked = c.unready.new.self }) c.unready.ensures.is refl
-    refl refl
+    refl refl refl

@@ -11,4 +11,4 @@ returns-clause-is c = same_chosen _ _ (lost_in c.args.link (tables c.args.self.n
 pub returns-clause-keeps : goal.returns-clause-keeps
 returns-clause-keeps c =
     keeps_then _ _ _ c.changed_of.ensures
-    (record { goes = c.lose.ensures.goes; roomy = refl; came = refl; asked = refl; client = refl; link = refl; texts = itself_more _ })
+    (record { goes = c.lose.ensures.goes; roomy = refl; came = refl; asked = refl; client = refl; link = refl; texts = itself_more _; work = refl })

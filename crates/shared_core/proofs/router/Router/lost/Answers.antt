@@ -16,7 +16,7 @@ returns-in-Some-clause-loses c =
     on_ok_weaker c.client_lost.result (λ loses. loses (sym c.in-Some.ensures)) c.client_lost.ensures.loses
 
 pub returns-in-None-clause-loses : goal.returns-in-None-clause-loses
-returns-in-None-clause-loses c =
+returns-in-None-clause-loses c = λ loaded.
     nobodys_loses c.args.service.now c.args.link c.args.self.now
     (copied_is _ ((tables c.args.self.now).links c.args.link) _ _ c.server.ensures c.is_some.ensures c.if-is_some.false) c.in-None.ensures
 

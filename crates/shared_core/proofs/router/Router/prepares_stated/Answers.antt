@@ -14,4 +14,4 @@ returns-then-branch-clause-settles c =
     (SettlesSo c.args.self.now (record c.args.self.now { marked = c.begin_prep.new.self }))
     (λ is. settles_so (Prepares c.args.link c.args.name c.text.result.now) c.args.self.now (record c.args.self.now { marked = c.begin_prep.new.self })
     (may_prepare c.args.self.now.texts c.args.link c.args.name c.text.result.now (tables c.args.self.now) c.in-Some.kept.now c.requires c.in-Some.ensures c.text.ensures
-    (λ server there. subst (λ (place : Place). IsToldPlace place server.row.link.state.told) c.place.ensures (c.in_ok-wants_prepared.ensures c.if-branch.true server there))) is refl refl refl) c.begin_prep.ensures.is
+    (λ server there. subst (λ (place : Place). IsToldPlace place server.row.link.state.told) c.place.ensures (c.in_ok-wants_prepared.ensures c.if-branch.true server there))) is refl refl refl refl) c.begin_prep.ensures.is

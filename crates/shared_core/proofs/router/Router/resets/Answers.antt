@@ -8,4 +8,4 @@ use Rattle.shared_core.proofs.router.Router.resets.Goals as goal
 pub returns-then-may_begin-clause-settles : goal.returns-then-may_begin-clause-settles
 returns-then-may_begin-clause-settles c =
     if_ok c.begin_end.result (IsSame (tables (record c.args.self.now { marked = c.begin_end.new.self })) (settled (Ends c.args.link c.args.name) (tables c.args.self.now))) (SettlesSo c.args.self.now (record c.args.self.now { marked = c.begin_end.new.self }))
-    (λ is. settles_so (Ends c.args.link c.args.name) c.args.self.now (record c.args.self.now { marked = c.begin_end.new.self }) (c.may_begin.ensures c.if-may_begin.true) is refl refl refl) c.begin_end.ensures.is
+    (λ is. settles_so (Ends c.args.link c.args.name) c.args.self.now (record c.args.self.now { marked = c.begin_end.new.self }) (c.may_begin.ensures c.if-may_begin.true) is refl refl refl refl) c.begin_end.ensures.is

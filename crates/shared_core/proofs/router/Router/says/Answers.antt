@@ -28,4 +28,5 @@ returns-clause-keeps c =
       client = refl;
       link = refl;
       texts = itself_more _;
+      work = refl;
     }

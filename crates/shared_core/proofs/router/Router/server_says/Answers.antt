@@ -1,7 +1,7 @@
 use Rattle.std.proofs.lemmas.Result.{on_ok_weaker}
 use Rattle.shared_core.proofs.Clients.{on_both}
 use Rattle.shared_core.proofs.Hears.{read_carries}
-use Rattle.shared_core.proofs.Keeping.{keeps_moves}
+use Rattle.shared_core.proofs.Keeping.{but_moves, keeps_moves}
 use Rattle.shared_core.proofs.router.Router.server_says.Goals as goal
 
 pub returns-clause-carries : goal.returns-clause-carries
@@ -11,4 +11,4 @@ returns-clause-carries c =
     c.requires c.hears.ensures.bytes (hears there reads)) c.hears.ensures.hears c.hears.ensures.keeps
 
 pub returns-clause-moves : goal.returns-clause-moves
-returns-clause-moves c = on_ok_weaker c.hears.result (λ keeps. keeps_moves c.args.self.now c.hears.new.self keeps) c.hears.ensures.keeps
+returns-clause-moves c = on_ok_weaker c.hears.result (λ keeps. but_moves c.args.self.now c.hears.new.self keeps) c.hears.ensures.keeps

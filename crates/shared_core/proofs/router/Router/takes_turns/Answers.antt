@@ -1,4 +1,4 @@
-use Rattle.shared_core.proofs.Keeping.{keeps_then}
+use Rattle.shared_core.proofs.Keeping.{but_then, chosen_keeps, keeps_then}
 use Rattle.shared_core.proofs.Goings.{went_chosen}
 use Rattle.shared_core.proofs.router.Router.takes_turns.Goals as goal
 
@@ -8,4 +8,4 @@ returns-clause-is c =
     c.in_ok-went.ensures.is
 
 pub returns-clause-keeps : goal.returns-clause-keeps
-returns-clause-keeps c = keeps_then _ _ _ c.in_ok-took.ensures c.in_ok-went.ensures.keeps
+returns-clause-keeps c = but_then _ _ _ (chosen_keeps _ _ c.in_ok-took.ensures) c.in_ok-went.ensures.keeps

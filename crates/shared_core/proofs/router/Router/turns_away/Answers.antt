@@ -28,4 +28,5 @@ returns-clause-keeps c =
       client = next.client;
       link = next.link;
       texts = next.texts;
+      work = next.work;
     }

@@ -12,7 +12,7 @@ pub returns-in-Some-clause-carries : goal.returns-in-Some-clause-carries
 returns-in-Some-clause-carries c = λ service sent is.
     client_carried c.client_writes_router.ensures service c.args.self.now c.wrote_to.new.self c.args.link c.in-Some.client c.args.n
     (no_server c.server.result _ c.server.ensures c.if-is_some.ensures) (sym c.in-Some.ensures) c.requires c.wrote_to.ensures.is c.wrote_to.ensures.roomy
-    c.wrote_to.ensures.came c.wrote_to.ensures.texts sent is
+    c.wrote_to.ensures.came c.wrote_to.ensures.texts c.wrote_to.ensures.work sent is
 
 pub returns-in_default-clause-carries : goal.returns-in_default-clause-carries
 returns-in_default-clause-carries c = λ service sent is.
