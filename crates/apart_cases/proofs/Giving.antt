@@ -7,7 +7,7 @@ use Rattle.mx_base.specs.declared.tag.Tag.TheVariants.{Reply as ReplyTag}
 use Rattle.mx_wire.specs.Log.{Log}
 use Rattle.mx_wire.specs.declared.entry.Entry.TheVariants.{AcceptNothing, Got, NoneNamed, OpenFailed, ReadNothing, Woke, Wrote}
 use Rattle.packet_frame.specs.Packets.{spelling}
-use Rattle.private_model.specs.Names.{ClientNo}
+use Rattle.private_model.specs.Names.{MessageName}
 use Rattle.private_model.specs.Story.{is_message}
 use Rattle.log_story.specs.Owed.{name_of}
 use Rattle.log_story.specs.Plan.{OwnAnswer}
@@ -26,10 +26,10 @@ no-answer : {A : Type 0} (a : OwnAnswer) → ◌≡◌ {A = Option OwnAnswer} No
 no-answer a is = absurd (cc)
 
 -- no link could be opened for it
-cause-of : (stored : Stored) (c : ClientNo) (is_first : Bool) (answer : OwnAnswer) → ◌≡◌ {A = Option OwnAnswer} (if is_first then Some refused else None) (Some answer)
-    → HasCause proxy.wait_ms (setup_in (terms_with stored)) plan log c answer
-cause-of stored c true answer is =
-    subst (HasCause proxy.wait_ms (setup_in (terms_with stored)) plan log c) (one-answer refused answer is) (record {
+cause-of : (stored : Stored) (m : MessageName) (is_first : Bool) (answer : OwnAnswer) → ◌≡◌ {A = Option OwnAnswer} (if is_first then Some refused else None) (Some answer)
+    → HasCause proxy.wait_ms (setup_in (terms_with stored)) plan log m answer
+cause-of stored m true answer is =
+    subst (HasCause proxy.wait_ms (setup_in (terms_with stored)) plan log m) (one-answer refused answer is) (record {
       before = Woke never 0 ∷ (comes 1 ++ (AcceptNothing Traffic ∷ Got (link 1) query ∷ []));
       entry = OpenFailed server here;
       later = Wrote (link 1) ReplyTag (spelling 1 connection_refused) ∷ AcceptNothing Admin ∷ NoneNamed ∷ ReadNothing (link 1)
@@ -40,9 +40,9 @@ cause-of stored c true answer is =
       one = refl;
       why = refl;
     })
-cause-of stored c false answer is = no-answer answer is
+cause-of stored m false answer is = no-answer answer is
 
 pub gives-worked : (stored : Stored) → GivesUpSo (terms_with stored) log
 gives-worked stored = λ i dflt within k answer taken own by_now.
     let client : Client = slice_index_or (tale_at (terms_with stored) log).clients i dflt in
-    inr (cause-of stored client.number (is_message (name_of client (suc k)) (message 1 1)) answer own)
+    inr (cause-of stored (name_of client (suc k)) (is_message (name_of client (suc k)) (message 1 1)) answer own)

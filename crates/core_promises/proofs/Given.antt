@@ -2,7 +2,7 @@
 use Rattle.std.specs.Prelude.{◌≡◌, ◌⊎◌, ◌<◌, ◌≤◌, ◌+◌, ◌++◌, ℕ, zero, suc, Bool, true, false, length, slice_index_or, List, [], ◌∷◌, Option, Some, None}
 use Rattle.std.proofs.Common.{refl, sym, ap, ◌∙◌, subst, arith, inl, inr, length-append}
 use Rattle.client_session.specs.Errors.{bad_server_bytes, connection_lost, connection_refused}
-use Rattle.mx_wire.specs.Log.{Log}
+use Rattle.mx_wire.specs.Log.{Log, moment_of}
 use Rattle.mx_wire.specs.declared.entry.Entry.{Entry}
 use Rattle.mx_wire.specs.declared.entry.Entry.TheVariants as entry
 use Rattle.private_model.specs.Names.{ClientNo, LinkId, MessageName}
@@ -15,7 +15,7 @@ use Rattle.router_promises.proofs.Refusals.{at-index, never}
 use Rattle.router_promises.specs.Errors.{no_connection, replay_refused, server_shutdown}
 use Rattle.router_promises.specs.Now.{is_gone}
 use Rattle.router_promises.specs.Terms.{Terms, plan_in, setup_in, tale_at}
-use Rattle.core_promises.specs.Causes.{AreCaused, BadBytes, HasCause, HeldUp, IsCause, IsHeardCause, IsLateCause, IsLossCause, IsToldAtOnce, LinkLost, LoginBroken, LoginRefused, ShutDown, StepRefused, WaitedTooLong, is_carried, may_give_up}
+use Rattle.core_promises.specs.Causes.{AreCaused, BadBytes, HasCause, HeldUp, IsCause, IsHeardCause, IsLateCause, IsLossCause, IsToldAtOnce, LinkLost, LoginBroken, LoginRefused, ShutDown, StepRefused, WaitedTooLong, WasTakenUp, is_carried, is_taken_up, may_give_up}
 use Rattle.core_promises.specs.Wrong.{AnswersAtOnce, IsGivenUp}
 
 -- Two ways to cut a log at the same place are one.
@@ -44,22 +44,22 @@ behind plan name answer later (inl once) = let at : answer.from ≡ 0 = once.0 i
 behind plan name answer later (inr cause) = cause
 
 -- so it had its cause
-pub cause-of : (terms : Terms) (before : Log) (e : Entry) (client : Client) (payload : List ℕ) → IsGivenUp terms before e client payload
-    → IsCause terms.router.proxy.wait_ms (setup_in terms) (plan_in terms) before e client.number payload
+pub cause-of : (terms : Terms) (before : Log) (e : Entry) (client : Client) (payload : List ℕ) → (given : IsGivenUp terms before e client payload)
+    → IsCause terms.router.proxy.wait_ms (setup_in terms) (plan_in terms) before e (name_of client (suc given.count)) payload
 cause-of terms before e client payload given =
     let log : Log = before ++ e ∷ given.more in
     let here : suc (length before) ≤ length log = omega (arith, length-append before (e ∷ given.more)) in
     let answer : OwnAnswer = record { from = suc (length before); payloads = payload ∷ [] } in
-    let has : HasCause terms.router.proxy.wait_ms (setup_in terms) (plan_in terms) log client.number answer =
+    let has : HasCause terms.router.proxy.wait_ms (setup_in terms) (plan_in terms) log (name_of client (suc given.count)) answer =
     behind (plan_in terms) (name_of client (suc given.count)) answer (omega arith)
     (at-index (AreCaused terms.router.proxy.wait_ms (setup_in terms) (plan_in terms) log) (tale_at terms log).clients given.place client given.keeps.gives
     given.within given.is given.count answer given.taken given.own here) in
     let from = has.from in
     let cut = same-cut before has.before e has.entry given.more has.later (omega (arith, from)) has.there in
-    let Told : List ℕ → Type 0 = λ p. IsCause terms.router.proxy.wait_ms (setup_in terms) (plan_in terms) before e client.number p in
+    let Told : List ℕ → Type 0 = λ p. IsCause terms.router.proxy.wait_ms (setup_in terms) (plan_in terms) before e (name_of client (suc given.count)) p in
     subst Told (one-payload has.payload payload (sym has.one))
-    (subst (λ (l : Log). IsCause terms.router.proxy.wait_ms (setup_in terms) (plan_in terms) l e client.number has.payload) (sym cut.0)
-    (subst (λ (x : Entry). IsCause terms.router.proxy.wait_ms (setup_in terms) (plan_in terms) has.before x client.number has.payload) (sym cut.1) has.why))
+    (subst (λ (l : Log). IsCause terms.router.proxy.wait_ms (setup_in terms) (plan_in terms) l e (name_of client (suc given.count)) has.payload) (sym cut.0)
+    (subst (λ (x : Entry). IsCause terms.router.proxy.wait_ms (setup_in terms) (plan_in terms) has.before x (name_of client (suc given.count)) has.payload) (sym cut.1) has.why))
 
 -- What goes to a server is answered by the router at an entry alone, and for a cause.
 
@@ -75,30 +75,30 @@ not-at-once terms log client runs =
       once = runs.once
 
       by : IsToldAtOnce (plan_in terms) (name_of client (suc runs.count)) runs.answer
-          ⊎ HasCause terms.router.proxy.wait_ms (setup_in terms) (plan_in terms) log client.number runs.answer → ⊥
+          ⊎ HasCause terms.router.proxy.wait_ms (setup_in terms) (plan_in terms) log (name_of client (suc runs.count)) runs.answer → ⊥
       by (inl told) = route-found runs.route ((plan_in terms).routes (name_of client (suc runs.count))) runs.goes told.1
       by (inr has) = let from = has.from in absurd (omega (arith, once, from))
 
-pub at-no-other : (wait_ms : ℕ) (setup : Setup) (plan : Plan) (log : Log) (e : Entry) (c : ClientNo) (payload : List ℕ)
-    → IsCause wait_ms setup plan log e c payload → may_give_up e ≡ false → ⊥
-at-no-other wait_ms setup plan log (entry.Woke until_ms now_ms) c payload cause none = never none
-at-no-other wait_ms setup plan log (entry.Got link bytes) c payload cause none = never none
-at-no-other wait_ms setup plan log (entry.Ended link) c payload cause none = never none
-at-no-other wait_ms setup plan log (entry.ReadFailed link) c payload cause none = never none
-at-no-other wait_ms setup plan log (entry.WriteFailed link) c payload cause none = never none
-at-no-other wait_ms setup plan log (entry.OpenFailed server address) c payload cause none = never none
-at-no-other wait_ms setup plan log e c payload cause none = cause
+pub at-no-other : (wait_ms : ℕ) (setup : Setup) (plan : Plan) (log : Log) (e : Entry) (m : MessageName) (payload : List ℕ)
+    → IsCause wait_ms setup plan log e m payload → may_give_up e ≡ false → ⊥
+at-no-other wait_ms setup plan log (entry.Woke until_ms now_ms) m payload cause none = never none
+at-no-other wait_ms setup plan log (entry.Got link bytes) m payload cause none = never none
+at-no-other wait_ms setup plan log (entry.Ended link) m payload cause none = never none
+at-no-other wait_ms setup plan log (entry.ReadFailed link) m payload cause none = never none
+at-no-other wait_ms setup plan log (entry.WriteFailed link) m payload cause none = never none
+at-no-other wait_ms setup plan log (entry.OpenFailed server address) m payload cause none = never none
+at-no-other wait_ms setup plan log e m payload cause none = cause
 
 -- The code of an error tells its cause; its lower byte is enough.
 
 abbrev code : List ℕ → ℕ
 code payload = slice_index_or payload 1 0
 
-late-lost : (wait_ms now_ms : ℕ) (came : Bool) (payload : List ℕ) → IsLateCause wait_ms now_ms came payload → code payload ≡ 141 → ⊥
+late-lost : (wait_ms now_ms : ℕ) (came : Bool) (By : ℕ → Type 0) (payload : List ℕ) → IsLateCause wait_ms now_ms came By payload → code payload ≡ 141 → ⊥
 unfolding bad_server_bytes no_connection server_shutdown
-late-lost wait_ms now_ms came _ (WaitedTooLong since late) at = omega (arith, at)
-late-lost wait_ms now_ms came _ (ShutDown shut) at = omega (arith, at)
-late-lost wait_ms now_ms came _ HeldUp at = omega (arith, at)
+late-lost wait_ms now_ms came By _ (WaitedTooLong since by late) at = omega (arith, at)
+late-lost wait_ms now_ms came By _ (ShutDown shut) at = omega (arith, at)
+late-lost wait_ms now_ms came By _ HeldUp at = omega (arith, at)
 
 heard-lost : (carried : Bool) (payload : List ℕ) → IsHeardCause carried payload → code payload ≡ 141 → ⊥
 unfolding bad_server_bytes connection_refused replay_refused
@@ -114,19 +114,19 @@ is-lost : code connection_lost ≡ 141
 unfolding connection_lost
 is-lost = refl
 
-by-a-loss : (wait_ms : ℕ) (setup : Setup) (plan : Plan) (log : Log) (e : Entry) (c : ClientNo) (payload : List ℕ)
-    → IsCause wait_ms setup plan log e c payload → code payload ≡ 141 → is_gone e ≡ false → ⊥
-by-a-loss wait_ms setup plan log (entry.Woke until_ms now_ms) c payload cause at gone = late-lost wait_ms now_ms _ payload cause at
-by-a-loss wait_ms setup plan log (entry.Got link bytes) c payload cause at gone = heard-lost _ payload cause at
-by-a-loss wait_ms setup plan log (entry.Ended link) c payload cause at gone = never gone
-by-a-loss wait_ms setup plan log (entry.ReadFailed link) c payload cause at gone = never gone
-by-a-loss wait_ms setup plan log (entry.WriteFailed link) c payload cause at gone = never gone
-by-a-loss wait_ms setup plan log (entry.OpenFailed server address) c payload cause at gone = refused-lost payload cause at
-by-a-loss wait_ms setup plan log e c payload cause at gone = cause
+by-a-loss : (wait_ms : ℕ) (setup : Setup) (plan : Plan) (log : Log) (e : Entry) (m : MessageName) (payload : List ℕ)
+    → IsCause wait_ms setup plan log e m payload → code payload ≡ 141 → is_gone e ≡ false → ⊥
+by-a-loss wait_ms setup plan log (entry.Woke until_ms now_ms) m payload cause at gone = late-lost wait_ms now_ms _ _ payload cause at
+by-a-loss wait_ms setup plan log (entry.Got link bytes) m payload cause at gone = heard-lost _ payload cause at
+by-a-loss wait_ms setup plan log (entry.Ended link) m payload cause at gone = never gone
+by-a-loss wait_ms setup plan log (entry.ReadFailed link) m payload cause at gone = never gone
+by-a-loss wait_ms setup plan log (entry.WriteFailed link) m payload cause at gone = never gone
+by-a-loss wait_ms setup plan log (entry.OpenFailed server address) m payload cause at gone = refused-lost payload cause at
+by-a-loss wait_ms setup plan log e m payload cause at gone = cause
 
-pub no-loss : (wait_ms : ℕ) (setup : Setup) (plan : Plan) (log : Log) (e : Entry) (c : ClientNo) → IsCause wait_ms setup plan log e c connection_lost
+pub no-loss : (wait_ms : ℕ) (setup : Setup) (plan : Plan) (log : Log) (e : Entry) (m : MessageName) → IsCause wait_ms setup plan log e m connection_lost
     → is_gone e ≡ false → ⊥
-no-loss wait_ms setup plan log e c cause = by-a-loss wait_ms setup plan log e c connection_lost cause is-lost
+no-loss wait_ms setup plan log e m cause = by-a-loss wait_ms setup plan log e m connection_lost cause is-lost
 
 carries : (carried : Bool) (payload : List ℕ) → IsLossCause carried payload → code payload ≡ 141 → carried ≡ true
 unfolding connection_refused
@@ -136,15 +136,31 @@ carries carried _ LoginBroken at = absurd (omega (arith, at))
 pub its-link : (carried : Bool) → IsLossCause carried connection_lost → carried ≡ true
 its-link carried cause = carries carried connection_lost cause is-lost
 
-long-enough : (wait_ms now_ms : ℕ) (came : Bool) (payload : List ℕ) → IsLateCause wait_ms now_ms came payload → code payload ≡ 142 → wait_ms ≤ now_ms
+-- who waited too long had been taken up by a moment, and waited since
+pub record HasWaited (wait_ms now_ms : ℕ) (By : ℕ → Type 0) : Type 0 where
+  pub since : ℕ
+  pub taken : By since
+  pub long : since + wait_ms ≤ now_ms
+
+long-enough : (wait_ms now_ms : ℕ) (came : Bool) (By : ℕ → Type 0) (payload : List ℕ) → IsLateCause wait_ms now_ms came By payload → code payload ≡ 142
+    → HasWaited wait_ms now_ms By
 unfolding bad_server_bytes server_shutdown
-long-enough wait_ms now_ms came _ (WaitedTooLong since late) at = omega (arith, late)
-long-enough wait_ms now_ms came _ (ShutDown shut) at = absurd (omega (arith, at))
-long-enough wait_ms now_ms came _ HeldUp at = absurd (omega (arith, at))
+long-enough wait_ms now_ms came By _ (WaitedTooLong since taken late) at = record { since = since; taken = taken; long = late }
+long-enough wait_ms now_ms came By _ (ShutDown shut) at = absurd (omega (arith, at))
+long-enough wait_ms now_ms came By _ HeldUp at = absurd (omega (arith, at))
 
 is-late : (since now_ms : ℕ) → code (no_connection since now_ms) ≡ 142
 unfolding no_connection
 is-late since now_ms = refl
 
-pub waited : (wait_ms now_ms since : ℕ) (came : Bool) → IsLateCause wait_ms now_ms came (no_connection since now_ms) → wait_ms ≤ now_ms
-waited wait_ms now_ms since came cause = long-enough wait_ms now_ms came (no_connection since now_ms) cause (is-late since now_ms)
+pub waited : (wait_ms now_ms since : ℕ) (came : Bool) (By : ℕ → Type 0) → IsLateCause wait_ms now_ms came By (no_connection since now_ms)
+    → HasWaited wait_ms now_ms By
+waited wait_ms now_ms since came By cause = long-enough wait_ms now_ms came By (no_connection since now_ms) cause (is-late since now_ms)
+
+-- so where it wasn't taken up at any moment that is so far behind, none is given up so
+pub too-soon : (wait_ms now_ms : ℕ) (setup : Setup) (plan : Plan) (log : Log) (m : MessageName) → HasWaited wait_ms now_ms (WasTakenUp setup plan log m)
+    → ((past later : Log) → log ≡ past ++ later → moment_of past + wait_ms ≤ now_ms → is_taken_up m (tale_of setup plan past) ≡ false) → ⊥
+too-soon wait_ms now_ms setup plan log m has untaken =
+    let moment : moment_of has.taken.before ≡ has.since = has.taken.moment in
+    let long : has.since + wait_ms ≤ now_ms = has.long in
+    never (sym has.taken.taken ∙ untaken has.taken.before has.taken.later has.taken.there (omega (arith, moment, long)))

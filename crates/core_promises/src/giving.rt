@@ -1,11 +1,12 @@
 // Routers that answer in place of a server for no cause: none that keeps its clients apart does so.
-ghost use Rattle.std.specs.Prelude.{◌≡◌, ◌<◌, ℕ, List, false};
+ghost use Rattle.std.specs.Prelude.{◌≡◌, ◌≤◌, ◌+◌, ◌++◌, ℕ, suc, List, false};
 ghost use Rattle.client_session.specs.Errors.{connection_lost};
-ghost use Rattle.core_promises.specs.Causes.{is_carried, may_give_up};
+ghost use Rattle.core_promises.specs.Causes.{is_carried, is_taken_up, may_give_up};
 ghost use Rattle.core_promises.specs.Wrong.{AnswersAtOnce, IsGivenUp};
 ghost use Rattle.log_story.specs.Headline.{tale_of};
+ghost use Rattle.log_story.specs.Owed.{name_of};
 ghost use Rattle.log_story.specs.Tale.{Client};
-ghost use Rattle.mx_wire.specs.Log.{Log};
+ghost use Rattle.mx_wire.specs.Log.{Log, moment_of};
 ghost use Rattle.mx_wire.specs.declared.entry.Entry.{Entry};
 ghost use Rattle.mx_wire.specs.declared.entry.Entry.TheVariants.{Ended, Woke};
 ghost use Rattle.private_model.specs.Names.{LinkId};
@@ -33,11 +34,13 @@ pub fn gives_up_for_anothers_link()
         → is_carried (setup_in terms) (tale_of (setup_in terms) (plan_in terms) before) link client.number ≡ false → ⊥ }
 {}
 
-/// It is told that no link was lent to it before anybody can have waited as long as is configured.
+/// It is told that no link was lent to it since a moment, whichever that is, where its statement wasn't taken up yet at any moment that is as long ago as
+/// statements wait.
 pub fn gives_up_too_soon()
     ensures { (terms : Terms) (before : Log) (until_ms now_ms since : ℕ) (client : Client)
-        → IsGivenUp terms before (Woke until_ms now_ms) client (no_connection since now_ms)
-        → now_ms < terms.router.proxy.wait_ms → ⊥ }
+        → (given : IsGivenUp terms before (Woke until_ms now_ms) client (no_connection since now_ms))
+        → ((past later : Log) → before ≡ past ++ later → moment_of past + terms.router.proxy.wait_ms ≤ now_ms
+        → is_taken_up (name_of client (suc given.count)) (tale_of (setup_in terms) (plan_in terms) past) ≡ false) → ⊥ }
 {}
 
 /// It answers what goes to a server as it takes it up, before any server can have answered.

@@ -1,13 +1,15 @@
 // The texts that clients prepared.
-ghost use Rattle.std.specs.Prelude.{◌≡◌, ◌+◌, ◌<◌, ◌≤◌, ◌^◌, ℕ, All, false, true, nat_eq, nat_le, IfOk, IfSome, None, OnOk, Some};
+ghost use Rattle.std.specs.Prelude.{◌≡◌, ◌+◌, ◌<◌, ◌≤◌, ◌^◌, ℕ, All, false, true, nat_eq, nat_le, if◌then◌else◌, IfOk, IfSome, None, OnOk, Some};
 ghost use Rattle.std.specs.HashMap.{get, hash_map_len};
 ghost use Rattle.std.specs.HashSet.{contains};
 ghost use Rattle.std.specs.Option.{option_copied};
+ghost use Rattle.mx_base.specs.declared.names.ClientNo.{ClientNo};
 ghost use Rattle.pin_classifier.specs.Classes.{class_of};
 ghost use Rattle.private_model.specs.Story.{Key};
 
 use crate::kept::Kept;
-use mx_base::{Bytes, OutOfMemory};
+use crate::noted::Noted;
+use mx_base::{Bytes, ClientNo, OutOfMemory};
 use pin_classifier::Class;
 use place_keys::{place_key, places_apart};
 use session_state::Place;
@@ -18,14 +20,19 @@ use std::collections::{HashMap, HashSet};
 /// So many texts stay, whether anybody needs them or not.
 const AT_LEAST: usize = 10_000;
 
+/// Once something is noted of so many clients it is dropped of those that are no more.
+const MOST_NOTED: usize = 32_768;
+
 /// Texts by their numbers, of which none is greater than the last, and their numbers by what they are. Those up to `since` were given before
-/// what goes on now began. Once there are so many (`most`), those are to be forgotten that nobody needs.
+/// what goes on now began. Once there are so many (`most`), those are to be forgotten that nobody needs. By when what clients have in work had been
+/// taken up is noted.
 #[derive(Drop)]
 pub struct Texts {
     alloc: Global,
     pub last: u64,
     pub since: u64,
     pub kept: HashMap<u64, Kept>,
+    pub noted: HashMap<u64, Noted>,
     numbers: HashMap<Bytes, u64>,
     most: usize,
     pub ghost begun: { since ≤ last },
@@ -75,18 +82,20 @@ impl Kept {
 }
 
 impl Texts {
-    ghost use Rattle.core_texts.specs.Texts.{AreLess, AreMore, HasBegun, key_at};
+    ghost use Rattle.core_texts.specs.Texts.{AreLess, AreMore, HasBegun, key_at, noted_at};
 
     /// None yet. Takes no memory.
     pub fn new(alloc: Global) -> Self
         ensures last { result.last ≡ 0 }
         ensures none { (number : ℕ) → key_at result number ≡ None }
+        ensures unnoted { (c : ClientNo) → noted_at result c ≡ None }
     {
         Texts {
             alloc,
             last: 0,
             since: 0,
             kept: HashMap::new(alloc),
+            noted: HashMap::new(alloc),
             numbers: HashMap::new(alloc),
             most: AT_LEAST,
         }
@@ -97,8 +106,67 @@ impl Texts {
         ensures begun { HasBegun self.new }
         ensures last { self.new.last ≡ self.old.last }
         ensures same { (number : ℕ) → key_at self.new number ≡ key_at self.old number }
+        ensures noted { (c : ClientNo) → noted_at self.new c ≡ noted_at self.old c }
     {
         self.since = self.last;
+    }
+
+    /// By when a client's message had been taken up is noted, in place of what was noted of it.
+    pub fn note(&mut self, client: ClientNo, one: Noted) -> Result<(), OutOfMemory>
+        ensures last { OnOk result (self.new.last ≡ self.old.last) }
+        ensures since { OnOk result (self.new.since ≡ self.old.since) }
+        ensures same { OnOk result ((number : ℕ) → key_at self.new number ≡ key_at self.old number) }
+        ensures noted { OnOk result ((c : ClientNo) → noted_at self.new c ≡ (if nat_eq client.0 c.0 then Some one else noted_at self.old c)) }
+    {
+        self.noted.insert(client.0, one)?;
+        Ok(())
+    }
+
+    /// What is noted of a client.
+    pub fn noted_of(&self, client: ClientNo) -> Option<Noted>
+        ensures { result ≡ noted_at self.now client }
+    {
+        self.noted.get(&client.0).copied()
+    }
+
+    /// Whether what is noted is to be dropped of clients that are no more. Takes no memory.
+    pub fn is_littered(&self) -> bool
+        ensures { result ≡ nat_le 32768 (hash_map_len self.now.noted) }
+    {
+        self.noted.len() >= MOST_NOTED
+    }
+
+    // Those of whom something is noted, but these.
+    fn noted_but(&self, there: &HashSet<u64>) -> Result<Vec<u64>, OutOfMemory> {
+        let mut clients = Vec::new(self.alloc);
+        for client in self.noted.keys() {
+            if !there.contains(client) {
+                clients.push(*client)?;
+            }
+        }
+        Ok(clients)
+    }
+
+    // Nothing is noted of it any more.
+    #[tactic(auto, using(crate::proofs::Keeping::dropped_less))]
+    fn drop_noted(&mut self, client: u64)
+        ensures less { AreLess self.old self.new }
+        ensures same { (number : ℕ) → key_at self.new number ≡ key_at self.old number }
+    {
+        let _ = self.noted.remove(&client);
+    }
+
+    /// What is noted is dropped, but of these clients.
+    #[tactic(auto, using(crate::proofs::Keeping::itself_less, crate::proofs::Keeping::less_on))]
+    pub fn keep_noted(&mut self, there: &HashSet<u64>) -> Result<(), OutOfMemory>
+        ensures less { OnOk result (AreLess self.old self.new) }
+        ensures same { OnOk result ((number : ℕ) → key_at self.new number ≡ key_at self.old number) }
+    {
+        let gone = self.noted_but(there)?;
+        for client in gone.iter() {
+            self.drop_noted(*client);
+        }
+        Ok(())
     }
 
     /// What stands under a number.
@@ -151,6 +219,7 @@ impl Texts {
         ensures number { IfOk result (λ number. number ≡ self.old.last + 1) }
         ensures last { IfOk result (λ number. self.new.last ≡ number) }
         ensures since { OnOk result (self.new.since ≡ self.old.since) }
+        ensures noted { OnOk result ((c : ClientNo) → noted_at self.new c ≡ noted_at self.old c) }
         ensures others { IfOk result (λ number. (other : ℕ) → nat_eq number other ≡ false → key_at self.new other ≡ key_at self.old other) }
     {
         let number = self.last + 1;

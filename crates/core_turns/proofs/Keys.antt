@@ -36,12 +36,13 @@ keys_of old new more = record { each = more.kept; back = λ number key early at.
       let above : old.last < number = fresh.0 in absurd (omega (arith, early, since, within, above))
 
 pub same_texts : (t : Texts) → AreMore t t
-same_texts t = same_more t t refl refl (λ n. refl)
+same_texts t = same_more t t refl refl (λ c. refl) (λ n. refl)
 
 pub more_along : (a b c : Texts) → AreMore a b → AreMore b c → AreMore a c
 more_along a b c one more = record {
   last = omega (arith, one.last, more.last);
   since = more.since ∙ one.since;
+  noted = λ d. more.noted d ∙ one.noted d;
   kept = λ n key at. more.kept n key (one.kept n key at);
   fresh = λ n key at. by n key (more.fresh n key at);
 }

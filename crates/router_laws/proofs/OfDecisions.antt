@@ -19,6 +19,7 @@ pub mod Held
 pub mod Causing
 pub mod AsTold
 pub mod KeptOn
+pub mod Noting
 pub mod Router
 pub mod Learning
 pub mod Staying

@@ -5,6 +5,7 @@ pub mod Links
 pub mod Counting
 pub mod Speaks
 pub mod Judges
+pub mod Noted
 pub mod Causes
 pub mod Force
 pub mod Administering

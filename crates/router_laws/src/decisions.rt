@@ -14,5 +14,5 @@ pub use plans::{
 pub use records::{decisions_are_more, decisions_are_recorded, first_recorded, speech_goes_on};
 pub use routers::{
     first_router, routers_are_roomier, routers_change, routers_go_on, routers_learn, routers_load,
-    routers_stood, routers_went,
+    routers_note, routers_stood, routers_went,
 };

@@ -33,6 +33,7 @@ use Rattle.core_promises.specs.Causes.{IsLateCause}
 use Rattle.core_promises.specs.InForce.{has_administrator}
 use Rattle.core_promises.specs.Ruled.{ruling_of}
 use Rattle.router_laws.specs.decisions.Causes.{AreLate, AreRefused}
+use Rattle.router_laws.specs.decisions.Noted.{Notes, WasNoted}
 use Rattle.router_laws.specs.decisions.Rulings.{AreRuledAll}
 use Rattle.router_laws.specs.decisions.Speaks.{IsGivenOurs}
 use Rattle.router_laws.specs.waits.Drained.{IsDrainedFor}
@@ -41,11 +42,11 @@ use Rattle.router_laws.specs.wakes.Waking.{FailsSo, WakesSo}
 use Rattle.router_laws.proofs.OfWakes.Settled.{same_itself}
 use Rattle.router_laws.proofs.OfDecisions.Learning.{learned}
 use Rattle.core_texts.specs.declared.texts.Texts.{Texts}
-use Rattle.core_texts.specs.Texts.{AreMore, HasBegun, key_at}
+use Rattle.core_texts.specs.Texts.{AreMore, HasBegun, key_at, noted_at}
 use Rattle.core_promises.specs.Administers.{Administered}
-use Rattle.shared_core.proofs.Causing.{late_by, late_more, refused_by}
-use Rattle.shared_core.proofs.Coming.{come_as, come_on}
-use Rattle.shared_core.specs.Causes.{given_with, is_late, is_refused}
+use Rattle.shared_core.proofs.Causing.{late_before, late_more, late_noted, refused_by}
+use Rattle.shared_core.proofs.Coming.{come_as, come_awake}
+use Rattle.shared_core.specs.Causes.{given_with, is_refused}
 use Rattle.shared_core.specs.Follows.{AreRising, HasAnswered, HaveFollowed, Made, is_of, made_by}
 use Rattle.shared_core.specs.Stands.{Carries, CarriesWhere, IsSettled, is_roomy, tables, work_of, worked}
 use Rattle.shared_core.specs.Wakes.{AreCalled, HasFailed, HasWoken, HaveGivenUp, IsWaiting}
@@ -89,8 +90,8 @@ given_either (x ∷ xs) ys c is left right =
     or_by (is_client c x.client) (is_given (xs ++ ys) c) is (λ e. left (or_first (is_client c x.client) (is_given xs c) e))
     (λ e. given_either xs ys c e (λ its. left (or_true (is_client c x.client) (is_given xs c) its)) right)
 
-pub none_given : (wait_ms now_ms : ℕ) (came : Bool) (roomy : Roomy) (t : Tabled) → HaveGivenUp wait_ms now_ms came roomy roomy t t
-none_given wait_ms now_ms came roomy t = record {
+pub none_given : (wait_ms now_ms : ℕ) (came : Bool) (notes : Notes) (roomy : Roomy) (t : Tabled) → HaveGivenUp wait_ms now_ms came notes roomy roomy t t
+none_given wait_ms now_ms came notes roomy t = record {
   given = [];
   ours = All-nil _;
   late = All-nil _;
@@ -113,13 +114,14 @@ its_alone c d is = by (is_client d c) refl is where
   by true its some = client_of d c its
   by false its some = absurd (true≢false (sym some))
 
-pub one_given : (wait_ms now_ms : ℕ) (came : Bool) (before called : Roomy) (up : GiveUp) (old new : Tabled) → is_late wait_ms now_ms came up.why ≡ true
+pub one_given : (wait_ms now_ms : ℕ) (came : Bool) (notes : Notes) (before called : Roomy) (up : GiveUp) (old new : Tabled)
+    → IsLateCause wait_ms now_ms came (WasNoted notes old up.client) (payload_of up.why)
     → IsWaiting up.client old → HasAnswered up.client up.why old new → is_roomy called up.client ≡ true
-    → ((d : ClientNo) → is_roomy before d ≡ true → is_roomy called d ≡ true) → HaveGivenUp wait_ms now_ms came before called old new
-one_given wait_ms now_ms came before called up old new late waiting answered its kept = record {
+    → ((d : ClientNo) → is_roomy before d ≡ true → is_roomy called d ≡ true) → HaveGivenUp wait_ms now_ms came notes before called old new
+one_given wait_ms now_ms came notes before called up old new late waiting answered its kept = record {
   given = given_with up ∷ [];
   ours = all_one up answered;
-  late = alone_so (λ (one : GivenUp). IsLateCause wait_ms now_ms came one.payload) (given_with up) (late_by wait_ms now_ms came up.why late);
+  late = alone_so (λ (one : GivenUp). IsLateCause wait_ms now_ms came (WasNoted notes old one.client) one.payload) (given_with up) late;
   gives = (new, record { late = waiting.unsent; same = answered.same }, same_itself new);
   calls = λ d is. ap (is_roomy called) (its_alone up.client d is) ∙ its;
   going = λ d is.
@@ -128,12 +130,14 @@ one_given wait_ms now_ms came before called up old new late waiting answered its
   kept = kept;
 }
 
-pub given_along : (wait_ms now_ms : ℕ) (came : Bool) (a b c : Roomy) (s t u : Tabled) → HaveGivenUp wait_ms now_ms came a b s t
-    → HaveGivenUp wait_ms now_ms came b c t u → HaveGivenUp wait_ms now_ms came a c s u
-given_along wait_ms now_ms came a b c s t u first next = record {
+pub given_along : (wait_ms now_ms : ℕ) (came : Bool) (notes other : Notes) (a b c : Roomy) (s t u : Tabled) → ((d : ClientNo) → other d ≡ notes d)
+    → HaveGivenUp wait_ms now_ms came notes a b s t → HaveGivenUp wait_ms now_ms came other b c t u → HaveGivenUp wait_ms now_ms came notes a c s u
+given_along wait_ms now_ms came notes other a b c s t u same first next = record {
   given = first.given ++ next.given;
   ours = All-append IsGivenOurs first.given next.given first.ours next.ours;
-  late = All-append (λ (up : GivenUp). IsLateCause wait_ms now_ms came up.payload) first.given next.given first.late next.late;
+  late = All-append (λ (up : GivenUp). IsLateCause wait_ms now_ms came (WasNoted notes s up.client) up.payload) first.given next.given first.late
+      (late_before wait_ms now_ms came notes first.given s t first.gives next.given
+      (late_noted wait_ms now_ms came other notes t (λ d. sym (same d)) next.given next.late));
   gives = gives_along first.given next.given s t u first.gives next.gives;
   calls = λ d is. given_either first.given next.given d is (λ e. next.kept d (first.calls d e)) (λ e. next.calls d e);
   going = λ d is. given_either first.given next.given d is (λ e. all_going next.given t u next.gives d ∙ first.going d e) (λ e. next.going d e);
@@ -150,10 +154,10 @@ going_there : (t : Tabled) (c : ClientNo) (row : Client) → t.clients c ≡ Som
 going_there t c row there going = ap is_going there ∙ ap not going
 
 -- more were called before
-pub given_since : (wait_ms now_ms : ℕ) (came : Bool) (first roomy called : Roomy) (old new : Tabled)
-    → ((c : ClientNo) → is_roomy first c ≡ true → is_roomy roomy c ≡ true) → HaveGivenUp wait_ms now_ms came roomy called old new
-    → HaveGivenUp wait_ms now_ms came first called old new
-given_since wait_ms now_ms came first roomy called old new more given = record {
+pub given_since : (wait_ms now_ms : ℕ) (came : Bool) (notes : Notes) (first roomy called : Roomy) (old new : Tabled)
+    → ((c : ClientNo) → is_roomy first c ≡ true → is_roomy roomy c ≡ true) → HaveGivenUp wait_ms now_ms came notes roomy called old new
+    → HaveGivenUp wait_ms now_ms came notes first called old new
+given_since wait_ms now_ms came notes first roomy called old new more given = record {
   given = given.given;
   ours = given.ours;
   late = given.late;
@@ -163,15 +167,15 @@ given_since wait_ms now_ms came first roomy called old new more given = record {
   kept = λ c has. given.kept c (more c has);
 }
 
-pub have_woken : (service : Service) (made : Made) (now_ms : ℕ) (came : Bool) (roomy called : Roomy) (clients : List ClientNo) (old mid new : Tabled)
-    → HaveGivenUp service.wait_ms now_ms came roomy called old mid → AreCalled called clients mid → HaveFollowed service made clients mid new
-    → HasWoken service made now_ms came roomy old new
-have_woken service made now_ms came roomy called clients old mid new given are followed = record {
+pub have_woken : (service : Service) (before : Texts) (made : Made) (now_ms : ℕ) (came : Bool) (roomy called : Roomy) (clients : List ClientNo)
+    (old mid new : Tabled) → AreMore before made.texts → HaveGivenUp service.wait_ms now_ms came (noted_at before) roomy called old mid
+    → AreCalled called clients mid → HaveFollowed service made clients mid new → HasWoken service made now_ms came roomy old new
+have_woken service before made now_ms came roomy called clients old mid new more given are followed = record {
   given = given.given;
   callers = followed.callers;
   links = followed.links;
   given_ours = given.ours;
-  late = given.late;
+  late = late_noted service.wait_ms now_ms came (noted_at before) (noted_at made.texts) old more.noted given.given given.late;
   ours = followed.ours;
   so = record {
     late = mid;
@@ -258,7 +262,7 @@ pub fails_carries : Fails → (service : Service) (server : ServerId) (old new :
     → new.roomy ≡ old.roomy → new.came ≡ old.came → AreMore old.texts new.texts → HasBegun old.texts → (address : Address) → IsSettled old
     → Carries service (OpenFailed server address) old new
 fails_carries law service server old new failed roomy came more begun address loaded =
-    carries_since service old new roomy came more begun (OpenFailed server address) refl (λ log may is.
+    carries_since service old new roomy came more begun (OpenFailed server address) (refl, λ moment. refl) (λ log may is.
     law service new.texts (worked service (work_of old)) (worked service (work_of new)) log (tables old) (tables new) (is_roomy old.roomy) failed.given failed.callers failed.links server address
     is.router may failed.so failed.given_ours failed.refused failed.ours failed.ruled is.since (settled_rules service old loaded))
 
@@ -266,7 +270,7 @@ abbrev pub Wakes : Type 0
 Wakes = (service : Service) (texts : Texts) (admin is : Administered) (log : Log) (t now : Tabled) (roomy room : ClientNo → Bool) (given : List GivenUp)
     (callers : List Caller) (links : List LinkId) (until_ms now_ms : ℕ) → (router : IsRouter service texts admin log t roomy) → MayFollow log (Woke until_ms now_ms)
     → IsDrainedFor t log → (wakes : WakesSo service.setup service.default_schema given callers links roomy t now) → All IsGivenOurs given
-    → AreLate service.wait_ms now_ms (has_administrator log) given
+    → AreLate service.wait_ms now_ms (has_administrator log) (noted_at texts) t given
     → All (IsCallerOurs (rules_in service) texts) callers
     → AreRuledAll (ruling_of service texts.since (key_at texts) admin is) callers service.setup service.default_schema wakes.late wakes.calls.turned wakes.calls.going
     → AreHeldSince texts service.default_schema router.core.decided log
@@ -274,14 +278,15 @@ Wakes = (service : Service) (texts : Texts) (admin is : Administered) (log : Log
 
 pub wakes_carries : Wakes → (service : Service) (now_ms : ℕ) (old new : Router)
     → HasWoken service (made_by service old new) now_ms old.came.administrator old.roomy (tables old) (tables new)
-    → new.came ≡ old.came → AreMore old.texts new.texts → HasBegun old.texts → (until_ms : ℕ) → IsSettled old
+    → new.came ≡ record old.came { clock = now_ms } → AreMore old.texts new.texts → HasBegun old.texts → (until_ms : ℕ) → IsSettled old
     → CarriesWhere (IsDrainedFor (tables old)) service (Woke until_ms now_ms) old new
 wakes_carries law service now_ms old new woken came more begun until_ms loaded log drained may stands = record {
   router = law service new.texts (worked service (work_of old)) (worked service (work_of new)) log (tables old) (tables new) (is_roomy old.roomy) (is_roomy new.roomy) woken.given woken.callers
       woken.links until_ms now_ms learnt.router may drained woken.so woken.given_ours
-      (late_more service.wait_ms now_ms old.came.administrator (has_administrator log) stands.counted.administrator woken.given woken.late) woken.ours woken.ruled
-      learnt.since (settled_rules service old loaded);
-  counted = come_as (with_entry log (Woke until_ms now_ms)) old.came new.came came (come_on log (Woke until_ms now_ms ∷ []) old.came refl stands.counted);
+      (late_more service.wait_ms now_ms old.came.administrator (has_administrator log) (noted_at new.texts) (tables old) stands.counted.administrator
+      woken.given woken.late) woken.ours woken.ruled learnt.since (settled_rules service old loaded);
+  counted = come_as (with_entry log (Woke until_ms now_ms)) (record old.came { clock = now_ms }) new.came came
+      (come_awake log old.came until_ms now_ms stands.counted);
 }
   where
     learnt : IsLearned service new.texts (worked service (work_of old)) log (tables old) (is_roomy old.roomy)

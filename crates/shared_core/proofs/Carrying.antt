@@ -15,7 +15,7 @@ use Rattle.router_laws.proofs.OfDecisions.Learning.{learned, learns}
 use Rattle.core_texts.specs.declared.texts.Texts.{Texts}
 use Rattle.core_texts.specs.Texts.{AreMore, HasBegun}
 use Rattle.core_texts.proofs.Keeping.{itself_more}
-use Rattle.shared_core.proofs.Coming.{come_as, come_on}
+use Rattle.shared_core.proofs.Coming.{BringsNone, come_as, come_on}
 use Rattle.shared_core.specs.Stands.{Carries, Shown, StandsBy, StandsFor, Work, is_roomy, shown, tables, tables_in, work_of, worked}
 use Rattle.shared_core.specs.declared.roomy.Roomy.{Roomy}
 use Rattle.shared_core.specs.declared.router.Router.{Router}
@@ -35,7 +35,7 @@ worked_same service texts log t roomy old new work = subst (λ (w : Work). IsRou
 
 module _ (service : Service) (old new : Router) (roomy : new.roomy ≡ old.roomy) (came : new.came ≡ old.came)
     (more : AreMore old.texts new.texts) where
-  pub carries_by : (e : Entry) → accepted_links (e ∷ []) ≡ []
+  pub carries_by : (e : Entry) → BringsNone (e ∷ [])
       → ((log : Log) → MayFollow log e → IsRouter service new.texts (worked service (work_of old)) log (tables old) (is_roomy old.roomy)
       → IsRouter service new.texts (worked service (work_of new)) (with_entry log e) (tables new) (is_roomy old.roomy))
       → Carries service e old new
@@ -46,7 +46,7 @@ module _ (service : Service) (old new : Router) (roomy : new.roomy ≡ old.roomy
   }
 
   -- and where it began with all texts that it had
-  pub carries_since : HasBegun old.texts → (e : Entry) → accepted_links (e ∷ []) ≡ []
+  pub carries_since : HasBegun old.texts → (e : Entry) → BringsNone (e ∷ [])
       → ((log : Log) → MayFollow log e → IsLearned service new.texts (worked service (work_of old)) log (tables old) (is_roomy old.roomy)
       → IsRouter service new.texts (worked service (work_of new)) (with_entry log e) (tables new) (is_roomy old.roomy))
       → Carries service e old new

@@ -10,7 +10,7 @@ use Rattle.mx_base.specs.Sent.{Sent}
 use Rattle.mx_base.specs.declared.names.ClientNo.{ClientNo}
 use Rattle.mx_base.specs.declared.names.LinkId.{LinkId}
 use Rattle.mx_base.specs.declared.tag.Tag.{Tag}
-use Rattle.mx_wire.specs.Log.{AreMarks, Log, accepted_link, accepted_links}
+use Rattle.mx_wire.specs.Log.{AreMarks, Log}
 use Rattle.mx_wire.specs.Tells.{IsOpen, MayFollow}
 use Rattle.mx_wire.specs.declared.entry.Entry.{Entry}
 use Rattle.mx_wire.specs.declared.entry.Entry.TheVariants as entry
@@ -37,7 +37,7 @@ use Rattle.router_laws.specs.waits.Drained.{IsDrainedAt}
 use Rattle.router_laws.specs.routers.Somehow.{AreLinked, IsLinked}
 use Rattle.core_texts.specs.declared.texts.Texts.{Texts}
 use Rattle.core_promises.specs.Administers.{Administered}
-use Rattle.shared_core.proofs.Coming.{come_on}
+use Rattle.shared_core.proofs.Coming.{BringsNone, come_on}
 use Rattle.shared_core.specs.Came.{HaveCome}
 use Rattle.shared_core.specs.Parts.{MayPart, is_homeless}
 use Rattle.shared_core.specs.Stands.{ActsSo, IsClosed, PartsFor, Shown, StandsBy, work_of, worked}
@@ -135,8 +135,8 @@ none_lacks count c row roomy over other none =
 
 -- Marks are of nobody who comes.
 
-mark_comes : (marks : Log) → AreMarks marks → accepted_links marks ≡ []
-mark_comes [] are = refl
+mark_comes : (marks : Log) → AreMarks marks → BringsNone marks
+mark_comes [] are = (refl, λ moment. refl)
 mark_comes (entry.Exec link ∷ marks) are = mark_comes marks are.1
 mark_comes (entry.Drop link ∷ marks) are = mark_comes marks are.1
 mark_comes (_ ∷ marks) are = absurd are.0
@@ -173,7 +173,7 @@ pub record IsBehind (service : Service) (texts : Texts) (admin : Administered) (
   pub router : IsRouter service texts admin (with_entry log e) (client_put c (Some row_then) t) roomy
   pub over : is_ended row_then.desk.seat.phase ≡ true
   pub link_is : row_then.desk.seat.link ≡ row.desk.seat.link
-  pub none : accepted_links (e ∷ []) ≡ []
+  pub none : BringsNone (e ∷ [])
 
 module _ (laws : Laws) (old : Router) (link : LinkId) (c : ClientNo) (row : Client) (closed : IsClosed (shown old))
     (numbered : (tables old).numbers link ≡ Some c) (there : (tables old).clients c ≡ Some row) (is : MayPart row) where
@@ -206,7 +206,7 @@ module _ (laws : Laws) (old : Router) (link : LinkId) (c : ClientNo) (row : Clie
         its = record { numbered = numbered; there = there };
         over = is.over;
         same = same_by (forgotten c t) (forgotten c t) refl;
-      })) (come_on log (entry.Closed link ∷ []) old.came refl was.counted)
+      })) (come_on log (entry.Closed link ∷ []) old.came (refl, λ moment. refl) was.counted)
 
   ends : (service : Service) (log : Log) (e : Entry) (marks : Log) → IsBehind service old.texts (worked service (work_of old)) log e c row t roomy → StandsBy service log t (shown old) → AreMarks marks
       → MayFollow (log ++ e ∷ [] ++ marks) (entry.Closed link) → PartsFor service (log ++ e ∷ [] ++ marks ++ entry.Closed link ∷ []) (shown new)
@@ -221,7 +221,7 @@ module _ (laws : Laws) (old : Router) (link : LinkId) (c : ClientNo) (row : Clie
         over = behind.over;
         same = forgets_put c row behind.row_then t there behind.link_is;
       }))
-      (come_on (with_entry log e ++ marks) (entry.Closed link ∷ []) old.came refl
+      (come_on (with_entry log e ++ marks) (entry.Closed link ∷ []) old.came (refl, λ moment. refl)
       (come_on (with_entry log e) marks old.came (mark_comes marks are) (come_on log (e ∷ []) old.came behind.none was.counted)))
 
   -- Its farewell is written, in part or whole.
@@ -250,7 +250,7 @@ module _ (laws : Laws) (old : Router) (link : LinkId) (c : ClientNo) (row : Clie
             });
         over = is.over;
         link_is = refl;
-        none = refl;
+        none = (refl, λ moment. refl);
       }
 
   put_itself : client_put c (Some row) t ≡ t
@@ -269,7 +269,7 @@ module _ (laws : Laws) (old : Router) (link : LinkId) (c : ClientNo) (row : Clie
         (laws.quiet service old.texts (worked service (work_of old)) log (entry.WriteNothing link) t roomy was.router may refl tt);
     over = is.over;
     link_is = refl;
-    none = refl;
+    none = (refl, λ moment. refl);
   }
 
   -- Or a write fails: it leaves once more.
@@ -296,7 +296,7 @@ module _ (laws : Laws) (old : Router) (link : LinkId) (c : ClientNo) (row : Clie
         (same_by (left_in c stays t) (left_in c stays t) refl)));
     over = is.over;
     link_is = refl;
-    none = refl;
+    none = (refl, λ moment. refl);
   }
 
   -- Whatever the farewell's write answers.

@@ -50,7 +50,7 @@ use Rattle.core_texts.specs.declared.texts.Texts.{Texts}
 use Rattle.core_texts.specs.Texts.{AreMore, HasBegun, key_at}
 use Rattle.core_texts.proofs.Keeping.{itself_more, more_on}
 use Rattle.core_promises.specs.Administers.{Administered}
-use Rattle.shared_core.proofs.Coming.{administrator_then, come_as, come_on}
+use Rattle.shared_core.proofs.Coming.{BringsNone, administrator_then, clock_on, come_as, come_on}
 use Rattle.shared_core.specs.Came.{HaveCome, came_then}
 use Rattle.shared_core.proofs.Entrants.{lacking, lacks_itself, logging_in, others_lack, router_still}
 use Rattle.shared_core.specs.Clients.{HasLeftAtOnce, HasLeftGoing, HasSpoken}
@@ -159,6 +159,7 @@ module _ (service : Service) (port : Port) (link : LinkId) (salt : List ℕ) (ol
       clients = (let one : c.0 ≡ length (accepted_links log) + 1 = counted log may was in
           let more : length (accepted_links (with_entry log e)) ≡ length (accepted_links log) + 1 = behind log e in omega (arith, count, one, more));
       administrator = administrator_then log old.came port link salt was;
+      clock = was.clock ∙ sym (clock_on log (e ∷ []) (λ moment. refl));
     });
   }
 
@@ -223,7 +224,7 @@ learnt_since service old new keeps begun log stood =
 
 -- Of entries at which nobody comes.
 
-module _ (service : Service) (e : Entry) (old new : Router) (keeps : KeepsBut old new) (none : accepted_links (e ∷ []) ≡ []) where
+module _ (service : Service) (e : Entry) (old new : Router) (keeps : KeepsBut old new) (none : BringsNone (e ∷ [])) where
   pub kept_stands : (log : Log) → HaveCome log old.came
       → IsRouter service new.texts (worked service (work_of new)) (with_entry log e) (tables new) (is_roomy old.roomy) → StandsFor service (with_entry log e) new
   kept_stands log was router = record {
@@ -277,17 +278,17 @@ speaks_carry service link bytes c old new law aside numbered keeps begun spoken 
     let read = read_row link c (tables old) aside numbered (and_right (is_known old.marked.changed link) (reads_in (tables old) link) reads) in
     let spoke : HasSpoken service (made_by service old new) link bytes c (tables old) (tables new) =
     spoken read.0 (record { numbered = numbered; there = read.1 }) read.2 in
-    kept_stands service (entry.Got link bytes) old new keeps refl log stood.counted
+    kept_stands service (entry.Got link bytes) old new keeps (refl, λ moment. refl) log stood.counted
     (law service new.texts (worked service (work_of old)) (worked service (work_of new)) log (tables old) (tables new) (is_roomy old.roomy) (is_roomy old.roomy) link bytes c spoke.ordinal spoke.choices
     spoke.halt spoke.parting spoke.links since.router may spoke.so spoke.ours spoke.word (λ other apart full. full) spoke.ruled since.since
     (settled_rules service old loaded))
 
 -- A link is lost.
 
-lost_none : (link : LinkId) (e : Entry) → IsLossOf link e → accepted_links (e ∷ []) ≡ []
-lost_none link e (inl same) = ap (λ (x : Entry). accepted_links (x ∷ [])) same
-lost_none link e (inr (inl same)) = ap (λ (x : Entry). accepted_links (x ∷ [])) same
-lost_none link e (inr (inr same)) = ap (λ (x : Entry). accepted_links (x ∷ [])) same
+lost_none : (link : LinkId) (e : Entry) → IsLossOf link e → BringsNone (e ∷ [])
+lost_none link e (inl same) = subst (λ (x : Entry). BringsNone (x ∷ [])) (sym same) (refl, λ moment. refl)
+lost_none link e (inr (inl same)) = subst (λ (x : Entry). BringsNone (x ∷ [])) (sym same) (refl, λ moment. refl)
+lost_none link e (inr (inr same)) = subst (λ (x : Entry). BringsNone (x ∷ [])) (sym same) (refl, λ moment. refl)
 
 loses_by : (service : Service) (link : LinkId) (old new : Router) → ((e : Entry) → IsLossOf link e → Carries service e old new)
     → Loses service link old new

@@ -3,12 +3,11 @@ use Rattle.std.specs.Prelude.{◌≡◌, ◌<◌, ◌^◌, ◌⊎◌, ◌||◌, 
 use Rattle.std.specs.Option.{option_and_then, option_map, option_map_or}
 use Rattle.std.proofs.Common.{refl, sym, ap, ◌∙◌, subst, inl, arith, append-nil}
 use Rattle.std.proofs.lemmas.Bool.{eq-eqb, false≢true, true≢false}
-use Rattle.std.proofs.lemmas.List.Elements.{filter_map-append}
 use Rattle.std.proofs.lemmas.Option.{none-some, same_Some}
 use Rattle.mx_base.specs.Sent.{Sent}
 use Rattle.mx_base.specs.declared.names.ClientNo.{ClientNo}
 use Rattle.mx_base.specs.declared.names.LinkId.{LinkId}
-use Rattle.mx_wire.specs.Log.{AreMarks, IsMark, Log, accepted_link, accepted_links}
+use Rattle.mx_wire.specs.Log.{AreMarks, Log}
 use Rattle.mx_wire.specs.Tells.{IsOpen, MayFollow}
 use Rattle.mx_wire.specs.declared.entry.Entry.{Entry}
 use Rattle.mx_wire.specs.declared.entry.Entry.TheVariants.{Closed, Drop, Exec, WriteFailed, WriteNothing, Wrote}
@@ -35,7 +34,7 @@ use Rattle.router_laws.specs.links.Loses.{GoesWithIt}
 use Rattle.router_laws.specs.routers.Somehow.{AreLinked}
 use Rattle.core_texts.specs.declared.texts.Texts.{Texts}
 use Rattle.core_promises.specs.Administers.{Administered}
-use Rattle.shared_core.proofs.Coming.{come_as, come_on}
+use Rattle.shared_core.proofs.Coming.{BringsNone, come_as, come_on}
 use Rattle.shared_core.specs.Came.{HaveCome}
 use Rattle.shared_core.proofs.LinkWrites.{IsLent, is_lent}
 use Rattle.shared_core.proofs.Machining.{stands_parted}
@@ -84,25 +83,17 @@ none_unawaited l t room none n row is = absurd (none-some n (sym none ∙ is))
 
 -- No client comes by what is told as a link is closed.
 
-mark_alone : (e : Entry) → IsMark e → accepted_links (e ∷ []) ≡ []
-mark_alone (Exec link) is = refl
-mark_alone (Drop link) is = refl
-mark_alone _ is = absurd is
+marks_alone : (marks : Log) → AreMarks marks → BringsNone marks
+marks_alone [] are = (refl, λ moment. refl)
+marks_alone (Exec link ∷ marks) are = marks_alone marks are.1
+marks_alone (Drop link ∷ marks) are = marks_alone marks are.1
+marks_alone (_ ∷ marks) are = absurd are.0
 
-marks_alone : (marks : Log) → AreMarks marks → accepted_links marks ≡ []
-marks_alone [] are = refl
-marks_alone (e ∷ marks) are =
-    filter_map-append accepted_link (e ∷ []) marks ∙ (λ i. mark_alone e are.0 i ++ marks_alone marks are.1 i)
-
-farewell_alone : (lent : Option Sent) (l : LinkId) (e : Entry) → IsFarewell lent l e → accepted_links (e ∷ []) ≡ []
-farewell_alone lent l (Wrote to tag bytes) is = refl
-farewell_alone lent l (WriteNothing to) is = refl
-farewell_alone lent l (WriteFailed to) is = refl
+farewell_alone : (lent : Option Sent) (l : LinkId) (e : Entry) → IsFarewell lent l e → BringsNone (e ∷ [])
+farewell_alone lent l (Wrote to tag bytes) is = (refl, λ moment. refl)
+farewell_alone lent l (WriteNothing to) is = (refl, λ moment. refl)
+farewell_alone lent l (WriteFailed to) is = (refl, λ moment. refl)
 farewell_alone lent l _ is = absurd is
-
-none_more : (log more : Log) → accepted_links more ≡ [] → accepted_links (log ++ more) ≡ accepted_links log
-none_more log more none =
-    filter_map-append accepted_link log more ∙ ap (λ (links : List LinkId). accepted_links log ++ links) none ∙ append-nil (accepted_links log)
 
 -- The laws by which a router goes on.
 
@@ -235,17 +226,17 @@ module _ (links : Links) (l : LinkId) (old mid : Router) (is : IsClosing l old m
           subst (λ (s : Server). s.row.link.spoilt ≡ false) (same_Some lent.server server (sym lent.there ∙ there)) lent.well;
     }
 
-    come_then : (log : Log) (e : Entry) (marks : Log) → accepted_links (e ∷ []) ≡ [] → AreMarks marks → HaveCome log old.came
+    come_then : (log : Log) (e : Entry) (marks : Log) → BringsNone (e ∷ []) → AreMarks marks → HaveCome log old.came
         → HaveCome (log ++ e ∷ [] ++ marks ++ Closed l ∷ []) old.came
     come_then log e marks first are have =
-        come_on (log ++ e ∷ [] ++ marks) (Closed l ∷ []) old.came refl
+        come_on (log ++ e ∷ [] ++ marks) (Closed l ∷ []) old.came (refl, λ moment. refl)
         (come_on (log ++ e ∷ []) marks old.came (marks_alone marks are) (come_on log (e ∷ []) old.came first have))
 
     pub farewell_closes : ClosesBy Before closing l
     farewell_closes = record {
       opened = λ service log before. is_open_then service log before;
       plain = λ none service log follows before.
-          stands_so service log before closing (log ++ Closed l ∷ []) (unlinked l (lost_in l t)) (come_on log (Closed l ∷ []) old.came refl (stood service log before).counted) came_so refl texts_so work_so parts
+          stands_so service log before closing (log ++ Closed l ∷ []) (unlinked l (lost_in l t)) (come_on log (Closed l ∷ []) old.came (refl, λ moment. refl) (stood service log before).counted) came_so refl texts_so work_so parts
           (plain service old.texts (worked service (work_of old)) log t (unlinked l (lost_in l t)) (is_roomy old.roomy) room l
           (stood service log before).router follows rooms (record { may = may service log before; same = same_itself _ }));
       offered = λ some service log e marks says are follows next before.
@@ -286,7 +277,7 @@ module _ (links : Links) (l : LinkId) (old mid : Router) (is : IsClosing l old m
     lost_closes = record {
       opened = λ service log before. is_open_then service log before;
       plain = λ none service log follows before.
-          stands_so service log before (shown new) (log ++ Closed l ∷ []) (unlinked l (lost_in l (tables new))) (come_on log (Closed l ∷ []) old.came refl (stood service log before).counted)
+          stands_so service log before (shown new) (log ++ Closed l ∷ []) (unlinked l (lost_in l (tables new))) (come_on log (Closed l ∷ []) old.came (refl, λ moment. refl) (stood service log before).counted)
           (keeps.came ∙ came_so) keeps.roomy (texts_lost ∙ texts_so) (keeps.work ∙ work_so) parts_lost
           (lost service old.texts (worked service (work_of old)) log t (tables new) (is_roomy old.roomy) room l
           (stood service log before).router rooms (may service log before) lost_so follows);

@@ -190,6 +190,7 @@ router_still service texts admin log t roomy c row there at router = record {
   waited = router.waited;
   judged = router.judged;
   held = router.held;
+  noted = router.noted;
   caused = router.caused;
   known = router.known;
 }

@@ -112,7 +112,7 @@ server_of (Some server) some = (server, refl)
 -- All of it.
 pub heard_so : Hears → StillGoes → (service : Service) (link : LinkId) (bytes : List ℕ) (old new : Router) (name : Option SessionName) (said : Said)
     (given : Option GiveUp) (read heard mid freed : Tabled) → name ≡ carried_at ((tables old).links link)
-    → IsHeard link bytes old.clock said read (tables old) → IsKeptFor said link read heard → IfSome given (λ up. MayBeGiven link name up heard) → HasGiven given heard mid
+    → IsHeard link bytes old.came.clock said read (tables old) → IsKeptFor said link read heard → IfSome given (λ up. MayBeGiven link name up heard) → HasGiven given heard mid
     → IsSame freed (freed_in link mid)
     → ((told : Option GivenUp) → told_client told ≡ up_client given → IfSome given (λ up. IsFor name up.client freed)
     → HasCalled service (made_by service old new) name told freed (tables new)) → IsSome ((tables old).links link) → reads_on old.marked link ≡ true
@@ -126,9 +126,9 @@ heard_so hears still service link bytes old new name said given read_table heard
     let goes_on : HasCalled service (made_by service old new) name gives.told freed (tables new) =
     calls gives.told gives.its (for_then link name heard freed given (λ c. still link gives.told heard mid freed c gives.same frees) may) in
     let named : name ≡ name_in at.0.row.link.state.carries = carried ∙ ap carried_at at.1 in
-    let all : HearsRuled (ruling_in service (made_by service old new)) service.setup service.default_schema link bytes old.clock gives.told goes_on.going (tables old)
+    let all : HearsRuled (ruling_in service (made_by service old new)) service.setup service.default_schema link bytes old.came.clock gives.told goes_on.going (tables old)
     (tables new) =
-    hears (ruling_in service (made_by service old new)) service.setup service.default_schema link bytes old.clock gives.told goes_on.going at.0 said (tables old) read_table heard mid
+    hears (ruling_in service (made_by service old new)) service.setup service.default_schema link bytes old.came.clock gives.told goes_on.going at.0 said (tables old) read_table heard mid
     freed (tables new) at.1 (unlike at.0.row.lost two.0) (unlike at.0.row.link.spoilt two.1) is kept (may_of link name heard gives.told given gives.its may)
     gives.same frees
     (subst (λ (n : Option SessionName). IsCalled n gives.told freed (option_map (λ (g : Going). g.client) goes_on.going)) named goes_on.called)
@@ -147,7 +147,7 @@ heard_so hears still service link bytes old new name said given read_table heard
 pub read_carries : Routes → (service : Service) (link : LinkId) (bytes : List ℕ) (old new : Router) → KeepsBut old new → HasBegun old.texts → AreBytes bytes
     → HasHeard service link bytes old new → IsSettled old → Carries service (entry.Got link bytes) old new
 read_carries routes service link bytes old new keeps begun are heard loaded =
-    carries_since service old new keeps.roomy keeps.came keeps.texts begun (entry.Got link bytes) refl
+    carries_since service old new keeps.roomy keeps.came keeps.texts begun (entry.Got link bytes) (refl, λ moment. refl)
     (λ log may learnt.
-    routes service new.texts (worked service (work_of old)) (worked service (work_of new)) log (tables old) (tables new) (is_roomy old.roomy) link bytes old.clock heard.given heard.going learnt.router may
+    routes service new.texts (worked service (work_of old)) (worked service (work_of new)) log (tables old) (tables new) (is_roomy old.roomy) link bytes old.came.clock heard.given heard.going learnt.router may
     are heard.so heard.given_ours heard.ours heard.ruled heard.why learnt.since (settled_rules service old loaded))

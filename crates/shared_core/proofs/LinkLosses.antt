@@ -9,7 +9,7 @@ use Rattle.std.proofs.lemmas.Option.{none-some, same_Some}
 use Rattle.mx_base.specs.declared.names.ClientNo.{ClientNo}
 use Rattle.mx_base.specs.declared.names.Hostgroup.{Hostgroup}
 use Rattle.mx_base.specs.declared.names.LinkId.{LinkId}
-use Rattle.mx_wire.specs.Log.{Log, accepted_links, is_open}
+use Rattle.mx_wire.specs.Log.{Log, is_open}
 use Rattle.mx_wire.specs.Tells.{MayFollow}
 use Rattle.private_model.proofs.Maps.{same_number}
 use Rattle.session_state.specs.declared.names.SessionName.{SessionName}
@@ -42,6 +42,7 @@ use Rattle.router_laws.specs.decisions.Causes.{IsLostFor}
 use Rattle.core_promises.specs.Administers.{Administered}
 use Rattle.shared_core.proofs.Carrying.{carries_by, carries_since, worked_same}
 use Rattle.shared_core.proofs.Causing.{lost_for}
+use Rattle.shared_core.proofs.Coming.{BringsNone}
 use Rattle.shared_core.proofs.Hears.{its_then}
 use Rattle.shared_core.proofs.Tabling.{tables_are}
 use Rattle.shared_core.specs.Follows.{HasCalled, HasGiven, IsFor, Keeps, KeepsBut, Made, MayBeGivenWith, is_of, made_by, told_client, up_client}
@@ -318,10 +319,10 @@ settled_for (Some going) service was rules = rules
 
 -- So the router stands for the log with it, however it is told.
 
-none_come : (how : Break) (link : LinkId) → accepted_links (entry_by how link ∷ []) ≡ []
-none_come ReadEnds link = refl
-none_come ReadFails link = refl
-none_come WriteFails link = refl
+none_come : (how : Break) (link : LinkId) → BringsNone (entry_by how link ∷ [])
+none_come ReadEnds link = (refl, λ moment. refl)
+none_come ReadFails link = (refl, λ moment. refl)
+none_come WriteFails link = (refl, λ moment. refl)
 
 module _ (service : Service) (link : LinkId) (old new : Router) where
   loses_each : ((how : Break) → Carries service (entry_by how link) old new) → Loses service link old new

@@ -43,7 +43,7 @@ pub opened_carries : Opens → (service : Service) (server : ServerId) (address 
     → new.roomy ≡ old.roomy → new.came ≡ old.came → AreMore old.texts new.texts → work_of new ≡ work_of old → HasOpened l server (tables old) (tables new)
     → Carries service (entry.Opened server address l) old new
 opened_carries law service server address l old new roomy came more work has =
-    carries_by service old new roomy came more (entry.Opened server address l) refl
+    carries_by service old new roomy came more (entry.Opened server address l) (refl, λ moment. refl)
     (λ log may router. worked_same service new.texts (with_entry log (entry.Opened server address l)) (tables new) _ old new work
     (law service new.texts (worked service (work_of old)) log (tables old) (tables new) _ server address l has.login router may has.so))
 

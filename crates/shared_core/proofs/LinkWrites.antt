@@ -116,7 +116,7 @@ module _ (law : Writes) (service : Service) (l : LinkId) (n : ℕ) (old new : Ro
   pub wrote_carries : (sent : Sent) → sends_on old.marked l ≡ Some sent → Carries service (entry.Wrote l sent.tag (take n sent.bytes)) old new
   wrote_carries sent is =
       let lent : IsLent old.marked l sent = is_lent old.marked l sent is some in
-      carries_by service old new roomy came (texts_more old.texts new.texts texts) (entry.Wrote l sent.tag (take n sent.bytes)) refl
+      carries_by service old new roomy came (texts_more old.texts new.texts texts) (entry.Wrote l sent.tag (take n sent.bytes)) (refl, λ moment. refl)
       (λ log may router. worked_same service new.texts (with_entry log (entry.Wrote l sent.tag (take n sent.bytes))) (tables new) _ old new work
       (law service new.texts (worked service (work_of old)) log (tables old) (tables new) _ l sent n router may (record {
         server = lent.server;

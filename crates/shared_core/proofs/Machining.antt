@@ -31,6 +31,7 @@ use Rattle.router_laws.specs.decisions.Held.{KeepsTexts}
 use Rattle.router_laws.proofs.OfDecisions.Learning.{forgets}
 use Rattle.shared_core.proofs.Coming.{come_as}
 use Rattle.shared_core.specs.Machine.{IsDueIn, Tells}
+use Rattle.shared_core.specs.Noted.{HasNoted}
 use Rattle.shared_core.specs.Says.{target_of}
 use Rattle.shared_core.specs.Stands.{ActsBy, Carries, CarriesWhere, Chooses, IsClosed, Loses, Moves, PartsFor, SettlesSo, Shown, StandsBy, StandsFor, Work}
 use Rattle.shared_core.specs.Stands.{IsSettled, is_roomy, parted, shown, tables, tables_in, without_client, without_link, work_of, worked}
@@ -163,7 +164,12 @@ tells_forgot service event bytes old forgot new less keeps same tells loaded unt
     (subst (λ (r : Router). IsToldOf until_ms (option_map target_of r.asked) event bytes e) (sym same) told) log
     (subst (λ (r : Router). IsDueIn r event log) (sym same) due) may (forgets_stands service log old forgot less keeps same stands)
 
--- An event goes through, and the router settles.
+-- An event goes through, something is noted, and the router settles.
+
+pub tells_noted : (service : Service) (event : Event) (bytes : List ℕ) (old mid noted : Router) → Tells service event bytes old mid → HasNoted mid noted
+    → Tells service event bytes old noted
+tells_noted service event bytes old mid noted tells has loaded until_ms e told log due may stands =
+    has.stands service (with_entry log e) (tells loaded until_ms e told log due may stands)
 
 pub tells_along : SettlesRouters → (service : Service) (event : Event) (bytes : List ℕ) (old mid settled new : Router)
     → Tells service event bytes old mid → SettlesSo mid settled → Chooses settled new → Tells service event bytes old new

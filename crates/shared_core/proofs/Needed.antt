@@ -13,7 +13,7 @@ use Rattle.stmt_map.specs.Client.{statement_at}
 use Rattle.stmt_map.specs.declared.statement.Statement.{Statement}
 use Rattle.core_tables.specs.Tables.{Tabled}
 use Rattle.core_tables.specs.declared.client.Client.{Client}
-use Rattle.core_texts.specs.Texts.{AreLess, key_at}
+use Rattle.core_texts.specs.Texts.{AreLess, key_at, noted_at}
 use Rattle.core_texts.specs.declared.texts.Texts.{Texts}
 use Rattle.router_laws.specs.decisions.Held.{KeepsTexts}
 use Rattle.shared_core.specs.Needed.{have_prepared, needs, works_on}
@@ -75,9 +75,11 @@ keeps_itself texts t = record { statements = λ c row number s there at. refl; w
 
 -- As an event begins they are those that are left.
 
-pub begun_less : (old mid new : Texts) → AreLess old mid → new.last ≡ mid.last → ((n : ℕ) → key_at new n ≡ key_at mid n) → AreLess old new
-begun_less old mid new less last same = record {
+pub begun_less : (old mid new : Texts) → AreLess old mid → new.last ≡ mid.last → ((c : ClientNo) → noted_at new c ≡ noted_at mid c)
+    → ((n : ℕ) → key_at new n ≡ key_at mid n) → AreLess old new
+begun_less old mid new less last noted same = record {
   last = last ∙ less.last;
+  noted = λ c one at. less.noted c one (sym (noted c) ∙ at);
   there = λ n key at. less.there n key (sym (same n) ∙ at);
 }
 

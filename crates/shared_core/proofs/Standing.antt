@@ -33,12 +33,12 @@ use Rattle.marked_tables.specs.Goes.{AreKnown, GoesOn, reads_on, sends_on}
 use Rattle.marked_tables.proofs.Going.{named_known}
 use Rattle.marked_tables.specs.declared.marked.MarkedTables.{MarkedTables}
 use Rattle.core_texts.specs.declared.texts.Texts.{Texts}
-use Rattle.core_texts.specs.Texts.{key_at}
+use Rattle.core_texts.specs.Texts.{key_at, noted_at}
 use Rattle.query_rules.specs.Passing.{rules_of}
 use Rattle.query_rules.specs.declared.rules.Rules.{Rules}
 use Rattle.core_promises.specs.Administered.{IsFirst}
 use Rattle.core_promises.specs.Administers.{Administered, AreRulesOf}
-use Rattle.shared_core.proofs.Coming.{come_as, come_on}
+use Rattle.shared_core.proofs.Coming.{BringsNone, come_as, come_on}
 use Rattle.shared_core.specs.declared.came.Came.{Came}
 use Rattle.shared_core.specs.Machine.{IsDueIn, IsStanding, Tells, is_stopped}
 use Rattle.shared_core.specs.Says.{IsAskedFor, awaits, reads, sends, target_of}
@@ -265,9 +265,10 @@ drained_at core log entry.Over was quiet due = parted_drained core log was due
 drained_at core log (entry.Woke until_ms now_ms) was quiet due = absurd quiet
 drained_at core log _ was quiet due = tt
 
-none_comes : (e : Entry) → IsQuiet e → accepted_links (e ∷ []) ≡ []
+none_comes : (e : Entry) → IsQuiet e → BringsNone (e ∷ [])
 none_comes (entry.Accepted port link salt) quiet = absurd quiet
-none_comes _ quiet = refl
+none_comes (entry.Woke until_ms now_ms) quiet = absurd quiet
+none_comes _ quiet = (refl, λ moment. refl)
 
 pub quiet_carries : Quiet → (core : Core) (e : Entry) → IsQuiet e → CarriesOver IsStanding due_in core core e
 quiet_carries law core e quiet = record {
@@ -321,23 +322,24 @@ still_stand core left was none log stands =
 -- It begins.
 
 abbrev pub First : Type 0
-First = (service : Service) (texts : Texts) (admin : Administered) → IsFirst (rules_of service.configured) admin → (roomy : ClientNo → Bool) → service.loaded ≡ None → ((number : ℕ) → key_at texts number ≡ None) → IsRouter service texts admin [] no_tables roomy
+First = (service : Service) (texts : Texts) (admin : Administered) → IsFirst (rules_of service.configured) admin → (roomy : ClientNo → Bool) → service.loaded ≡ None → ((number : ℕ) → key_at texts number ≡ None)
+    → ((c : ClientNo) → noted_at texts c ≡ None) → IsRouter service texts admin [] no_tables roomy
 
 abbrev pub nobody : Came
-nobody = record { clients = 0; administrator = false }
+nobody = record { clients = 0; administrator = false; clock = 0 }
 
 pub first_stands : First → (service : Service) (r : Router) → IsSame (tables r) no_tables → r.came ≡ nobody
-    → ((number : ℕ) → key_at r.texts number ≡ None) → AreRulesOf r.admin.staged.rules (rules_of service.configured) → r.admin.loaded ≡ None
-    → service.loaded ≡ None → StandsFor service [] r
-first_stands law service r none came untold staged settled unloaded = record {
+    → ((number : ℕ) → key_at r.texts number ≡ None) → ((c : ClientNo) → noted_at r.texts c ≡ None)
+    → AreRulesOf r.admin.staged.rules (rules_of service.configured) → r.admin.loaded ≡ None → service.loaded ≡ None → StandsFor service [] r
+first_stands law service r none came untold unnoted staged settled unloaded = record {
   router = subst (λ (t : Tabled). IsRouter service r.texts (worked service (work_of r)) [] t (is_roomy r.roomy)) (sym (tables_are (tables r) no_tables none))
       (law service r.texts (worked service (work_of r))
       (record {
         force = ap (λ (o : Option Rules). option_map_or rules_of o (rules_in service)) settled
             ∙ ap (λ (o : Option Rules). option_map_or rules_of o (rules_of service.configured)) unloaded;
         staged = staged;
-      }) (is_roomy r.roomy) unloaded untold);
-  counted = come_as [] nobody r.came came (record { clients = refl; administrator = λ is. absurd (let no : false ≡ true = is in cc) });
+      }) (is_roomy r.roomy) unloaded untold unnoted);
+  counted = come_as [] nobody r.came came (record { clients = refl; administrator = λ is. absurd (let no : false ≡ true = is in cc); clock = refl });
 }
 
 pub first_core : (core : Core) → StandsFor core.service [] core.router → IsClosed (shown core.router) → AreKnown core.router.marked

@@ -126,5 +126,5 @@ client_carried law service old new link c n none numbered may same room came tex
             same = same;
           })));
       counted = come_as (with_entry log (Wrote link sent.tag (take n sent.bytes))) old.came new.came came
-          (come_on log (Wrote link sent.tag (take n sent.bytes) ∷ []) old.came refl stands.counted);
+          (come_on log (Wrote link sent.tag (take n sent.bytes) ∷ []) old.came (refl, λ moment. refl) stands.counted);
     }

@@ -19,5 +19,5 @@ pub record HasHeard (service : Service) (link : LinkId) (bytes : List ℕ) (old 
   pub given_ours : AreGivenOurs given
   pub why : IsHeardFor link (tables old) given
   pub ours : AreGoingOurs (rules_in service) new.texts going
-  pub so : HearsSo service.setup service.default_schema link bytes old.clock given going (tables old) (tables new)
+  pub so : HearsSo service.setup service.default_schema link bytes old.came.clock given going (tables old) (tables new)
   pub ruled : IsRuledOn (ruling_in service (made_by service old new)) going service.setup service.default_schema so.freed (tables new) so.goes

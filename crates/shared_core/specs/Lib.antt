@@ -9,6 +9,7 @@ pub mod Telling
 pub mod Came
 pub mod Causes
 pub mod Stands
+pub mod Noted
 pub mod Machine
 pub mod Links
 pub mod Rooms

@@ -7,7 +7,9 @@ use Rattle.core_service.specs.declared.service.Service.{Service}
 use Rattle.core_tables.specs.Tables.{Tabled}
 use Rattle.core_laws.specs.clients.Going.{GivenUp, is_going}
 use Rattle.router_laws.specs.wakes.Calling.{Caller, GivesUpAll, IsThere, IsUnsent, is_given}
+use Rattle.core_texts.specs.Texts.{noted_at}
 use Rattle.router_laws.specs.decisions.Causes.{AreLate, AreRefused}
+use Rattle.router_laws.specs.decisions.Noted.{Notes}
 use Rattle.router_laws.specs.decisions.Rulings.{AreRuledAll}
 use Rattle.router_laws.specs.decisions.Speaks.{IsGivenOurs}
 use Rattle.router_laws.specs.wakes.Deciding.{IsCallerOurs}
@@ -22,10 +24,10 @@ pub record IsWaiting (c : ClientNo) (t : Tabled) : Type 0 where
   pub unsent : IsUnsent c t
 
 -- Statements were given up that waited too long, and their clients called, which go on; and whoever was called before still is.
-pub record HaveGivenUp (wait_ms now_ms : ℕ) (came : Bool) (before called : Roomy) (old new : Tabled) : Type 0 where
+pub record HaveGivenUp (wait_ms now_ms : ℕ) (came : Bool) (notes : Notes) (before called : Roomy) (old new : Tabled) : Type 0 where
   pub given : List GivenUp
   pub ours : All IsGivenOurs given
-  pub late : AreLate wait_ms now_ms came given
+  pub late : AreLate wait_ms now_ms came notes old given
   pub gives : GivesUpAll given old new
   pub calls : (c : ClientNo) → is_given given c ≡ true → is_roomy called c ≡ true
   pub going : (c : ClientNo) → is_given given c ≡ true → is_going (new.clients c) ≡ true
@@ -52,7 +54,7 @@ pub record HasWoken (service : Service) (made : Made) (now_ms : ℕ) (came : Boo
   pub callers : List Caller
   pub links : List LinkId
   pub given_ours : All IsGivenOurs given
-  pub late : AreLate service.wait_ms now_ms came given
+  pub late : AreLate service.wait_ms now_ms came (noted_at made.texts) old given
   pub ours : All (IsCallerOurs (rules_in service) made.texts) callers
   pub so : WakesSo service.setup service.default_schema given callers links (is_roomy roomy) old new
   pub ruled : AreRuledAll (ruling_in service made) callers service.setup service.default_schema so.late so.calls.turned so.calls.going

@@ -24,6 +24,7 @@ impl Router {
     pub(crate) fn took(&mut self, client: ClientNo, went: &Option<Went>) -> Result<(), OutOfMemory>
         ensures { OnOk result (Chooses self.old self.new) }
     {
+        self.fresh.push(client)?;
         match went {
             Some(Went { due: Some(_), .. }) => {
                 self.policy
@@ -34,11 +35,11 @@ impl Router {
                     stop: Stop::Ends,
                     ..
                 },
-            ) => self.policy.login_refused(client, self.clock),
+            ) => self.policy.login_refused(client, self.came.clock),
             _ => {}
         }
         if let Some(rows) = self.admin.servers.take() {
-            self.policy.reloaded(rows, self.clock);
+            self.policy.reloaded(rows, self.came.clock);
         }
         if let Some(rows) = self.admin.rules.take() {
             self.policy.board.rules = rows;

@@ -46,7 +46,7 @@ impl Router {
         self.came = self.came.then(port);
         let client = ClientNo(self.came.clients);
         let served = self.policy.serves(service, port);
-        self.policy.comes(client, port, served, self.clock)?;
+        self.policy.comes(client, port, served, self.came.clock)?;
         if served {
             self.receives(service, port, link, salt, client)
         } else {

@@ -1,14 +1,15 @@
-// Who came.
+// Who came, and the moment.
 ghost use Rattle.std.specs.Prelude.{◌≡◌};
 ghost use Rattle.shared_core.specs.Came.{came_then, is_administrators_port};
 
 use mx_base::Port;
 
-/// How many clients came, at both ports, and whether an administrator did.
+/// How many clients came, at both ports, whether an administrator did, and the moment of the last wake, in milliseconds.
 #[derive(Clone, Copy)]
 pub struct Came {
     pub clients: u64,
     pub administrator: bool,
+    pub clock: u64,
 }
 
 fn is_administrators(port: Port) -> bool
@@ -28,6 +29,7 @@ impl Came {
         Came {
             clients: self.clients.saturating_add(1),
             administrator: self.administrator || is_administrators(port),
+            clock: self.clock,
         }
     }
 }

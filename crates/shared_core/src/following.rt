@@ -126,7 +126,7 @@ impl Router {
     {
         let shown = self
             .policy
-            .shown_to(&self.marked.tables, client, self.clock)?;
+            .shown_to(&self.marked.tables, client, self.came.clock)?;
         let running = self.policy.board.running(&shown);
         let took = take_turns(
             &mut self.marked,
@@ -135,7 +135,7 @@ impl Router {
             &running,
             service,
             &mut self.policy.servers,
-            self.clock,
+            self.came.clock,
             self.alloc,
             client,
         )?;

@@ -1,10 +1,14 @@
 // Statements are given up.
 ghost use Rattle.std.specs.Prelude.{◌≡◌, IfSome, OnOk, Option, true};
 ghost use Rattle.core_laws.specs.clients.Going.{GivenUp};
+ghost use Rattle.core_promises.specs.Causes.{IsLateCause};
+ghost use Rattle.core_service.specs.Failures.{payload_of};
+ghost use Rattle.core_texts.specs.Texts.{noted_at};
+ghost use Rattle.router_laws.specs.decisions.Noted.{WasNoted};
 ghost use Rattle.router_laws.specs.links.Loses.{IsGivenUpWith};
 ghost use Rattle.router_laws.specs.reading.Givings.{MayBeGivenUp};
 ghost use Rattle.shared_core.specs.Follows.{HasAnswered, HasCalled, HasGiven, IsFor, Keeps, KeepsBut, MayBeGiven, MayBeGivenWith, called_by, made_by, told_client, up_client};
-ghost use Rattle.shared_core.specs.Causes.{is_heard, is_late, is_lost, is_refused};
+ghost use Rattle.shared_core.specs.Causes.{is_heard, is_late, is_lost, is_noted, is_refused};
 ghost use Rattle.shared_core.specs.Stands.{tables};
 ghost use Rattle.shared_core.specs.Wakes.{IsWaiting};
 
@@ -18,6 +22,16 @@ use session_state::SessionName;
 fn is_last(ends: Option<ClientNo>, client: ClientNo) -> bool {
     match ends {
         Some(last) => last.0 == client.0,
+        None => false,
+    }
+}
+
+// Whether this moment is noted.
+fn is_noted(noted: Option<u64>, since_ms: u64) -> bool
+    ensures { result ≡ is_noted noted since_ms }
+{
+    match noted {
+        Some(noted_ms) => noted_ms == since_ms,
         None => false,
     }
 }
@@ -44,15 +58,16 @@ fn is_lost(carried: bool, why: Failure) -> bool
     }
 }
 
-// And at a wake, where an administrator came, or none did.
-fn is_late(wait_ms: u64, now_ms: u64, came: bool, why: Failure) -> bool
-    ensures { result ≡ is_late wait_ms now_ms came why }
+// And at a wake, where an administrator came, or none did, and it is noted since when the statement waits, or isn't.
+fn is_late(wait_ms: u64, now_ms: u64, came: bool, noted: Option<u64>, why: Failure) -> bool
+    ensures { result ≡ is_late wait_ms now_ms came noted why }
 {
     match why {
         Failure::NoConnection {
             since_ms,
             now_ms: told_ms,
-        } => told_ms == now_ms && since_ms <= now_ms && wait_ms <= now_ms - since_ms,
+        } => told_ms == now_ms
+            && (since_ms <= now_ms && (wait_ms <= now_ms - since_ms && is_noted(noted, since_ms))),
         Failure::BadBytes { place } => place == 0,
         Failure::ShuttingDown => came,
         _ => false,
@@ -77,7 +92,7 @@ impl Router {
     {
         let payload = payload_of(self.alloc, why)?;
         self.marked.give_up(client, payload.as_slice())?;
-        self.policy.fails(client, why, self.clock);
+        self.policy.fails(client, why, self.came.clock);
         self.changed(client);
         Ok(())
     }
@@ -195,10 +210,15 @@ impl Router {
 
     /// What may be given up at a wake.
     pub(crate) fn may_be_late(&self, wait_ms: u64, now_ms: u64, came: bool, up: GiveUp) -> bool
-        ensures late { result ≡ true → is_late wait_ms now_ms came up.why ≡ true }
+        ensures late { result ≡ true → IsLateCause wait_ms now_ms came (WasNoted (noted_at self.now.texts) (tables self.now) up.client) (payload_of up.why) }
         ensures waits { result ≡ true → IsWaiting up.client (tables self.now) }
     {
-        is_late(wait_ms, now_ms, came, up.why) && self.is_waiting(up.client)
+        let noted = self.noted_since(up.client);
+        if is_late(wait_ms, now_ms, came, noted, up.why) {
+            self.is_waiting(up.client)
+        } else {
+            false
+        }
     }
 
     /// And where a link couldn't be opened.

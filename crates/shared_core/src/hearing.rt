@@ -45,11 +45,16 @@ impl Router {
         router_laws::reading::hears_so();
         let name = self.marked.carried(link);
         let cut = self.marked.says(link).is_some();
-        let said = self.marked.server_says(link, bytes, self.clock)?;
+        let said = self.marked.server_says(link, bytes, self.came.clock)?;
         self.keeps(link, said)?;
-        let verdict = self
-            .policy
-            .heard(&self.marked.tables, link, name, said, cut, self.clock)?;
+        let verdict = self.policy.heard(
+            &self.marked.tables,
+            link,
+            name,
+            said,
+            cut,
+            self.came.clock,
+        )?;
         let given = self.may_give(link, name, verdict.given);
         self.gives(given)?;
         self.free(link);

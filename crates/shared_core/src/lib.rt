@@ -13,6 +13,7 @@ mod leaving;
 mod losing;
 mod machine;
 mod needing;
+mod noting;
 mod opening;
 mod parting;
 mod preparing;

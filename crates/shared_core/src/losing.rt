@@ -48,7 +48,9 @@ impl Router {
         router_laws::links::loses_router();
         router_laws::links::loses_ended_router();
         let name = self.marked.carried(link);
-        let verdict = self.policy.loses(&self.marked.tables, link, self.clock)?;
+        let verdict = self
+            .policy
+            .loses(&self.marked.tables, link, self.came.clock)?;
         let given = self.may_give_with(link, name, verdict.given);
         let ended = self.ends_with(link, given)?;
         match ended {

@@ -48,7 +48,7 @@ impl Router {
         }
     }
 
-    // It begins; the event goes through; and then what is chosen by it is done.
+    // It begins; the event goes through; what was taken up by it is noted; and then what is chosen by it is done.
     fn take(&mut self, service: &Service, event: Event, bytes: &mut [u8]) -> Result<(), OutOfMemory>
         ensures tells { OnOk result (Tells service.now event bytes.old self.old self.new) }
         ensures moves { OnOk result (Moves self.old self.new) }
@@ -56,6 +56,7 @@ impl Router {
         router_laws::wakes::settling_stands();
         self.begins()?;
         self.told(service, event, bytes)?;
+        self.notes()?;
         self.settle(service)?;
         self.turns();
         Ok(())

@@ -168,7 +168,7 @@ impl Router {
         self.texts.keep_only(&needed)
     }
 
-    /// An event begins: texts that nobody needs are forgotten, and those that are left have come before it.
+    /// An event begins: texts that nobody needs are forgotten, and notes of clients that are no more, and the texts that are left have come before it.
     pub(crate) fn begins(&mut self) -> Result<(), OutOfMemory>
         ensures less { OnOk result (AreLess self.old.texts self.new.texts) }
         ensures kept { OnOk result (KeepsTexts self.old.texts self.new.texts (tables self.old)) }
@@ -176,6 +176,7 @@ impl Router {
         ensures begun { OnOk result (HasBegun self.new.texts) }
     {
         self.forgets_texts()?;
+        self.drops_notes()?;
         self.texts.begin();
         Ok(())
     }

@@ -34,7 +34,7 @@ impl Router {
         ensures opens { OnOk result (HasOpened link asked.server (tables self.old) (tables self.new)) }
         ensures keeps { OnOk result (Keeps self.old self.new) }
     {
-        self.policy.opened(asked, link, self.clock)?;
+        self.policy.opened(asked, link, self.came.clock)?;
         let login = self.policy.login(asked);
         let opening = Opening {
             server: asked.server,
@@ -48,7 +48,7 @@ impl Router {
             text_of(login.user),
             service.password(&user),
             login.found_rows,
-            self.clock,
+            self.came.clock,
         )
     }
 
@@ -66,7 +66,7 @@ impl Router {
         let asked = std::mem::replace(&mut self.asked, None);
         let verdict = self
             .policy
-            .open_failed(&self.marked.tables, asked, server, self.clock)?;
+            .open_failed(&self.marked.tables, asked, server, self.came.clock)?;
         self.fails(service, verdict.given)
     }
 

@@ -23,9 +23,9 @@ use std::alloc::Global;
 const MOST_LINKS: u32 = 14_018;
 
 /// What changes of the core: clients and links, with marks of the links that the loop has to look at; the texts that clients prepared; what is chosen by; what administrators
-/// staged; how many clients came;
+/// staged; who came, and the moment;
 /// who has room again; the open that was asked for last; the client, or the link to a server, whose close was; whether there may be something
-/// to ask for; the moment at which there is something to do, and that of the last wake, in milliseconds; and whether it has shut down.
+/// to ask for; the moment at which there is something to do, in milliseconds; whether it has shut down; and who took turns by the event that goes through.
 #[derive(Drop)]
 pub struct Router {
     pub alloc: Global,
@@ -40,8 +40,8 @@ pub struct Router {
     pub closing: Option<LinkId>,
     pub acting: bool,
     pub until: u64,
-    pub clock: u64,
     pub stopped: bool,
+    pub fresh: Vec<ClientNo>,
 }
 
 impl Router {
@@ -64,6 +64,7 @@ impl Router {
             came: Came {
                 clients: 0,
                 administrator: false,
+                clock: 0,
             },
             roomy: Roomy::new(alloc),
             asked: None,
@@ -71,8 +72,8 @@ impl Router {
             closing: None,
             acting: true,
             until: 0,
-            clock: 0,
             stopped: false,
+            fresh: Vec::new(alloc),
         })
     }
 
@@ -89,9 +90,9 @@ impl Router {
         ensures acting { self.new.acting ≡ self.old.acting }
     {
         self.until = if self.roomy.is_empty() {
-            self.policy.wakes_at(service, self.clock)
+            self.policy.wakes_at(service, self.came.clock)
         } else {
-            self.clock
+            self.came.clock
         };
         self.stopped = self.policy.is_over(&self.marked.tables);
     }
@@ -101,6 +102,6 @@ impl Router {
         ensures { Chooses self.old self.new }
     {
         self.policy
-            .client_changed(&self.marked.tables, client, self.clock);
+            .client_changed(&self.marked.tables, client, self.came.clock);
     }
 }

@@ -1,9 +1,10 @@
 // What is tested of clients and of links before something becomes of them.
-ghost use Rattle.std.specs.Prelude.{◌≡◌, true};
+ghost use Rattle.std.specs.Prelude.{◌≡◌, IfSome, true};
 ghost use Rattle.std.specs.List.{list_all};
 ghost use Rattle.std.specs.Option.{option_copied};
 ghost use Rattle.mx_base.specs.declared.names.LinkId.{LinkId};
 ghost use Rattle.router_laws.specs.clients.Leaves.{is_at_rest};
+ghost use Rattle.router_laws.specs.decisions.Noted.{IsInWork};
 ghost use Rattle.core_laws.specs.clients.Going.{is_going};
 ghost use Rattle.core_laws.specs.clients.Turns.{waits_at};
 ghost use Rattle.client_seat.specs.Seats.{is_ended};
@@ -104,6 +105,16 @@ pub(crate) fn work_of(tables: &Tables, client: ClientNo) -> Option<&Work>
 {
     match row_of(tables, client) {
         Some(row) => row.desk.work.as_ref(),
+        None => None,
+    }
+}
+
+/// The place of a client's statement in work among its messages.
+pub(crate) fn ordinal_of(tables: &Tables, client: ClientNo) -> Option<u64>
+    ensures { IfSome result (λ ordinal. IsInWork client ordinal (tables_of tables.now)) }
+{
+    match work_of(tables, client) {
+        Some(work) => Some(work.ordinal),
         None => None,
     }
 }

@@ -33,7 +33,7 @@ impl Router {
         'deeds: for _ in 0..u64::MAX {
             let deed = self
                 .policy
-                .deed(&self.marked.tables, &self.texts, service, self.clock)?;
+                .deed(&self.marked.tables, &self.texts, service, self.came.clock)?;
             match deed {
                 Some(deed) => self.does(deed)?,
                 None => return Ok(()),

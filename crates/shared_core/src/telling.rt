@@ -104,7 +104,7 @@ impl Router {
             None => return Ok(()),
         }
         self.marked.last_word(client, payload.as_slice())?;
-        self.policy.fails(client, why, self.clock);
+        self.policy.fails(client, why, self.came.clock);
         Ok(())
     }
 }

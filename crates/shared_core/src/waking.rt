@@ -2,7 +2,7 @@
 ghost use Rattle.std.specs.Prelude.{◌≡◌, IfOk, OnOk, nat_eq, true, ℕ};
 ghost use Rattle.std.specs.BTreeSet.{keys};
 ghost use Rattle.std.specs.List.{list_any};
-ghost use Rattle.core_texts.specs.Texts.{HasBegun};
+ghost use Rattle.core_texts.specs.Texts.{HasBegun, noted_at};
 ghost use Rattle.mx_base.specs.declared.names.ClientNo.{ClientNo};
 ghost use Rattle.mx_wire.specs.declared.entry.Entry.TheVariants as entry;
 ghost use Rattle.core_laws.specs.clients.Going.{is_going};
@@ -38,7 +38,7 @@ impl Router {
         ensures moves { OnOk result (Moves self.old self.new) }
     {
         router_laws::wakes::wakes_router();
-        self.clock = now_ms;
+        self.came.clock = now_ms;
         let late = self.policy.woke(&self.marked.tables, service, now_ms)?;
         let ending = self.policy.ending(now_ms)?;
         let roomy = std::mem::replace(&mut self.roomy, Roomy::new(self.alloc));
@@ -75,7 +75,7 @@ impl Router {
         late: &[GiveUp],
         called: &mut Roomy,
     ) -> Result<(), OutOfMemory>
-        ensures gives { OnOk result (HaveGivenUp wait_ms now_ms came called.old called.new (tables self.old) (tables self.new)) }
+        ensures gives { OnOk result (HaveGivenUp wait_ms now_ms came (noted_at self.old.texts) called.old called.new (tables self.old) (tables self.new)) }
         ensures keeps { OnOk result (Keeps self.old self.new) }
     {
         for up in late {
@@ -92,7 +92,7 @@ impl Router {
         up: GiveUp,
         called: &mut Roomy,
     ) -> Result<(), OutOfMemory>
-        ensures gives { OnOk result (HaveGivenUp wait_ms now_ms came called.old called.new (tables self.old) (tables self.new)) }
+        ensures gives { OnOk result (HaveGivenUp wait_ms now_ms came (noted_at self.old.texts) called.old called.new (tables self.old) (tables self.new)) }
         ensures keeps { OnOk result (Keeps self.old self.new) }
     {
         if self.may_be_late(wait_ms, now_ms, came, up) {

@@ -75,7 +75,7 @@ impl Router {
     {
         router_laws::links::writes_router();
         router_laws::wakes::settling_stands();
-        let began = self.marked.wrote_on(link, n, self.clock);
+        let began = self.marked.wrote_on(link, n, self.came.clock);
         self.went_out(link, began);
     }
 

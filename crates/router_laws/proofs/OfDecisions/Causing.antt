@@ -80,34 +80,39 @@ module _ (law : CarriedLaw) (wait_ms : ℕ) (setup : Setup) (codes : Codes) (pla
   same : (c : ClientNo) → carries_of l t c ≡ is_carried setup (tale_of setup plan log) l c
   same = carried_same law (ground setup codes plan d log) t l server there stands
 
-  pub heard_why : (bytes : List ℕ) (given : Option GivenUp) → IsHeardFor l t given → (c : ClientNo) (payload : List ℕ) → told_to given c ≡ Some payload
-      → IsCause wait_ms setup plan log (entry.Got l bytes) c payload
-  heard_why bytes None why c payload is = none_some None payload refl is
-  heard_why bytes (Some up) why c payload is =
-      told_for (λ x p. IsCause wait_ms setup plan log (entry.Got l bytes) x p) up
+  pub heard_why : (taken : ClientNo → ℕ) (bytes : List ℕ) (given : Option GivenUp) → IsHeardFor l t given → (c : ClientNo) (payload : List ℕ)
+      → told_to given c ≡ Some payload → IsCause wait_ms setup plan log (entry.Got l bytes) (record { client = c; ordinal = taken c }) payload
+  heard_why taken bytes None why c payload is = none_some None payload refl is
+  heard_why taken bytes (Some up) why c payload is =
+      told_for (λ x p. IsCause wait_ms setup plan log (entry.Got l bytes) (record { client = x; ordinal = taken x }) p) up
       (subst (λ (b : Bool). IsHeardCause b up.payload) (same up.client) why) c payload is
 
-  lost_by : (how : Break) (c : ClientNo) (payload : List ℕ) → IsLossCause (is_carried setup (tale_of setup plan log) l c) payload
-      → IsCause wait_ms setup plan log (entry_by how l) c payload
-  lost_by ReadEnds c payload why = why
-  lost_by ReadFails c payload why = why
-  lost_by WriteFails c payload why = why
+  lost_by : (how : Break) (m : MessageName) (payload : List ℕ) → IsLossCause (is_carried setup (tale_of setup plan log) l m.client) payload
+      → IsCause wait_ms setup plan log (entry_by how l) m payload
+  lost_by ReadEnds m payload why = why
+  lost_by ReadFails m payload why = why
+  lost_by WriteFails m payload why = why
 
-  pub loss_why : (how : Break) (given : Option GivenUp) → IsLostFor l t given → (c : ClientNo) (payload : List ℕ) → told_to given c ≡ Some payload
-      → IsCause wait_ms setup plan log (entry_by how l) c payload
-  loss_why how None why c payload is = none_some None payload refl is
-  loss_why how (Some up) why c payload is =
-      told_for (λ x p. IsCause wait_ms setup plan log (entry_by how l) x p) up
-      (lost_by how up.client up.payload (subst (λ (b : Bool). IsLossCause b up.payload) (same up.client) why)) c payload is
+  pub loss_why : (taken : ClientNo → ℕ) (how : Break) (given : Option GivenUp) → IsLostFor l t given → (c : ClientNo) (payload : List ℕ)
+      → told_to given c ≡ Some payload → IsCause wait_ms setup plan log (entry_by how l) (record { client = c; ordinal = taken c }) payload
+  loss_why taken how None why c payload is = none_some None payload refl is
+  loss_why taken how (Some up) why c payload is =
+      told_for (λ x p. IsCause wait_ms setup plan log (entry_by how l) (record { client = x; ordinal = taken x }) p) up
+      (lost_by how (record { client = up.client; ordinal = taken up.client }) up.payload (subst (λ (b : Bool). IsLossCause b up.payload) (same up.client) why)) c payload is
 
 -- of several
-pub all_why : (P : List ℕ → Type 0) (given : List GivenUp) → All (λ (up : GivenUp). P up.payload) given → (c : ClientNo) (payload : List ℕ)
-    → payload_in given c ≡ Some payload → P payload
+pub all_why : (P : ClientNo → List ℕ → Type 0) (given : List GivenUp) → All (λ (up : GivenUp). P up.client up.payload) given
+    → (c : ClientNo) (payload : List ℕ) → payload_in given c ≡ Some payload → P c payload
 all_why P [] all c payload is = none_some None payload refl is
-all_why P (up ∷ others) all c payload is = by (is_client c up.client) is (all_why P others (All-tail (λ (u : GivenUp). P u.payload) up others all) c payload) where
-  by : (b : Bool) → (if b then Some up.payload else payload_in others c) ≡ Some payload → (payload_in others c ≡ Some payload → P payload) → P payload
-  by true has later = let same : up.payload ≡ payload = cc in subst P same (All-head (λ (u : GivenUp). P u.payload) up others all)
-  by false has later = later has
+all_why P (up ∷ others) all c payload is =
+    by (is_client c up.client) refl is (all_why P others (All-tail (λ (u : GivenUp). P u.client u.payload) up others all) c payload) where
+      by : (b : Bool) → is_client c up.client ≡ b → (if b then Some up.payload else payload_in others c) ≡ Some payload
+          → (payload_in others c ≡ Some payload → P c payload) → P c payload
+      by true its has later =
+          let same : up.payload ≡ payload = cc in
+          subst (λ (x : ClientNo). P x payload) (sym (client_of c up.client its))
+          (subst (P up.client) same (All-head (λ (u : GivenUp). P u.client u.payload) up others all))
+      by false other has later = later has
 
 -- Behind an entry.
 
@@ -119,7 +124,8 @@ module _ (wait_ms : ℕ) (log : Log) (e : Entry) (d : Decided) (n : Counts) (dee
     (setup : Setup) (plan : Plan) (of : IsOf (decided_with deeds n log e d) (length (with_entry log e)) plan)
     (before : AreCountsOf n (tale_of setup plan log)) (counts : AreCountsOf (counts_with deeds n log e) (tale_of setup plan (with_entry log e)))
     (was : All (AreCaused wait_ms setup plan log) (tale_of setup plan log).clients)
-    (why : (c : ClientNo) (payload : List ℕ) → deeds.given c ≡ Some payload → IsCause wait_ms setup plan log e c payload) where
+    (why : (c : ClientNo) (payload : List ℕ) → deeds.given c ≡ Some payload
+    → IsCause wait_ms setup plan log e (record { client = c; ordinal = n.taken c }) payload) where
   abbrev old : Tale
   old = tale_of setup plan log
 
@@ -147,7 +153,7 @@ module _ (wait_ms : ℕ) (log : Log) (e : Entry) (d : Decided) (n : Counts) (dee
     name = name_of client (suc k)
 
     abbrev Explains : Log → ClientNo → Type 0
-    Explains past who = IsToldAtOnce plan (record { client = who; ordinal = suc k }) answer ⊎ HasCause wait_ms setup plan past who answer
+    Explains past who = IsToldAtOnce plan (record { client = who; ordinal = suc k }) answer ⊎ HasCause wait_ms setup plan past (record { client = who; ordinal = suc k }) answer
 
     abbrev Has : Log → Type 0
     Has past = Explains past c
@@ -177,8 +183,8 @@ module _ (wait_ms : ℕ) (log : Log) (e : Entry) (d : Decided) (n : Counts) (dee
 
     -- It was taken up before.
 
-    given_now : (payload : List ℕ) → made.given c ≡ Some payload → up_with made n now payload ≡ answer → Has (with_entry log e)
-    given_now payload gives is = inr (record {
+    given_now : (payload : List ℕ) → suc k ≡ n.taken c → made.given c ≡ Some payload → up_with made n now payload ≡ answer → Has (with_entry log e)
+    given_now payload last gives is = inr (record {
       before = log;
       entry = e;
       later = [];
@@ -186,7 +192,8 @@ module _ (wait_ms : ℕ) (log : Log) (e : Entry) (d : Decided) (n : Counts) (dee
       from = sym (ap (λ (a : OwnAnswer). a.from) is);
       payload = payload;
       one = sym (ap (λ (a : OwnAnswer). a.payloads) is);
-      why = why c payload (given_among (nat_le c.0 (known_with log e)) (deeds.given c) payload gives);
+      why = subst (λ (o : ℕ). IsCause wait_ms setup plan log e (record { client = c; ordinal = o }) payload) (sym last)
+          (why c payload (given_among (nat_le c.0 (known_with log e)) (deeds.given c) payload gives));
     })
 
     open_before : d.own name ≡ Some None → (given : Option (List ℕ)) (last : Bool) → made.given c ≡ given → nat_eq (suc k) (n.taken c) ≡ last
@@ -196,7 +203,7 @@ module _ (wait_ms : ℕ) (log : Log) (e : Entry) (d : Decided) (n : Counts) (dee
     open_before open_yet (Some payload) false gives at =
         unanswered (own_open made n now name (d.own name) open_yet (λ i. is_some (gives i) && at i))
     open_before open_yet (Some payload) true gives at =
-        given_now payload gives
+        given_now payload (eqb-true (suc k) (n.taken c) at) gives
         (same_as (up_with made n now payload) (own_given made n now name (d.own name) payload open_yet (eqb-true (suc k) (n.taken c) at) gives))
 
     answered_before : (x : Client) → IsSeated old x → c ≡ x.number → k < x.taken → answer.from ≤ length log → Has (with_entry log e)

@@ -46,5 +46,6 @@ loads service texts admin log t roomy loaded router = record {
   waited = router.waited;
   judged = router.judged;
   held = router.held;
+  noted = router.noted;
   caused = router.caused;
 }

@@ -201,6 +201,8 @@ module _ (service : Service) (old new : Texts) (admin : Administered) (log : Log
     spoken = record { own = router.spoken.own; words = router.spoken.words };
     waited = λ terms codes of fits. router.waited terms codes (less (plan_in terms) of) (fit (setup_in terms) codes (plan_in terms) _ fits);
     judged = λ setup codes plan of fits. router.judged setup codes plan (less plan of) (fit setup codes plan _ fits);
+    noted = λ setup codes plan of fits c one at.
+        router.noted setup codes plan (less plan of) (fit setup codes plan _ fits) c one (sym (more.noted c) ∙ at);
     caused = λ setup codes plan of fits. router.caused setup codes plan (less plan of) (fit setup codes plan _ fits);
     held = λ setup codes plan of fits.
         held_more old new more d setup plan (tale_of setup plan log) (router.held setup codes plan (less plan of) (fit setup codes plan _ fits));
@@ -322,6 +324,7 @@ forgets service old new admin log t roomy router less keeps = record {
   spoken = router.spoken;
   waited = router.waited;
   judged = router.judged;
+  noted = λ setup codes plan of fits c one at. router.noted setup codes plan of fits c one (less.noted c one at);
   caused = router.caused;
   held = λ setup codes plan of fits k dflt within on.
       let tale : Tale = tale_of setup plan log in

@@ -8,7 +8,7 @@ use Rattle.mx_wire.specs.Tells.{MayFollow}
 use Rattle.mx_wire.specs.declared.entry.Entry.{Entry}
 use Rattle.core_service.specs.Serves.{rules_in}
 use Rattle.core_service.specs.declared.service.Service.{Service}
-use Rattle.core_texts.specs.Texts.{key_at}
+use Rattle.core_texts.specs.Texts.{key_at, noted_at}
 use Rattle.core_texts.specs.declared.texts.Texts.{Texts}
 use Rattle.client_session.specs.Setups.{Setup as Serving}
 use Rattle.query_rules.specs.declared.rule.Rule.{Rule}
@@ -29,6 +29,7 @@ use Rattle.core_laws.specs.entry.Grows.{IsHeardMore, IsMoreBy}
 use Rattle.core_laws.specs.entry.Safe.{IsSafe}
 use Rattle.core_laws.specs.entry.Tells.{Fits, IsOf, ground}
 use Rattle.router_laws.proofs.OfDecisions.Causing.{caused_then}
+use Rattle.router_laws.proofs.OfDecisions.Noting.{taken_later}
 use Rattle.router_laws.proofs.OfDecisions.Held.{held_then}
 use Rattle.router_laws.proofs.OfDecisions.Judging.{judged_then}
 use Rattle.router_laws.proofs.OfDecisions.Administering.{administers_then, agreed}
@@ -46,6 +47,7 @@ use Rattle.core_promises.specs.Causes.{AreCaused, CausedBy}
 use Rattle.core_promises.specs.Judges.{AreJudged, JudgesBy}
 use Rattle.router_laws.specs.decisions.Held.{AreHeldBy, IsHeld}
 use Rattle.router_laws.specs.decisions.Judges.{JudgesThen}
+use Rattle.router_laws.specs.decisions.Noted.{AreNotedBy, message}
 use Rattle.router_laws.specs.decisions.Force.{rules_then}
 use Rattle.router_laws.specs.decisions.Speaks.{AreOurs}
 use Rattle.router_laws.specs.decisions.Deeds.{Counts, Deeds, among, counts_with, decided_with, known_with, no_counts}
@@ -148,6 +150,12 @@ module _ {texts : Texts} {was is : Administered} (service : Service) (log : Log)
       plan of (router.counted setup codes plan then fitted) (counts_now setup codes plan of fits) (rests_then setup codes plan of fits)
       (rests_now setup codes plan of fits) (router.held setup codes plan then fitted)
 
+  noted_now : AreNotedBy (noted_at texts) service.default_schema new (with_entry log e)
+  noted_now setup codes plan of fits =
+      let then : IsOf router.core.decided (length log) plan = of_then setup codes plan of fits in
+      let fitted : Fits router.core.decided.keys setup codes plan service.default_schema (tale_of setup plan log) = fits_then setup codes plan of fits in
+      λ c one at. taken_later setup plan log e (message c one.ordinal) one.by_ms (router.noted setup codes plan then fitted c one at)
+
   caused_now : CausedBy service.wait_ms service.default_schema new (with_entry log e)
   caused_now setup codes plan of fits =
       let then : IsOf router.core.decided (length log) plan = of_then setup codes plan of fits in
@@ -172,6 +180,7 @@ module _ {texts : Texts} {was is : Administered} (service : Service) (log : Log)
     waited = waited_now;
     judged = judged_now;
     held = held_now;
+    noted = noted_now;
     caused = caused_now;
   }
 
@@ -224,6 +233,7 @@ changed service log t now roomy room router rests open_just = record {
   waited = router.waited;
   judged = router.judged;
   held = router.held;
+  noted = router.noted;
   caused = router.caused;
 }
 
@@ -269,10 +279,11 @@ not_by_now None later = refl
 not_by_now (Some n) later = let more : 0 < n = later n refl in grind arith
 
 pub router_of_none : (service : Service) (texts : Texts) (admin : Administered) → IsFirst (rules_of service.configured) admin → (roomy : ClientNo → Bool) → service.loaded ≡ None → ((number : ℕ) → key_at texts number ≡ None)
+    → ((c : ClientNo) → noted_at texts c ≡ None)
     → ((setup : Setup) (codes : Codes) (plan : Plan) → plan.service ≡ service.setup → plan.room ≡ 1048576
     → ((c : ClientNo) → is_by_now 0 (plan.ends c) ≡ false) → Rests service.setup (first_ground setup codes plan) no_tables roomy)
     → IsRouter service texts admin [] no_tables roomy
-router_of_none service texts admin begins roomy unloaded none stands = record {
+router_of_none service texts admin begins roomy unloaded none unnoted stands = record {
   core = record {
     decided = first_deciding service.setup;
     rests = λ setup codes plan of fits.
@@ -297,5 +308,6 @@ router_of_none service texts admin begins roomy unloaded none stands = record {
   judged = λ setup codes plan of fits. All-nil (AreJudged (book_of service) (λ name. rules_in service) setup plan []);
   held = λ setup codes plan of fits.
       All-nil (λ (client : Client). is_some ((first_deciding service.setup).ends client.number) ≡ false → IsHeld (key_at texts) setup plan (tale_of setup plan []) client);
+  noted = λ setup codes plan of fits c one at. none_some (noted_at texts c) one (unnoted c) at;
   caused = λ setup codes plan of fits. All-nil (AreCaused service.wait_ms setup plan []);
 }

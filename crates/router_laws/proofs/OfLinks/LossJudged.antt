@@ -152,7 +152,7 @@ module _ {texts : Texts} {admin : Administered} (laws : Laws) (judges : FollowsJ
     takes = λ y seated. (tt, refl);
     gives = onward.sent laws service log t now roomy l how given None router follow so ours tells setup codes plan of fits;
     why = loss_why carried service.wait_ms setup codes plan router.core.decided log t l so.server so.there
-        ((onward.before laws service log t now roomy l how given None router follow so ours tells setup codes plan of fits).rests.stands.servers l) how given why;
+        ((onward.before laws service log t now roomy l how given None router follow so ours tells setup codes plan of fits).rests.stands.servers l) router.counts.taken how given why;
   }
   loses_judge (Some it) so ours tells ruled why since settled = λ setup codes plan of fits. record {
     states = one_state it.client admin end;
@@ -162,5 +162,5 @@ module _ {texts : Texts} {admin : Administered} (laws : Laws) (judges : FollowsJ
     takes = λ y seated. one_judges it so ours tells ruled since setup codes plan of fits y seated;
     gives = onward.sent laws service log t now roomy l how given (Some it) router follow so ours tells setup codes plan of fits;
     why = loss_why carried service.wait_ms setup codes plan router.core.decided log t l so.server so.there
-        ((onward.before laws service log t now roomy l how given (Some it) router follow so ours tells setup codes plan of fits).rests.stands.servers l) how given why;
+        ((onward.before laws service log t now roomy l how given (Some it) router follow so ours tells setup codes plan of fits).rests.stands.servers l) router.counts.taken how given why;
   }

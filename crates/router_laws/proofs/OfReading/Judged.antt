@@ -192,7 +192,7 @@ module _ {texts : Texts} {admin : Administered} (laws : Laws) (judges : FollowsJ
     gives = onward.sent laws service log t now roomy l bytes clock given None router follow bytes_are so ours setup codes plan of fits;
     why = heard_why carried service.wait_ms setup codes plan router.core.decided log t l so.server so.there
         ((onward.before laws service log t now roomy l bytes clock given None router follow bytes_are so ours setup codes plan of fits).rests.stands.servers l)
-        bytes given why;
+        router.counts.taken bytes given why;
   }
   hears_judge (Some it) so ours ruled why = λ setup codes plan of fits. record {
     states = one_state it.client admin end;
@@ -203,5 +203,5 @@ module _ {texts : Texts} {admin : Administered} (laws : Laws) (judges : FollowsJ
     gives = onward.sent laws service log t now roomy l bytes clock given (Some it) router follow bytes_are so ours setup codes plan of fits;
     why = heard_why carried service.wait_ms setup codes plan router.core.decided log t l so.server so.there
         ((onward.before laws service log t now roomy l bytes clock given (Some it) router follow bytes_are so ours setup codes plan of fits).rests.stands.servers l)
-        bytes given why;
+        router.counts.taken bytes given why;
   }

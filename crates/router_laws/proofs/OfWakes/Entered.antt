@@ -170,7 +170,9 @@ module _ {texts : Texts} {admin : Administered} (service : Service) (knows : Kno
     (may : MayFollow log e) (gives : GivesUpAll given t mid) (theirs : (c : ClientNo) → is_given given c ≡ true → is_called callers c ≡ true)
     (so_calls : CallsSo service.setup service.default_schema callers links mid now) (given_ours : All IsGivenOurs given)
     (ours : All (IsCallerOurs (rules_in service) texts) callers) (waits : WaitsThen service log e router.core.decided) (judges : TurnsJudge)
-    (caused : (setup : Setup) (plan : Plan) (c : ClientNo) (payload : List ℕ) → payload_in given c ≡ Some payload → IsCause service.wait_ms setup plan log e c payload)
+    (caused : (setup : Setup) (codes : Codes) (plan : Plan) → IsOf router.core.decided (length log) plan
+    → Fits router.core.decided.keys setup codes plan service.default_schema (tale_of setup plan log) → (c : ClientNo) (payload : List ℕ)
+    → payload_in given c ≡ Some payload → IsCause service.wait_ms setup plan log e (record { client = c; ordinal = router.counts.taken c }) payload)
     (is : Administered) (settled : admin.rules ≡ rules_in service)
     (ruled : AreRuledAll (ruling_of service texts.since (key_at texts) admin is) callers service.setup service.default_schema mid so_calls.turned so_calls.going)
     (since : AreHeldSince texts service.default_schema router.core.decided log)
@@ -514,7 +516,7 @@ module _ {texts : Texts} {admin : Administered} (service : Service) (knows : Kno
       forced = λ c some. settled;
       takes = judges_of;
       gives = all_sent service.setup g t given_of (λ (l : LinkId). false) stood.rests.stands given_up;
-      why = caused setup plan;
+      why = caused setup codes plan stood.of stood.fits;
     }
 
   judges_then : JudgesThen service log e d router.counts made admin is

@@ -300,5 +300,6 @@ router_settled laws service texts admin log t now roomy router by = record {
   waited = router.waited;
   judged = router.judged;
   held = router.held;
+  noted = router.noted;
   caused = router.caused;
 }

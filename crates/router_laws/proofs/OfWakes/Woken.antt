@@ -35,7 +35,9 @@ use Rattle.client_session.specs.Errors.{connection_refused}
 use Rattle.core_promises.specs.Causes.{IsLateCause}
 use Rattle.core_promises.specs.InForce.{has_administrator}
 use Rattle.router_laws.proofs.OfDecisions.Causing.{all_why}
+use Rattle.router_laws.proofs.OfDecisions.Noting.{late_why}
 use Rattle.router_laws.specs.decisions.Causes.{AreLate, AreRefused}
+use Rattle.router_laws.specs.decisions.Noted.{WasNoted}
 use Rattle.router_laws.specs.decisions.Plans.{HasDeeds, PlansSo}
 use Rattle.core_promises.specs.Administers.{Administered}
 use Rattle.router_laws.specs.decisions.Routers.{IsRouter, WaitsThen}
@@ -50,7 +52,7 @@ use Rattle.router_laws.specs.wakes.Calling.{Caller, is_called, is_given}
 use Rattle.router_laws.specs.wakes.Deciding.{IsCallerOurs, calls_deeds, payload_in}
 use Rattle.router_laws.specs.wakes.Waking.{FailsSo, WakesSo}
 use Rattle.core_texts.specs.declared.texts.Texts.{Texts}
-use Rattle.core_texts.specs.Texts.{key_at}
+use Rattle.core_texts.specs.Texts.{key_at, noted_at}
 
 woke_tells : (until_ms now_ms : ℕ) → IsOfNoLink (Woke until_ms now_ms)
 woke_tells until_ms now_ms = record {
@@ -164,16 +166,19 @@ module _ (service : Service) (given : List GivenUp) (callers : List Caller) (lin
     }
 
   pub woke_router : {texts : Texts} {admin : Administered} → Knows service.setup → (router : IsRouter service texts admin log t roomy) → MayFollow log e → All IsGivenOurs given
-      → AreLate service.wait_ms now_ms (has_administrator log) given
+      → AreLate service.wait_ms now_ms (has_administrator log) (noted_at texts) t given
       → All (IsCallerOurs (rules_in service) texts) callers → WaitsThen service log e router.core.decided → TurnsJudge
       → (is : Administered) → admin.rules ≡ rules_in service
       → AreRuledAll (ruling_of service texts.since (key_at texts) admin is) callers service.setup service.default_schema wakes.late wakes.calls.turned wakes.calls.going
       → AreHeldSince texts service.default_schema router.core.decided log
       → All (λ (k : Caller). TellsFor k.parting service.setup k.client) callers → IsRouter service texts is (with_entry log e) now room
-  woke_router knows router may given_ours late ours waits judges is settled ruled since tells =
+  woke_router {texts} {admin} knows router may given_ours late ours waits judges is settled ruled since tells =
       calls_router service knows log e (woke_tells until_ms now_ms) t wakes.late now roomy room given callers links router may wakes.gives wakes.all_given
       wakes.calls given_ours ours waits judges
-      (λ setup plan c payload is. all_why (IsLateCause service.wait_ms now_ms (has_administrator log)) given late c payload is) is settled ruled since tells woke_called
+      (λ setup codes plan of fits c payload told.
+      late_why service log t roomy router service.wait_ms now_ms (has_administrator log) setup codes plan of fits c payload
+      (all_why (λ x p. IsLateCause service.wait_ms now_ms (has_administrator log) (WasNoted (noted_at texts) t x) p) given late c payload told)) is settled
+      ruled since tells woke_called
 
 -- An open that failed.
 
@@ -224,4 +229,5 @@ module _ (service : Service) (given : List GivenUp) (callers : List Caller) (lin
   fails_router knows router may given_ours refused ours judges is settled ruled since tells =
       calls_router service knows log failed (fails_tells server address) t fails.late now roomy roomy given callers links router may fails.gives
       fails.all_given fails.calls given_ours ours (λ terms codes of fits. tt) judges
-      (λ setup plan c payload is. all_why (λ (p : List ℕ). p ≡ connection_refused) given refused c payload is) is settled ruled since tells fails_called
+      (λ setup codes plan of fits c payload told. all_why (λ (x : ClientNo) (p : List ℕ). p ≡ connection_refused) given refused c payload told) is settled
+      ruled since tells fails_called

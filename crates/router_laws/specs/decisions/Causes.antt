@@ -11,6 +11,7 @@ use Rattle.core_tables.specs.Tables.{Tabled}
 use Rattle.core_tables.specs.declared.server.Server.{Server}
 use Rattle.core_laws.specs.clients.Going.{GivenUp}
 use Rattle.core_promises.specs.Causes.{IsHeardCause, IsLateCause, IsLossCause}
+use Rattle.router_laws.specs.decisions.Noted.{Notes, WasNoted}
 
 -- the row of a link carries a session of this client
 abbrev pub carries_of : LinkId → Tabled → ClientNo → Bool
@@ -28,9 +29,10 @@ abbrev pub IsLostFor : LinkId → Tabled → Option GivenUp → Type 0
 IsLostFor l t None = Unit {0}
 IsLostFor l t (Some up) = IsLossCause (carries_of l t up.client) up.payload
 
--- at a wake
-abbrev pub AreLate : (wait_ms now_ms : ℕ) → (came : Bool) → List GivenUp → Type 0
-AreLate wait_ms now_ms came given = All (λ (up : GivenUp). IsLateCause wait_ms now_ms came up.payload) given
+-- at a wake, by what is noted
+abbrev pub AreLate : (wait_ms now_ms : ℕ) → (came : Bool) → Notes → Tabled → List GivenUp → Type 0
+AreLate wait_ms now_ms came notes t given =
+    All (λ (up : GivenUp). IsLateCause wait_ms now_ms came (WasNoted notes t up.client) up.payload) given
 
 -- where a link couldn't be opened
 abbrev pub AreRefused : List GivenUp → Type 0

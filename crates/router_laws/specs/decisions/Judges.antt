@@ -84,7 +84,8 @@ pub record IsJudgedThen (service : Service) (log : Log) (e : Entry) (n : Counts)
       → JudgedFrom (judging_by service (states client.number.0) (states (suc client.number.0))) setup plan client (takings_at setup plan (tale_of setup plan log) e) (n.taken client.number)
       (deeds.calls client.number) (deeds.halts client.number)
   pub gives : AreSent plan (tale_of setup plan log) (λ c. is_some (deeds.given c))
-  pub why : (c : ClientNo) (payload : List ℕ) → deeds.given c ≡ Some payload → IsCause service.wait_ms setup plan log e c payload
+  pub why : (c : ClientNo) (payload : List ℕ) → deeds.given c ≡ Some payload
+      → IsCause service.wait_ms setup plan log e (record { client = c; ordinal = n.taken c }) payload
 
 -- by each plan that has what is decided then, and fits
 abbrev pub JudgesThen : Service → Log → Entry → Decided → Counts → Deeds → (was is : Administered) → Type 0

@@ -7,7 +7,7 @@ use Rattle.mx_wire.specs.Moments.{AllLawful}
 use Rattle.mx_wire.specs.Tells.{MayFollow}
 use Rattle.mx_wire.specs.declared.entry.Entry.{Entry}
 use Rattle.core_service.specs.declared.service.Service.{Service}
-use Rattle.core_texts.specs.Texts.{key_at}
+use Rattle.core_texts.specs.Texts.{key_at, noted_at}
 use Rattle.core_texts.specs.declared.texts.Texts.{Texts}
 use Rattle.client_session.specs.Setups.{Setup as Serving}
 use Rattle.query_rules.specs.Passing.{rules_of}
@@ -33,6 +33,7 @@ use Rattle.core_promises.specs.Judges.{JudgesBy}
 use Rattle.core_promises.specs.Ruled.{book_of}
 use Rattle.router_laws.specs.decisions.Administering.{AdministersSoFar}
 use Rattle.router_laws.specs.decisions.Held.{AreHeldBy, AreHeldSince}
+use Rattle.router_laws.specs.decisions.Noted.{AreNotedBy}
 use Rattle.router_laws.specs.decisions.Speaks.{DecidesOwn}
 use Rattle.router_laws.specs.decisions.Plans.{AreUngiven, PlansSo}
 use Rattle.router_laws.specs.decisions.Records.{AreCountsBy, AreCountsOf, IsRecorded}
@@ -62,6 +63,7 @@ pub record IsRouter (service : Service) (texts : Texts) (admin : Administered) (
   pub waited : AreDoneBy service.default_schema core.decided log
   pub judged : JudgesBy (book_of service) rules service.default_schema core.decided log
   pub held : AreHeldBy (key_at texts) service.default_schema core.decided log
+  pub noted : AreNotedBy (noted_at texts) service.default_schema core.decided log
   pub caused : CausedBy service.wait_ms service.default_schema core.decided log
 
 -- as an entry goes on, by which texts came: those that clients may still name were kept before

@@ -1,13 +1,14 @@
 // The core with all that is carried from entry to entry.
 ghost use Rattle.std.specs.Prelude.{All, Bool, List, [], None, Some, length, true, ℕ, ◌≡◌};
-ghost use Rattle.mx_wire.specs.Log.{Log};
+ghost use Rattle.mx_wire.specs.Log.{Log, moment_of};
 ghost use Rattle.mx_wire.specs.Tells.{MayFollow};
 ghost use Rattle.mx_wire.specs.declared.entry.Entry.{Entry};
 ghost use Rattle.core_service.specs.Serves.{rules_in};
 ghost use Rattle.core_service.specs.declared.service.Service.{Service};
 ghost use Rattle.query_rules.specs.Passing.{rules_of};
 ghost use Rattle.query_rules.specs.declared.rules.Rules.{Rules};
-ghost use Rattle.core_texts.specs.Texts.{AreLess, AreMore, key_at};
+ghost use Rattle.core_texts.specs.Texts.{AreLess, AreMore, key_at, noted_at};
+ghost use Rattle.core_texts.specs.declared.noted.Noted.{Noted};
 ghost use Rattle.core_texts.specs.declared.texts.Texts.{Texts};
 ghost use Rattle.private_model.specs.Names.{ClientNo};
 ghost use Rattle.private_model.specs.View.{Setup};
@@ -25,6 +26,7 @@ ghost use Rattle.core_laws.specs.entry.Tells.{Fits, IsOf};
 ghost use Rattle.router_laws.specs.decisions.Deeds.{Counts, Deeds, decided_with};
 ghost use Rattle.router_laws.specs.decisions.Held.{KeepsTexts};
 ghost use Rattle.router_laws.specs.decisions.Judges.{JudgesThen};
+ghost use Rattle.router_laws.specs.decisions.Noted.{IsInWork, IsNotedOf};
 ghost use Rattle.router_laws.specs.decisions.Speaks.{AreOurs};
 ghost use Rattle.router_laws.specs.decisions.Records.{IsRecorded};
 ghost use Rattle.core_promises.specs.Administered.{IsFirst};
@@ -35,7 +37,8 @@ ghost use Rattle.router_laws.specs.decisions.Routers.{AreOpenJust, GoesSoBy, IsB
 pub fn first_router()
     ensures { (service : Service) (texts : Texts) (admin : Administered) → IsFirst (rules_of service.configured) admin
         → (roomy : ClientNo → Bool) → service.loaded ≡ None
-        → ((number : ℕ) → key_at texts number ≡ None) → IsRouter service texts admin [] no_tables roomy }
+        → ((number : ℕ) → key_at texts number ≡ None) → ((c : ClientNo) → noted_at texts c ≡ None)
+        → IsRouter service texts admin [] no_tables roomy }
 {
     core_stands::first_stands();
 }
@@ -96,4 +99,11 @@ pub fn routers_learn()
         → IsRouter service old admin log t roomy → AreMore old new → IsRouter service new admin log t roomy }
     ensures less { (service : Service) (old new : Texts) (admin : Administered) (log : Log) (t : Tabled) (roomy : ClientNo → Bool)
         → IsRouter service old admin log t roomy → AreLess old new → KeepsTexts old new t → IsRouter service new admin log t roomy }
+{}
+
+/// It stays one as it is noted of a message in work that by now it had been taken up.
+pub fn routers_note()
+    ensures { (service : Service) (old new : Texts) (admin : Administered) (log : Log) (t : Tabled) (roomy : ClientNo → Bool) (c : ClientNo) (one : Noted)
+        → IsRouter service old admin log t roomy → IsNotedOf c one old new → IsInWork c one.ordinal t → one.by_ms ≡ moment_of log
+        → IsRouter service new admin log t roomy }
 {}

@@ -7,7 +7,7 @@ ghost use Rattle.mx_wire.specs.Tells.{MayFollow};
 ghost use Rattle.mx_wire.specs.declared.entry.Entry.TheVariants.{OpenFailed, Woke};
 ghost use Rattle.core_service.specs.Serves.{rules_in};
 ghost use Rattle.core_service.specs.declared.service.Service.{Service};
-ghost use Rattle.core_texts.specs.Texts.{key_at};
+ghost use Rattle.core_texts.specs.Texts.{key_at, noted_at};
 ghost use Rattle.core_texts.specs.declared.texts.Texts.{Texts};
 ghost use Rattle.private_model.specs.Names.{ClientNo, LinkId};
 ghost use Rattle.core_tables.specs.Tables.{Tabled};
@@ -32,7 +32,7 @@ pub fn wakes_router()
         (callers : List Caller) (links : List LinkId) (until_ms now_ms : ℕ) → (router : IsRouter service texts admin log t roomy)
         → MayFollow log (Woke until_ms now_ms) → IsDrainedFor t log
         → (wakes : WakesSo service.setup service.default_schema given callers links roomy t now) → All IsGivenOurs given
-        → AreLate service.wait_ms now_ms (has_administrator log) given
+        → AreLate service.wait_ms now_ms (has_administrator log) (noted_at texts) t given
         → All (IsCallerOurs (rules_in service) texts) callers
         → AreRuledAll (ruling_of service texts.since (key_at texts) admin is) callers service.setup service.default_schema wakes.late wakes.calls.turned wakes.calls.going
         → AreHeldSince texts service.default_schema router.core.decided log

@@ -4,11 +4,11 @@ use Rattle.shared_core.proofs.Keeping.{keeps_along, keeps_still}
 use Rattle.shared_core.proofs.router.Router.gives_late.Goals as goal
 
 pub loop-up-init : goal.loop-up-init
-loop-up-init c = record { gives = none_given c.args.wait_ms c.args.now_ms c.args.came _ (tables c.args.self.now); keeps = keeps_still _ }
+loop-up-init c = record { gives = none_given c.args.wait_ms c.args.now_ms c.args.came _ _ (tables c.args.self.now); keeps = keeps_still _ }
 
 pub loop-up-preserved : goal.loop-up-preserved
 loop-up-preserved c = record {
-  gives = given_along c.args.wait_ms c.args.now_ms c.args.came _ _ _ _ _ _ c.loop-up.invariant.gives c.in_ok-gives_one.ensures.gives;
+  gives = given_along c.args.wait_ms c.args.now_ms c.args.came _ _ _ _ _ _ _ _ c.loop-up.invariant.keeps.texts.noted c.loop-up.invariant.gives c.in_ok-gives_one.ensures.gives;
   keeps = keeps_along _ _ _ c.in_ok-gives_one.ensures.keeps c.loop-up.invariant.keeps;
 }
 

@@ -20,9 +20,10 @@ returns-clause-stands c = λ service serves unloaded.
       closing = None;
       acting = true;
       until = 0;
-      clock = 0;
       stopped = false;
-    }) c.in_ok-new.ensures.tables refl c.new-2.ensures.none (rules_staged c.args.config.now service c.in_ok-admin_of.field-0.staged.rules serves c.in_ok-admin_of.ensures.staged)
+      fresh = c.new-5.result;
+    }) c.in_ok-new.ensures.tables refl c.new-2.ensures.none c.new-2.ensures.unnoted
+    (rules_staged c.args.config.now service c.in_ok-admin_of.field-0.staged.rules serves c.in_ok-admin_of.ensures.staged)
     c.in_ok-admin_of.ensures.unloaded unloaded
 
 pub returns-clause-known : goal.returns-clause-known

@@ -14,7 +14,7 @@ returns-clause-carries c = λ service sent is.
     carries_along service (entry.Wrote c.args.link sent.tag (take c.args.n sent.bytes)) c.args.self.now
     (record c.args.self.now { marked = c.wrote_on-began.new.self }) c.went_out.new.self
     (wrote_carries c.writes_router.ensures service c.args.link c.args.n c.args.self.now (record c.args.self.now { marked = c.wrote_on-began.new.self })
-    refl refl refl refl c.requires.there c.requires.may c.args.self.now.clock c.wrote_on-began.ensures.is sent is)
+    refl refl refl refl c.requires.there c.requires.may c.args.self.now.came.clock c.wrote_on-began.ensures.is sent is)
     (settles_stands c.settling_stands.ensures.router service (record c.args.self.now { marked = c.wrote_on-began.new.self }) c.went_out.new.self
     c.went_out.ensures.settles)
 
