@@ -10,7 +10,8 @@ use Rattle.session_vars.specs.declared.change.SlotValue.TheVariants.{Default, Te
 use Rattle.session_vars.specs.declared.slot.Slot.{Slot}
 use Rattle.session_vars.specs.declared.slot.Slot.TheVariants.{Names, CharacterSetResults, CollationConnection}
 
-same_value_is : (a b : SlotValue) → same_value a b ≡ true → a ≡ b
+-- values that are the same are equal
+pub same_value_is : (a b : SlotValue) → same_value a b ≡ true → a ≡ b
 same_value_is Default Default h = refl
 same_value_is Default (Text b) h = absurd (cc)
 same_value_is (Text a) Default h = absurd (cc)

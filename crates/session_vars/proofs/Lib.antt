@@ -25,4 +25,5 @@ pub mod ReadAgain
 pub mod Rules
 pub mod Settable
 pub mod Sizes
+pub mod Unchanged
 pub mod Unnamed

@@ -17,6 +17,21 @@ fn same_value(a: &SlotValue, b: &SlotValue) -> bool
     }
 }
 
+// Whether the values are the same.
+fn are_same(from: &[SlotValue], to: &[SlotValue]) -> bool
+    ensures { IsTrue result → from.now ≡ to.now }
+{
+    if from.len() != to.len() {
+        return false;
+    }
+    for place in 0..from.len() {
+        if !same_value(&from[place], &to[place]) {
+            return false;
+        }
+    }
+    true
+}
+
 fn differs(from: &Settings, to: &Settings, slot: Slot) -> bool
     ensures { result ≡ differs from.now to.now slot }
 {
@@ -86,6 +101,9 @@ pub fn difference(alloc: Global, from: &Settings, to: &Settings) -> Result<Chang
     ensures { IfOk result (λ changes. changes ≡ difference_of from.now to.now) }
 {
     let mut changes = Changes::new(alloc);
+    if are_same(from.kept(), to.kept()) {
+        return Ok(changes);
+    }
     for slot in &Slot::ALL {
         push_change(alloc, &mut changes, from, to, *slot)?;
     }

@@ -88,6 +88,13 @@ impl Settings {
         value_in(self.values.as_slice(), slot.place(), &self.otherwise)
     }
 
+    // The values that are kept.
+    pub(crate) fn kept(&self) -> &[SlotValue]
+        ensures { padded result.now ≡ self.now }
+    {
+        self.values.as_slice()
+    }
+
     /// A copy.
     #[tactic(auto, using(crate::proofs::Padded::padded_length))]
     pub fn copy(&self) -> Result<Self, OutOfMemory>
