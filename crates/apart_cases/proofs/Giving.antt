@@ -1,10 +1,9 @@
 -- What is given up in the worked log of router_cases has its cause.
-use Rattle.std.specs.Prelude.{◌≡◌, ℕ, suc, Bool, true, false, List, [], ◌∷◌, ◌++◌, Option, Some, None, if◌then◌else◌, refl, slice_index_or}
+use Rattle.std.specs.Prelude.{◌≡◌, ℕ, suc, Bool, true, false, [], ◌∷◌, ◌++◌, Option, Some, None, if◌then◌else◌, refl, slice_index_or}
 use Rattle.std.proofs.Common.{subst, inr}
 use Rattle.client_session.specs.Errors.{connection_refused}
 use Rattle.mx_base.specs.declared.names.Port.TheVariants.{Admin, Traffic}
 use Rattle.mx_base.specs.declared.tag.Tag.TheVariants.{Reply as ReplyTag}
-use Rattle.mx_wire.specs.Log.{Log}
 use Rattle.mx_wire.specs.declared.entry.Entry.TheVariants.{AcceptNothing, Got, NoneNamed, OpenFailed, ReadNothing, Woke, Wrote}
 use Rattle.packet_frame.specs.Packets.{spelling}
 use Rattle.private_model.specs.Names.{MessageName}
@@ -15,6 +14,7 @@ use Rattle.log_story.specs.Tale.{Client}
 use Rattle.router_cases.specs.Worked.{Stored, comes, fourth_part, here, link, log, message, never, plan, proxy, query, second_part, server, terms_with, third_part}
 use Rattle.router_promises.specs.Terms.{setup_in, tale_at}
 use Rattle.core_promises.specs.Causes.{GivesUpSo, HasCause}
+use Rattle.core_promises.specs.Endings.{EndsForCauses}
 
 abbrev refused : OwnAnswer
 refused = record { from = 8; payloads = connection_refused ∷ [] }
@@ -46,3 +46,11 @@ pub gives-worked : (stored : Stored) → GivesUpSo (terms_with stored) log
 gives-worked stored = λ i dflt within k answer taken own by_now.
     let client : Client = slice_index_or (tale_at (terms_with stored) log).clients i dflt in
     inr (cause-of stored (name_of client (suc k)) (is_message (name_of client (suc k)) (message 1 1)) answer own)
+
+-- nobody ends there
+
+no-end : {A : Type 0} (at : ℕ) → ◌≡◌ {A = Option ℕ} None (Some at) → A
+no-end at is = absurd (cc)
+
+pub ends-worked : (stored : Stored) → EndsForCauses (terms_with stored) log
+ends-worked stored = λ i dflt within at ended by_now. no-end at ended

@@ -2,6 +2,7 @@
 ghost use Rattle.std.specs.Prelude.{List, length};
 ghost use Rattle.core_promises.specs.Asks.{CopiesNothing};
 ghost use Rattle.core_promises.specs.Causes.{GivesUpSo};
+ghost use Rattle.core_promises.specs.Endings.{EndsForCauses};
 ghost use Rattle.core_promises.specs.Administered.{Administers, outcomes_at};
 ghost use Rattle.private_model.specs.Names.{MessageName};
 ghost use Rattle.query_rules.specs.declared.rule.Rule.{Rule};
@@ -18,13 +19,13 @@ ghost use Rattle.router_promises.specs.Terms.{Terms, plan_in, setup_in};
 use promise_tests::kept_by_test;
 use router_promises::said_log;
 
-/// A log that keeps the whole promise keeps this one, where the router speaks its own words, gives up for a cause, waits only with all done, and does with each message
+/// A log that keeps the whole promise keeps this one, where the router speaks its own words, gives up and ends clients for a cause, waits only with all done, and does with each message
 /// what the verdict says that serves no prepared statements, and sends none to two servers.
 pub fn kept_is_apart()
     ensures { (terms : Terms) (log : Log) → Keeps terms log
         → (rules : MessageName → List Rule) → Administers (outcomes_at rules (plan_in terms) (length log)) (setup_in terms) (plan_in terms) terms.router.rules log
         → SpeaksOwn rules (plan_in terms)
-        → GivesUpSo terms log → AllLawful (WaitsSo terms) log → JudgesSo terms rules log
+        → GivesUpSo terms log → EndsForCauses terms log → AllLawful (WaitsSo terms) log → JudgesSo terms rules log
         → CopiesNothing (plan_in terms) → KeepsApart terms log }
 {
     said_log();

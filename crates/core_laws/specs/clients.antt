@@ -1,4 +1,5 @@
 pub mod Turns
+pub mod Refusals
 pub mod Found
 pub mod Chosen
 pub mod Speaks

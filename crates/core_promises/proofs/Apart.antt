@@ -1,9 +1,9 @@
 -- The tables that stand for a log as a core keep its clients apart.
-use Rattle.std.specs.Prelude.{◌≡◌, All, ℕ, Bool, List, [], ◌∷◌, length, slice_index_or, Option, Some, None, unwrap_or}
+use Rattle.std.specs.Prelude.{◌≡◌, ℕ, Bool, List, [], ◌∷◌, length, slice_index_or, Option, Some, None, unwrap_or}
 use Rattle.std.proofs.Common.{refl, sym, ap, ◌∙◌}
 use Rattle.std.proofs.lemmas.Option.{none-some}
 use Rattle.session_vars.specs.Settings.{collation_settings, defaults}
-use Rattle.client_session.specs.Answers.{account, opening_of}
+use Rattle.client_session.specs.Answers.{opening_of}
 use Rattle.client_side.specs.Login.{Fails, Opening, Says, Waits}
 use Rattle.handshake.specs.declared.response.Response.{Response}
 use Rattle.mx_wire.specs.Log.{Log}
@@ -11,7 +11,6 @@ use Rattle.mx_wire.specs.Moments.{AllLawful, moment-last}
 use Rattle.mx_wire.specs.Tells.{Fits as FitsLog}
 use Rattle.client_seat.specs.Seats as seats
 use Rattle.server_rule.specs.Servers.{no_capabilities}
-use Rattle.server_side.specs.Account.{Account as Login}
 use Rattle.private_model.specs.Names.{ClientNo, MessageName, ServerId}
 use Rattle.private_model.specs.Story.{Key}
 use Rattle.private_model.specs.View.{Setup}
@@ -19,7 +18,7 @@ use Rattle.link_laws.specs.Stands.{Codes}
 use Rattle.row_laws.specs.Readied.{AreClasses}
 use Rattle.log_story.specs.Headline.{tale_of}
 use Rattle.log_story.specs.Owed.{talk_of}
-use Rattle.log_story.specs.Plan.{LastWord, Plan, Route}
+use Rattle.log_story.specs.Plan.{Plan, Route}
 use Rattle.log_story.specs.Tale.{Client}
 use Rattle.tale_world.proofs.Agreeing.{agrees-itself}
 use Rattle.tale_world.specs.Decided.{Decided, plan_of}
@@ -39,6 +38,7 @@ use Rattle.core_promises.specs.Waits.{AreDoneBy}
 use Rattle.core_promises.proofs.Verdicts.{asks-by}
 use Rattle.core_promises.proofs.Past.{lawful_at}
 use Rattle.core_promises.proofs.Who.{decided_by, terms_by, who_at}
+use Rattle.core_promises.specs.Endings.{EndedBy}
 
 -- a key is its own number
 abbrev its_key : Codes
@@ -85,6 +85,7 @@ module _ (router : Router) (log : Log) (t : Tabled) (roomy : ClientNo → Bool)
     (administers : AdministersBy rules router.proxy.default_schema core.decided router.rules log)
     (judges : JudgesBy (rulebook_of router) rules router.proxy.default_schema core.decided log) (speaks : SpeaksOwn rules (plan_of core.decided))
     (caused : CausedBy router.proxy.wait_ms router.proxy.default_schema core.decided log)
+    (ended : EndedBy router.proxy.buffer_budget router.proxy.default_schema core.decided log)
     (waited : AreDoneBy router.proxy.default_schema core.decided log)
     (fits : AllLawful FitsLog log) where
   abbrev plan : Plan
@@ -136,6 +137,7 @@ module _ (router : Router) (log : Log) (t : Tabled) (roomy : ClientNo → Bool)
           judges = judged;
           speaks = speaks;
           gives = caused (setup_in terms) its_key plan (itself core.decided (length log)) fitting;
+          ends = ended (setup_in terms) its_key plan (itself core.decided (length log)) fitting;
           waits = waited terms its_key (itself core.decided (length log)) fitting;
         }
 

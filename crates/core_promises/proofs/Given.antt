@@ -1,11 +1,11 @@
 -- What a router that keeps its clients apart gives up for.
-use Rattle.std.specs.Prelude.{◌≡◌, ◌⊎◌, ◌<◌, ◌≤◌, ◌+◌, ◌++◌, ℕ, zero, suc, Bool, true, false, length, slice_index_or, List, [], ◌∷◌, Option, Some, None}
+use Rattle.std.specs.Prelude.{◌≡◌, ◌⊎◌, ◌<◌, ◌≤◌, ◌+◌, ◌++◌, ℕ, suc, Bool, true, false, length, slice_index_or, List, [], ◌∷◌, Option, Some, None}
 use Rattle.std.proofs.Common.{refl, sym, ap, ◌∙◌, subst, arith, inl, inr, length-append}
 use Rattle.client_session.specs.Errors.{bad_server_bytes, connection_lost, connection_refused}
 use Rattle.mx_wire.specs.Log.{Log, moment_of}
 use Rattle.mx_wire.specs.declared.entry.Entry.{Entry}
 use Rattle.mx_wire.specs.declared.entry.Entry.TheVariants as entry
-use Rattle.private_model.specs.Names.{ClientNo, LinkId, MessageName}
+use Rattle.private_model.specs.Names.{MessageName}
 use Rattle.private_model.specs.View.{Setup}
 use Rattle.log_story.specs.Headline.{tale_of}
 use Rattle.log_story.specs.Owed.{name_of}
@@ -15,7 +15,7 @@ use Rattle.router_promises.proofs.Refusals.{at-index, never}
 use Rattle.router_promises.specs.Errors.{no_connection, replay_refused, server_shutdown}
 use Rattle.router_promises.specs.Now.{is_gone}
 use Rattle.router_promises.specs.Terms.{Terms, plan_in, setup_in, tale_at}
-use Rattle.core_promises.specs.Causes.{AreCaused, BadBytes, HasCause, HeldUp, IsCause, IsHeardCause, IsLateCause, IsLossCause, IsToldAtOnce, LinkLost, LoginBroken, LoginRefused, ShutDown, StepRefused, WaitedTooLong, WasTakenUp, is_carried, is_taken_up, may_give_up}
+use Rattle.core_promises.specs.Causes.{AreCaused, BadBytes, HasCause, HeldUp, IsCause, IsHeardCause, IsLateCause, IsLossCause, IsToldAtOnce, LinkLost, LoginBroken, LoginRefused, ShutDown, StepRefused, WaitedTooLong, WasTakenUp, is_taken_up, may_give_up}
 use Rattle.core_promises.specs.Wrong.{AnswersAtOnce, IsGivenUp}
 
 -- Two ways to cut a log at the same place are one.
@@ -26,7 +26,7 @@ one-entry a b xs ys is = cc
 one-log : (a b : Entry) (xs ys : Log) → ◌≡◌ {A = Log} (a ∷ xs) (b ∷ ys) → xs ≡ ys
 one-log a b xs ys is = cc
 
-same-cut : (xs ys : Log) (a b : Entry) (later more : Log) → length xs ≡ length ys → xs ++ a ∷ later ≡ ys ++ b ∷ more → (xs ≡ ys) × (a ≡ b)
+pub same-cut : (xs ys : Log) (a b : Entry) (later more : Log) → length xs ≡ length ys → xs ++ a ∷ later ≡ ys ++ b ∷ more → (xs ≡ ys) × (a ≡ b)
 same-cut [] [] a b later more long is = (refl, one-entry a b later more is)
 same-cut [] (y ∷ ys) a b later more long is = absurd (omega (arith, long))
 same-cut (x ∷ xs) [] a b later more long is = absurd (omega (arith, long))

@@ -4,6 +4,7 @@ pub mod Past
 pub mod Who
 pub mod Apart
 pub mod Given
+pub mod Ended
 pub mod Done
 pub mod Texts
 pub mod Verdicts

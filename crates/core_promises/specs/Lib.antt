@@ -6,6 +6,7 @@ pub mod Administered
 pub mod Judges
 pub mod Ruled
 pub mod Causes
+pub mod Endings
 pub mod Waits
 pub mod Sessions
 pub mod Wrong

@@ -3,6 +3,7 @@ use Rattle.std.specs.Prelude.{◌≡◌, ◌<◌, ◌≤◌, ℕ, is_some, nat_l
 use Rattle.std.specs.Option.{option_and_then, option_map}
 use Rattle.mx_base.specs.declared.names.ClientNo.{ClientNo}
 use Rattle.pin_classifier.specs.Classes.{class_of}
+use Rattle.client_session.specs.Answers.{is_quit}
 use Rattle.client_session.specs.Setups.{Setup}
 use Rattle.client_desk.specs.Desks.{session_of}
 use Rattle.client_desk.specs.declared.desk.Desk.{Desk}
@@ -15,7 +16,7 @@ use Rattle.core_service.specs.declared.service.Service.{Service}
 use Rattle.core_tables.specs.Tables.{Tabled}
 use Rattle.core_tables.specs.declared.client.Client.{Client}
 use Rattle.core_laws.specs.clients.Found.{desk_up, user_in}
-use Rattle.core_laws.specs.clients.Turns.{Answers, Choice, Goes, Halt, IsTurn, Turns}
+use Rattle.core_laws.specs.clients.Turns.{Answers, Choice, Goes, Halt, HaltsSo, IsTurn, Quits, Turns}
 use Rattle.router_promises.specs.Statements.{are_types}
 use Rattle.message_judge.specs.declared.caller.Prepared.{Prepared}
 use Rattle.core_promises.specs.Administers.{Administered, Makes}
@@ -114,9 +115,15 @@ IsRuled ruling (Answers payloads) setup default c old new turn =
     → IsChoiceFor (Answers payloads) ruling.book (situation_up ruling.keys setup default turn.up.row) ruling.keys c turn.up.message.payload)
     × Makes (desk_up setup default turn.up.row).seat.port turn.up.message.payload (Some payloads) ruling.was ruling.is
 
+-- who quits says so
+abbrev pub SaysItQuits : (halt : Halt) → (setup : Setup) → (default : List ℕ) → (c : ClientNo) → (old new : Tabled)
+    → HaltsSo halt setup default c old new → Type 0
+SaysItQuits Quits setup default c old new there = is_quit there.up.message.payload ≡ true
+SaysItQuits _ setup default c old new there = Unit {0}
+
 abbrev pub AreRuled : Ruling → (choices : List Choice) → (halt : Halt) → (setup : Setup) → (default : List ℕ) → (c : ClientNo) → (old new : Tabled)
     → Turns choices halt setup default c old new → Type 0
-AreRuled ruling [] halt setup default c old new turns = MakesNothing ruling
+AreRuled ruling [] halt setup default c old new turns = SaysItQuits halt setup default c old new turns × MakesNothing ruling
 AreRuled ruling (choice ∷ others) halt setup default c old new turns =
     (then : Administered)
     × (IsRuled (until ruling then) choice setup default c old turns.0 turns.1

@@ -10,6 +10,7 @@ use Rattle.query_rules.specs.declared.rule.Rule.{Rule}
 use Rattle.own_words.specs.Own.{SpeaksOwn}
 use Rattle.core_promises.specs.Asks.{AsksSo, CopiesNothing}
 use Rattle.core_promises.specs.Causes.{GivesUpSo}
+use Rattle.core_promises.specs.Endings.{EndsForCauses}
 use Rattle.core_promises.specs.Administered.{Administers, outcomes_at}
 use Rattle.core_promises.specs.Judges.{JudgesSo}
 use Rattle.core_promises.specs.Waits.{WaitsSo}
@@ -23,7 +24,7 @@ use Rattle.router_promises.specs.Terms.{AreWhoTheySay, Decided, IsRouters, Terms
 -- is in; and each client's bytes are a front of what it is due. What a server is asked for a client is the client's own text, or what the rules
 -- make of it. What becomes of each message is what the verdict says, by the rules in force before its entry: those of the configuration, or that an
 -- administrator loaded last; and each administrator is answered by the rows that administrators staged. What the router says by itself are its own words, whatever it decided; and
--- a statement is given up for a cause. At each wait all is done but lending.
+-- a statement is given up for a cause, and a client ends for one. At each wait all is done but lending.
 pub record KeepsApart (terms : Terms) (log : Log) : Type 0 where
   pub router : IsRouters terms
   pub fits : AllLawful Fits log
@@ -38,6 +39,7 @@ pub record KeepsApart (terms : Terms) (log : Log) : Type 0 where
   pub judges : JudgesSo terms rules log
   pub speaks : SpeaksOwn rules (plan_in terms)
   pub gives : GivesUpSo terms log
+  pub ends : EndsForCauses terms log
   pub waits : AllLawful (WaitsSo terms) log
 
 -- All by one decision for the whole log, whatever servers have stored.

@@ -21,6 +21,7 @@ use Rattle.router_promises.specs.Wakes.{has_ended}
 use Rattle.router_promises.specs.Wrong.{IsWait}
 use Rattle.router_promises.specs.Takings.{Taking}
 use Rattle.message_judge.specs.declared.caller.Prepared.{Prepared}
+use Rattle.core_promises.specs.Endings.{has_said_its_end}
 use Rattle.core_promises.specs.Judges.{IsTransaction, Rulebook, Situation, WasTaken, book_for, rulebook_of, situation_of}
 use Rattle.core_promises.specs.Sessions.{KeepsApart}
 
@@ -72,6 +73,17 @@ pub record IsGivenUp (terms : Terms) (before : Log) (e : Entry) (client : Client
   pub count : ℕ
   pub taken : count < client.taken
   pub own : (plan_in terms).own (name_of client (suc count)) ≡ Some (record { from = suc (length before); payloads = payload ∷ [] })
+
+-- A client ended at an entry behind these, which had said nothing that ends it, and has no last word.
+pub record IsEnded (terms : Terms) (before : Log) (e : Entry) (client : Client) : Type 0 where
+  pub more : Log
+  pub keeps : KeepsApart terms (before ++ e ∷ more)
+  pub place : ℕ
+  pub within : place < length (tale_at terms (before ++ e ∷ more)).clients
+  pub is : slice_index_or (tale_at terms (before ++ e ∷ more)).clients place client ≡ client
+  pub ends : (plan_in terms).ends client.number ≡ Some (suc (length before))
+  pub silent : has_said_its_end (plan_in terms) (tale_at terms (before ++ e ∷ [])) client.number ≡ false
+  pub wordless : (plan_in terms).words client.number ≡ None
 
 -- A message of this client goes to a server, and is answered by the router as it is taken up.
 pub record AnswersAtOnce (terms : Terms) (log : Log) (client : Client) : Type 0 where

@@ -3,6 +3,7 @@
 
 mod administering;
 mod asking;
+mod ending;
 mod giving;
 mod judging;
 mod sessions;
@@ -13,6 +14,9 @@ pub use administering::{
     shows_what_wasnt_staged, stages_what_it_refused,
 };
 pub use asking::{asks_other_texts, copies_a_message, rewrites_without_rules};
+pub use ending::{
+    ends_at_any_time, ends_for_anothers_bytes, ends_whom_it_serves, ends_with_anothers_link,
+};
 pub use giving::{
     answers_what_it_sends, gives_up_at_any_time, gives_up_for_anothers_link, gives_up_too_soon,
     gives_up_without_a_loss,

@@ -3,6 +3,7 @@ ghost use Rattle.std.specs.Prelude.{◌≡◌, Bool, List, None, Some};
 ghost use Rattle.core_tables.specs.Tables.{Tabled};
 ghost use Rattle.core_promises.specs.Sessions.{KeepsApart, Separates};
 ghost use Rattle.core_promises.specs.Causes.{CausedBy};
+ghost use Rattle.core_promises.specs.Endings.{EndedBy};
 ghost use Rattle.core_promises.specs.Administered.{AdministersBy};
 ghost use Rattle.core_promises.specs.Judges.{JudgesBy, rulebook_of};
 ghost use Rattle.core_promises.specs.Waits.{AreDoneBy};
@@ -27,7 +28,7 @@ ghost use Rattle.server_rule.specs.Servers.{Step, Tests};
 use log_story::written_is_private;
 
 /// Where tables stand for a log of a wire, as a core by what a router serves, no message goes to two servers, what becomes of each is what the
-/// verdict says by the rules in force, each administrator is answered by what is staged, what was decided to be said are the router's own words, what is given up has a cause, and at each wait all was done but lending,
+/// verdict says by the rules in force, each administrator is answered by what is staged, what was decided to be said are the router's own words, what is given up has a cause, and so has the end of each client, and at each wait all was done but lending,
 /// the router keeps its clients apart in that log.
 pub fn cores_keep_apart()
     ensures { (router : Router) (log : Log) (t : Tabled) (roomy : ClientNo → Bool)
@@ -36,6 +37,7 @@ pub fn cores_keep_apart()
         → (rules : MessageName → List Rule) → AdministersBy rules router.proxy.default_schema core.decided router.rules log
         → JudgesBy (rulebook_of router) rules router.proxy.default_schema core.decided log → SpeaksOwn rules (plan_of core.decided)
         → CausedBy router.proxy.wait_ms router.proxy.default_schema core.decided log
+        → EndedBy router.proxy.buffer_budget router.proxy.default_schema core.decided log
         → AreDoneBy router.proxy.default_schema core.decided log
         → AllLawful Fits log → Separates router log }
 {}

@@ -62,5 +62,6 @@ pub record ServesBy (config : Config) (service : Service) : Type 0 where
   pub homes : (user : List ℕ) → home_in service.users user ≡ home_by config.users user
   pub hostgroups : service.hostgroups ≡ hostgroups_of config.servers
   pub wait_ms : service.wait_ms ≡ config.proxy.wait_ms
+  pub buffer_budget : service.buffer_budget ≡ config.proxy.buffer_budget
   pub rules : IsInOrder config.rules (rows_of service.configured)
   pub patterns : All IsCompiled (rules_of service.configured)

@@ -13,6 +13,7 @@ use Rattle.admin_port.specs.declared.running.Running.{Running}
 use Rattle.admin_port.specs.declared.statement.StagedTable.TheVariants.{Rules, Servers}
 use Rattle.admin_port.specs.declared.command.AdminCommand.{AdminCommand}
 use Rattle.admin_port.specs.declared.command.AdminCommand.TheVariants.{Query, Ping, Quit, Malformed, Unknown}
+use Rattle.client_session.specs.Answers.{is_quit}
 use Rattle.own_words.specs.Own as own
 use Rattle.own_words.specs.Own.{IsOwnAnswer}
 use Rattle.core_laws.specs.taking.Takes.{is_reset}
@@ -22,10 +23,11 @@ use Rattle.core_tables.specs.declared.client.Client.{Client}
 use Rattle.core_promises.specs.Administers.{Administered, Forces, IsAdminAnswer, IsCommandAnswer, IsStatementAnswer, Makes}
 use Rattle.core_promises.specs.Judges.{IsToldAt, IsToldFor, Rulebook}
 use Rattle.core_promises.specs.Ruled.{Ruling, situation_at}
+use Rattle.core_turns.proofs.Turning.{still-same}
 use Rattle.core_turns.proofs.Ups.{on-up}
 use Rattle.core_turns.specs.Administering.{CarriesOut, IsWrittenAs, administered}
 use Rattle.core_turns.specs.declared.administrator.Administrator.{Administrator}
-use Rattle.core_turns.specs.Taken.{IsAnswered as IsTold, Keys, OnUp}
+use Rattle.core_turns.specs.Taken.{IsAnswered as IsTold, IsQuit, Keys, OnUp}
 
 -- A statement is answered by what is staged, and what it wants is carried out.
 
@@ -67,8 +69,15 @@ byte-of : (payload : List ℕ) → slice_get payload 0 ≡ Some 1 → slice_inde
 byte-of [] is = absurd (let e = is in cc)
 byte-of (byte ∷ payload) is = let e : Some byte ≡ Some 1 = is in cc
 
-pub quits-only : (message : Framed) → slice_get message.payload 0 ≡ Some 1 → is_reset message ≡ false
+quits-only : (message : Framed) → slice_get message.payload 0 ≡ Some 1 → is_reset message ≡ false
 quits-only message is = subst (λ (byte : ℕ). nat_eq byte 31 ≡ false) (sym (byte-of message.payload is)) refl
+
+says-quit : (payload : List ℕ) → slice_get payload 0 ≡ Some 1 → is_quit payload ≡ true
+says-quit [] is = absurd (let e = is in cc)
+says-quit (byte ∷ payload) is = subst (λ (b : ℕ). is_quit (b ∷ payload) ≡ true) (sym (byte-of (byte ∷ payload) is)) refl
+
+pub quits-at : (message : Framed) (t : Tabled) → slice_get message.payload 0 ≡ Some 1 → IsQuit message t t
+quits-at message t is = record { quits_only = quits-only message is; says = says-quit message.payload is; same = still-same t }
 
 -- It is told what was written.
 

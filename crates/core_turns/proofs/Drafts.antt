@@ -31,7 +31,7 @@ use Rattle.message_judge.specs.declared.caller.Prepared.{Prepared}
 use Rattle.message_judge.specs.declared.caller.Standing.{Standing}
 use Rattle.message_judge.proofs.Commands.{Faulty, IsRead, Whole, numbered-some, reads, split}
 use Rattle.core_promises.specs.Statements.{number_named}
-use Rattle.core_turns.specs.Judged.{IsExecute, IsNoReset, IsPlain, byte_of, is_whole}
+use Rattle.core_turns.specs.Judged.{IsExecute, IsPlain, SaysQuit, byte_of, is_whole}
 
 -- A query, or a text that is prepared under the next number; or what has no text.
 
@@ -56,7 +56,7 @@ IsSentSo caller standing None payload class wanted = IsOwnSo standing.next_numbe
 IsSentSo caller standing (Some known) payload class wanted = IsRunSo caller known payload wanted
 
 abbrev pub IsSo : Caller → Standing → Option Prepared → (payload : List ℕ) → judging.Draft → Type 0
-IsSo caller standing prepared payload judging.Ends = IsNoReset payload
+IsSo caller standing prepared payload judging.Ends = SaysQuit payload
 IsSo caller standing prepared payload (judging.Answers payloads) = Unit {0}
 IsSo caller standing prepared payload (judging.Sends class wanted) = IsSentSo caller standing prepared payload class wanted
 
@@ -176,7 +176,7 @@ module _ (rules : List Rule) (caller : Caller) (standing : Standing) where
   own-so : (payload : List ℕ) → so None payload (judging.judged router_reads rules caller standing None payload).draft
   own-so [] = tt
   own-so (byte ∷ rest) =
-      split byte verdicts.com_quit (λ is. moved is refl)
+      split byte verdicts.com_quit (λ is. moved is (refl, refl))
       (λ quit. split byte com_init_db (λ is. moved is (inl refl, refl, refl, refl))
       (λ init. split byte com_query (λ is. moved is (asked-so rest))
       (λ query. split byte com_field_list (λ is. moved is (inr refl, refl, refl, refl))

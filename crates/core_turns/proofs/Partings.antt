@@ -172,15 +172,16 @@ LeavesBy (stops.Quits flag) c now new = leaving.Quits flag c now new
 module _ (service : Service) (default : List ℕ) (c : ClientNo) where
   pub leaves-so : (ruling : Ruling) (stop : Stop) (choices : List Choice) (old now new : Tabled) → LeavesBy stop c now new
       → TurnsUntil ruling choices (halt_of stop) service default c old now → RuledTurns ruling choices (halt_of stop) service default c old new
+  unfolding quits-so
   leaves-so ruling stop (choice ∷ others) old now new leaves is =
       let rest : RuledTurns (from ruling is.1) others (halt_of stop) service default c is.0 new =
       leaves-so (from ruling is.1) stop others is.0 now new leaves is.2.1 in
       ((is.0, is.2.0.0, rest.0), (is.1, (is.2.0.1, rest.1)))
   leaves-so ruling stops.Waits [] old now new leaves is =
-      (record { row = is.0.row; there = is.0.there; waits = is.0.waits; same = both-same leaves is.0.same }, is.1)
-  leaves-so ruling stops.Rests [] old now new leaves is = (record { row = is.0.row; looks = is.0.looks; same = both-same leaves is.0.same }, is.1)
-  leaves-so ruling stops.Ends [] old now new leaves is = (ends-so service default c old now new is.0 leaves, is.1)
-  leaves-so ruling (stops.Quits flag) [] old now new leaves is = (quits-so service default c flag old now new is.0 leaves, is.1)
+      (record { row = is.0.row; there = is.0.there; waits = is.0.waits; same = both-same leaves is.0.same }, (tt, is.1))
+  leaves-so ruling stops.Rests [] old now new leaves is = (record { row = is.0.row; looks = is.0.looks; same = both-same leaves is.0.same }, (tt, is.1))
+  leaves-so ruling stops.Ends [] old now new leaves is = (ends-so service default c old now new is.0 leaves, (tt, is.1))
+  leaves-so ruling (stops.Quits flag) [] old now new leaves is = (quits-so service default c flag old now new is.0 leaves, (is.0.says, is.1))
 
   -- a message is up where it quits
   pub may-leave : (ruling : Ruling) (stop : Stop) (choices : List Choice) (old now : Tabled) → TurnsUntil ruling choices (halt_of stop) service default c old now

@@ -23,7 +23,7 @@ use Rattle.message_judge.specs.declared.draft.Going.{Going}
 use Rattle.message_judge.specs.declared.told.OwnError.{OwnError}
 use Rattle.message_judge.specs.declared.told.Told.{Told}
 use Rattle.core_promises.specs.Judges.{IsVerdictFor, Rulebook, Situation}
-use Rattle.core_turns.specs.Judged.{IsAsPromised, IsDraftFor, IsNoReset, IsOwnVerdict, IsVerdictOn, goes_with, route_by, sent_by, sent_own, sent_text}
+use Rattle.core_turns.specs.Judged.{IsAsPromised, IsDraftFor, IsOwnVerdict, IsVerdictOn, SaysQuit, goes_with, route_by, sent_by, sent_own, sent_text}
 use Rattle.core_turns.specs.Preparing.{prepared_of}
 use Rattle.core_turns.specs.declared.judged.Named.{Named}
 use Rattle.core_turns.proofs.Drafts.{IsOwnSo, IsRunSo, IsSo, judged-so}
@@ -114,7 +114,7 @@ module _ (book : Rulebook) (situation : Situation) (next : Option ℕ) (c : Clie
   draft-so = subst (IsSo by.caller by.standing prepared payload) (sym by.is) (judged-so book.rules by.caller by.standing situation.statements payload prepared by.named)
 
 pub quits-so : (book : Rulebook) (situation : Situation) (next : Option ℕ) (c : ClientNo) (payload : List ℕ) (prepared : Option Prepared)
-    → IsDraftFor book situation next c payload prepared drafts.Ends → IsNoReset payload
+    → IsDraftFor book situation next c payload prepared drafts.Ends → SaysQuit payload
 quits-so book situation next c payload prepared by = draft-so book situation next c payload prepared drafts.Ends by
 
 pub answers-so : (book : Rulebook) (situation : Situation) (next : Option ℕ) (c : ClientNo) (payload : List ℕ) (prepared : Option Prepared) (told : Told)

@@ -84,6 +84,7 @@ module _ (service : Service) (default : List ℕ) (c : ClientNo) (old between : 
         up = record { row = row; ordinal = ordinal; looks = looks; same = both-same is.0.same same; message = message; found = found };
         past_login = past;
         quits_only = is.0.quits_only;
+        says = is.0.says;
         lives = able.able.lives;
       },
       is.1,

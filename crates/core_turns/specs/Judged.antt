@@ -21,6 +21,7 @@ use Rattle.link_laws.specs.Stands.{IsForm}
 use Rattle.desk_laws.specs.Stands.{is_text, kind_of}
 use Rattle.row_laws.specs.Readied.{AreClasses}
 use Rattle.client_seat.specs.Requests.{Says, text_in}
+use Rattle.client_session.specs.Answers.{is_quit}
 use Rattle.router_promises.specs.Statements.{execute_size}
 use Rattle.router_promises.specs.Verdicts.{Goes, Tells, Verdict as Promised, unplaced}
 use Rattle.message_judge.specs.Drafts.{draft_of}
@@ -90,9 +91,13 @@ IsExecute known payload = (nat_eq (byte_of payload) com_execute ≡ true) × (is
 abbrev pub IsNoReset : (payload : List ℕ) → Type 0
 IsNoReset payload = nat_eq (byte_of payload) com_reset ≡ false
 
+-- and says that it quits
+abbrev pub SaysQuit : (payload : List ℕ) → Type 0
+SaysQuit payload = IsNoReset payload × (is_quit payload ≡ true)
+
 -- where it names this
 abbrev pub IsVerdictOn : Option Named → (payload : List ℕ) → Verdict → Type 0
-IsVerdictOn named payload verdicts.Quits = IsNoReset payload
+IsVerdictOn named payload verdicts.Quits = SaysQuit payload
 IsVerdictOn named payload (verdicts.Answers told) = Unit {0}
 IsVerdictOn named payload (verdicts.Sends hostgroup text multiplex form) = IsSendable payload text form
 IsVerdictOn named payload (verdicts.Prepares hostgroup text multiplex class) = (nat_eq (byte_of payload) com_prepare ≡ true) × (class ≡ class_of text)

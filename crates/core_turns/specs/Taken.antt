@@ -10,6 +10,7 @@ use Rattle.private_model.specs.Story.{Due, Key}
 use Rattle.private_model.specs.View.{Setup}
 use Rattle.run_laws.specs.Reads.{HasArgs}
 use Rattle.log_story.specs.Plan.{Route}
+use Rattle.client_session.specs.Answers.{is_quit}
 use Rattle.client_desk.specs.declared.work.Work.{Work}
 use Rattle.stmt_map.specs.declared.client.ClientStatements.{ClientStatements}
 use Rattle.desk_laws.specs.Stands.{IsRequest}
@@ -89,6 +90,7 @@ pub record IsDueThere (hostgroup : Hostgroup) (ordinal : ℕ) (ruling : Ruling) 
 
 pub record IsQuit (message : Framed) (old new : Tabled) : Type 0 where
   pub quits_only : is_reset message ≡ false
+  pub says : is_quit message.payload ≡ true
   pub same : IsSame new old
 
 abbrev pub IsStopped : Stop → Framed → (old new : Tabled) → Type 0

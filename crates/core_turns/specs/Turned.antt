@@ -5,6 +5,7 @@ use Rattle.std.specs.Option.{option_map_or}
 use Rattle.mx_base.specs.declared.names.ClientNo.{ClientNo}
 use Rattle.mx_base.specs.declared.names.Hostgroup.{Hostgroup}
 use Rattle.own_words.specs.Own.{IsOwnAnswer}
+use Rattle.client_session.specs.Answers.{is_quit}
 use Rattle.client_session.specs.Setups.{Setup as Service}
 use Rattle.client_side.specs.declared.stage.Stage.TheVariants.{Commands}
 use Rattle.client_seat.specs.Seats.{is_ended}
@@ -62,6 +63,7 @@ pub record IsToQuit (service : Service) (default : List ℕ) (c : ClientNo) (old
   pub up : ComesUp service default c old new
   pub past_login : (turn service default up.row.desk.seat).client.stage ≡ Commands
   pub quits_only : is_reset up.message ≡ false
+  pub says : is_quit up.message.payload ≡ true
   pub lives : MayLeave up.row
 
 abbrev pub StopsSo : Halt → Service → (default : List ℕ) → ClientNo → (old new : Tabled) → Type 0

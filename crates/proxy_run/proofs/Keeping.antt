@@ -10,6 +10,7 @@ use Rattle.query_rules.specs.declared.rule.Rule.{Rule}
 use Rattle.tale_world.specs.Decided.{Decided, plan_of}
 use Rattle.core_promises.proofs.Apart.{apart}
 use Rattle.core_promises.specs.Causes.{CausedBy}
+use Rattle.core_promises.specs.Endings.{EndedBy}
 use Rattle.core_promises.specs.Sessions.{ServesApart}
 use Rattle.core_promises.specs.Judges.{JudgesBy, Rulebook, rulebook_of}
 use Rattle.core_promises.specs.Ruled.{book_of}
@@ -75,7 +76,7 @@ book-is : (config : Config) (service : Service) → ServesBy config service
 book-is config service by = λ i. record { rules = rules_of service.configured; home = λ user. by.homes user i; hostgroups = by.hostgroups i }
 
 -- what a router of a log has, by how clients log in, the default schema, and what messages are judged by
-record Served (setup : Setup) (wait_ms : ℕ) (default : List ℕ) (book : Rulebook) (log : Log) (t : Tabled) (roomy : ClientNo → Bool) : Type 0 where
+record Served (setup : Setup) (wait_ms budget : ℕ) (default : List ℕ) (book : Rulebook) (log : Log) (t : Tabled) (roomy : ClientNo → Bool) : Type 0 where
   rules : MessageName → List Rule
   core : IsCore setup default log t roomy
   single : (m : MessageName) (route : Route) → core.decided.routes m ≡ Some (Some route) → route.mirror ≡ None
@@ -83,6 +84,7 @@ record Served (setup : Setup) (wait_ms : ℕ) (default : List ℕ) (book : Ruleb
   judges : JudgesBy book rules default core.decided log
   speaks : SpeaksOwn rules (plan_of core.decided)
   caused : CausedBy wait_ms default core.decided log
+  ended : EndedBy budget default core.decided log
   waited : AreDoneBy default core.decided log
 
 -- what was decided to be said are the router's own words
@@ -96,7 +98,7 @@ speaks_so rules d spoken = record { own = λ m answer is. own m answer (d.own m)
 
 served_by : (service : Service) (texts : Texts) (admin : Administered) (log : Log) (t : Tabled) (roomy : ClientNo → Bool)
     → IsRouter service texts admin log t roomy
-    → Served service.setup service.wait_ms service.default_schema (record (book_of service) { rules = rules_of service.configured }) log t roomy
+    → Served service.setup service.wait_ms service.buffer_budget service.default_schema (record (book_of service) { rules = rules_of service.configured }) log t roomy
 served_by service texts admin log t roomy is = record {
   core = is.core;
   rules = is.rules;
@@ -111,6 +113,7 @@ served_by service texts admin log t roomy is = record {
   judges = is.judged;
   speaks = speaks_so is.rules is.core.decided is.spoken;
   caused = is.caused;
+  ended = is.ended;
   waited = is.waited;
 }
 
@@ -118,15 +121,15 @@ apart_of : (config : Config) (service : Service) (texts : Texts) (admin : Admini
     → IsRouter service texts admin log t roomy → ServesApart config log
 apart_of config service texts admin log t roomy by stands =
     let router : Router = router_by config service in
-    let kept : Served service.setup service.wait_ms service.default_schema (rulebook_of router) log t roomy =
-    subst (λ (book : Rulebook). Served service.setup service.wait_ms service.default_schema book log t roomy) (book-is config service by)
+    let kept : Served service.setup service.wait_ms service.buffer_budget service.default_schema (rulebook_of router) log t roomy =
+    subst (λ (book : Rulebook). Served service.setup service.wait_ms service.buffer_budget service.default_schema book log t roomy) (book-is config service by)
     (served_by service texts admin log t roomy stands) in
-    let is : Served (service_of router) config.proxy.wait_ms config.proxy.default_schema (rulebook_of router) log t roomy =
-    rw (by.setup, by.wait_ms, by.default_schema) at kept in
+    let is : Served (service_of router) config.proxy.wait_ms config.proxy.buffer_budget config.proxy.default_schema (rulebook_of router) log t roomy =
+    rw (by.setup, by.wait_ms, by.buffer_budget, by.default_schema) at kept in
     record {
       router = router;
       configured = configured_by config service by;
-      separates = apart router log t roomy is.core classes is.single is.rules is.administers is.judges is.speaks is.caused is.waited (fits-of log stands.lawful);
+      separates = apart router log t roomy is.core classes is.single is.rules is.administers is.judges is.speaks is.caused is.ended is.waited (fits-of log stands.lawful);
     }
 
 -- what is loaded is none of the configuration's
@@ -139,6 +142,7 @@ loaded-by config core by = record {
   homes = by.homes;
   hostgroups = by.hostgroups;
   wait_ms = by.wait_ms;
+  buffer_budget = by.buffer_budget;
   rules = by.rules;
   patterns = by.patterns;
 }

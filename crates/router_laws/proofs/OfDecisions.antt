@@ -17,6 +17,7 @@ pub mod Forcing
 pub mod Holding
 pub mod Held
 pub mod Causing
+pub mod Ending
 pub mod AsTold
 pub mod KeptOn
 pub mod Noting

@@ -4,6 +4,7 @@ pub mod Plans
 pub mod Links
 pub mod Counting
 pub mod Speaks
+pub mod Partings
 pub mod Judges
 pub mod Noted
 pub mod Causes

@@ -1,6 +1,7 @@
 use Rattle.shared_core.proofs.Clients.{settled_rules}
 -- Statements are given up and clients are called: what the router makes of that carries it over the entry.
 use Rattle.std.specs.Prelude.{◌≡◌, ◌<◌, ◌||◌, ℕ, Bool, true, false, All, is_some, map, nat_eq, not, if◌then◌else◌, List, [], ◌∷◌, ◌++◌, Option, Some, None}
+use Rattle.std.specs.BTreeSet.{BTreeSet, IsEmpty}
 use Rattle.std.specs.Option.{option_map}
 use Rattle.std.proofs.Common.{refl, sym, ap, ◌∙◌, subst}
 use Rattle.std.proofs.lemmas.Bool.{true≢false}
@@ -34,6 +35,7 @@ use Rattle.core_promises.specs.InForce.{has_administrator}
 use Rattle.core_promises.specs.Ruled.{ruling_of}
 use Rattle.router_laws.specs.decisions.Causes.{AreLate, AreRefused}
 use Rattle.router_laws.specs.decisions.Noted.{Notes, WasNoted}
+use Rattle.router_laws.specs.decisions.Partings.{AreNotOusted, AreOusted}
 use Rattle.router_laws.specs.decisions.Rulings.{AreRuledAll}
 use Rattle.router_laws.specs.decisions.Speaks.{IsGivenOurs}
 use Rattle.router_laws.specs.waits.Drained.{IsDrainedFor}
@@ -47,13 +49,14 @@ use Rattle.core_promises.specs.Administers.{Administered}
 use Rattle.shared_core.proofs.Causing.{late_before, late_more, late_noted, refused_by}
 use Rattle.shared_core.proofs.Coming.{come_as, come_awake}
 use Rattle.shared_core.specs.Causes.{given_with, is_refused}
-use Rattle.shared_core.specs.Follows.{AreRising, HasAnswered, HaveFollowed, Made, is_of, made_by}
+use Rattle.shared_core.specs.Follows.{AreRising, HasAnswered, HaveFollowed, IsOut, Made, is_of, made_by}
 use Rattle.shared_core.specs.Stands.{Carries, CarriesWhere, IsSettled, is_roomy, tables, work_of, worked}
 use Rattle.shared_core.specs.Wakes.{AreCalled, HasFailed, HasWoken, HaveGivenUp, IsWaiting}
 use Rattle.shared_core.specs.declared.roomy.Roomy.{Roomy}
 use Rattle.shared_core.specs.declared.router.Router.{Router}
 use Rattle.shared_core.proofs.Carrying.{carries_since, none_come}
 use Rattle.shared_core.proofs.Goings.{called-so}
+use Rattle.shared_core.proofs.Partings.{all-still, not-ousted, one-still, ousted-more, ousted-so}
 use Rattle.shared_core.proofs.Numbers.{or_by, or_first, there_by}
 use Rattle.shared_core.proofs.Rooming.{or_true}
 use Rattle.shared_core.proofs.Tabling.{tables_are}
@@ -66,16 +69,10 @@ going_row payload None = refl
 
 going_still : (c : ClientNo) (payload : List ℕ) (old new : Tabled) → IsSame new (given_up c payload old) → (d : ClientNo)
     → is_going (new.clients d) ≡ is_going (old.clients d)
-going_still c payload old new same d = ap is_going (same.clients d) ∙ by (nat_eq c.0 d.0) refl where
-  by : (b : Bool) → nat_eq c.0 d.0 ≡ b
-      → is_going (if b then option_map (given_row (Some payload)) (old.clients c) else old.clients d) ≡ is_going (old.clients d)
-  by true is = going_row payload (old.clients c) ∙ ap (λ (n : ClientNo). is_going (old.clients n)) (client_of c d is)
-  by false is = refl
+going_still = one-still is_going going_row
 
 all_going : (given : List GivenUp) (old new : Tabled) → GivesUpAll given old new → (d : ClientNo) → is_going (new.clients d) ≡ is_going (old.clients d)
-all_going [] old new same d = ap is_going (same.clients d)
-all_going (up ∷ others) old new gives d =
-    all_going others gives.0 new gives.2 d ∙ going_still up.client up.payload old gives.0 gives.1.same d
+all_going = all-still is_going going_row
 
 -- Whose statements are given up.
 
@@ -167,16 +164,18 @@ given_since wait_ms now_ms came notes first roomy called old new more given = re
   kept = λ c has. given.kept c (more c has);
 }
 
-pub have_woken : (service : Service) (before : Texts) (made : Made) (now_ms : ℕ) (came : Bool) (roomy called : Roomy) (clients : List ClientNo)
-    (old mid new : Tabled) → AreMore before made.texts → HaveGivenUp service.wait_ms now_ms came (noted_at before) roomy called old mid
-    → AreCalled called clients mid → HaveFollowed service made clients mid new → HasWoken service made now_ms came roomy old new
-have_woken service before made now_ms came roomy called clients old mid new more given are followed = record {
+pub have_woken : (service : Service) (ending : BTreeSet ℕ) (before : Texts) (made : Made) (now_ms : ℕ) (came still : Bool) (roomy called : Roomy)
+    (clients : List ClientNo) (old mid new : Tabled) → still ≡ came → AreMore before made.texts
+    → HaveGivenUp service.wait_ms now_ms came (noted_at before) roomy called old mid → AreCalled called clients mid
+    → HaveFollowed service made (IsOut ending still mid) clients mid new → HasWoken service made now_ms came roomy old new
+have_woken service ending before made now_ms came still roomy called clients old mid new same more given are followed = record {
   given = given.given;
   callers = followed.callers;
   links = followed.links;
   given_ours = given.ours;
   late = late_noted service.wait_ms now_ms came (noted_at before) (noted_at made.texts) old more.noted given.given given.late;
   ours = followed.ours;
+  parted = ousted-so service.buffer_budget ending still came same given.given old mid given.gives followed.callers followed.why;
   so = record {
     late = mid;
     gives = given.gives;
@@ -196,6 +195,7 @@ none_fails service made nothing t = record {
   given_ours = All-nil _;
   refused = All-nil _;
   ours = All-nil _;
+  parted = All-nil _;
   so = record {
     late = t;
     gives = same_itself t;
@@ -217,15 +217,17 @@ none_fails service made nothing t = record {
   ruled = nothing;
 }
 
-pub one_fails : (service : Service) (made : Made) (up : GiveUp) (old mid new : Tabled) → is_refused up.why ≡ true → IsWaiting up.client old
-    → HasAnswered up.client up.why old mid → HaveFollowed service made (up.client ∷ []) mid new → HasFailed service made old new
-one_fails service made up old mid new refused waiting answered followed = record {
+pub one_fails : (service : Service) (made : Made) (ending : BTreeSet ℕ) (came : Bool) (up : GiveUp) (old mid new : Tabled) → IsEmpty ending
+    → is_refused up.why ≡ true → IsWaiting up.client old → HasAnswered up.client up.why old mid
+    → HaveFollowed service made (IsOut ending came mid) (up.client ∷ []) mid new → HasFailed service made old new
+one_fails service made ending came up old mid new empty refused waiting answered followed = record {
   given = given_with up ∷ [];
   callers = followed.callers;
   links = followed.links;
   given_ours = all_one up answered;
   refused = alone_so (λ (one : GivenUp). one.payload ≡ connection_refused) (given_with up) (refused_by up.why refused);
   ours = followed.ours;
+  parted = not-ousted service.buffer_budget ending came mid empty followed.callers followed.why;
   so = record {
     late = mid;
     gives = (mid, record { late = waiting.unsent; same = answered.same }, same_itself mid);
@@ -253,7 +255,7 @@ abbrev pub Fails : Type 0
 Fails = (service : Service) (texts : Texts) (admin is : Administered) (log : Log) (t now : Tabled) (roomy : ClientNo → Bool) (given : List GivenUp)
     (callers : List Caller) (links : List LinkId) (server : ServerId) (address : Address) → (router : IsRouter service texts admin log t roomy)
     → MayFollow log (OpenFailed server address) → (fails : FailsSo service.setup service.default_schema given callers links t now) → All IsGivenOurs given → AreRefused given
-    → All (IsCallerOurs (rules_in service) texts) callers
+    → All (IsCallerOurs (rules_in service) texts) callers → AreNotOusted service.buffer_budget callers
     → AreRuledAll (ruling_of service texts.since (key_at texts) admin is) callers service.setup service.default_schema fails.late fails.calls.turned fails.calls.going
     → AreHeldSince texts service.default_schema router.core.decided log
     → admin.rules ≡ rules_in service → IsRouter service texts is (with_entry log (OpenFailed server address)) now roomy
@@ -264,14 +266,14 @@ pub fails_carries : Fails → (service : Service) (server : ServerId) (old new :
 fails_carries law service server old new failed roomy came more begun address loaded =
     carries_since service old new roomy came more begun (OpenFailed server address) (refl, λ moment. refl) (λ log may is.
     law service new.texts (worked service (work_of old)) (worked service (work_of new)) log (tables old) (tables new) (is_roomy old.roomy) failed.given failed.callers failed.links server address
-    is.router may failed.so failed.given_ours failed.refused failed.ours failed.ruled is.since (settled_rules service old loaded))
+    is.router may failed.so failed.given_ours failed.refused failed.ours failed.parted failed.ruled is.since (settled_rules service old loaded))
 
 abbrev pub Wakes : Type 0
 Wakes = (service : Service) (texts : Texts) (admin is : Administered) (log : Log) (t now : Tabled) (roomy room : ClientNo → Bool) (given : List GivenUp)
     (callers : List Caller) (links : List LinkId) (until_ms now_ms : ℕ) → (router : IsRouter service texts admin log t roomy) → MayFollow log (Woke until_ms now_ms)
     → IsDrainedFor t log → (wakes : WakesSo service.setup service.default_schema given callers links roomy t now) → All IsGivenOurs given
     → AreLate service.wait_ms now_ms (has_administrator log) (noted_at texts) t given
-    → All (IsCallerOurs (rules_in service) texts) callers
+    → All (IsCallerOurs (rules_in service) texts) callers → AreOusted service.buffer_budget (has_administrator log) t callers
     → AreRuledAll (ruling_of service texts.since (key_at texts) admin is) callers service.setup service.default_schema wakes.late wakes.calls.turned wakes.calls.going
     → AreHeldSince texts service.default_schema router.core.decided log
     → admin.rules ≡ rules_in service → IsRouter service texts is (with_entry log (Woke until_ms now_ms)) now room
@@ -284,7 +286,9 @@ wakes_carries law service now_ms old new woken came more begun until_ms loaded l
   router = law service new.texts (worked service (work_of old)) (worked service (work_of new)) log (tables old) (tables new) (is_roomy old.roomy) (is_roomy new.roomy) woken.given woken.callers
       woken.links until_ms now_ms learnt.router may drained woken.so woken.given_ours
       (late_more service.wait_ms now_ms old.came.administrator (has_administrator log) (noted_at new.texts) (tables old) stands.counted.administrator
-      woken.given woken.late) woken.ours woken.ruled learnt.since (settled_rules service old loaded);
+      woken.given woken.late) woken.ours
+      (ousted-more service.buffer_budget old.came.administrator (has_administrator log) (tables old) stands.counted.administrator woken.callers
+      woken.parted) woken.ruled learnt.since (settled_rules service old loaded);
   counted = come_as (with_entry log (Woke until_ms now_ms)) (record old.came { clock = now_ms }) new.came came
       (come_awake log old.came until_ms now_ms stands.counted);
 }

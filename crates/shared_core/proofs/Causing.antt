@@ -169,7 +169,7 @@ its_own : (name : Option SessionName) (c : ClientNo) (t : Tabled) → IsFor name
 its_own None c t for = refl
 its_own (Some n) c t for = sym (ap (is_client c) (sym for) ∙ same_number c.0)
 
-carries_so : (link : LinkId) (name : Option SessionName) (t heard : Tabled) (c : ClientNo) → name ≡ carried_at (t.links link) → IsFor name c heard
+pub carries_so : (link : LinkId) (name : Option SessionName) (t heard : Tabled) (c : ClientNo) → name ≡ carried_at (t.links link) → IsFor name c heard
     → is_some name ≡ carries_of link t c
 carries_so link name t heard c named for =
     its_own name c heard for ∙ ap (λ (o : Option SessionName). option_map_or (λ (n : SessionName). is_client c n.client) o false) named

@@ -34,6 +34,7 @@ use Rattle.router_laws.specs.clients.Speaks.{IsLinkOf, next_ordinal}
 use Rattle.router_laws.specs.wakes.Calling as calling
 use Rattle.core_texts.specs.declared.texts.Texts.{Texts}
 use Rattle.shared_core.specs.Clients.{HasLeftAtOnce, HasLeftGoing, HasRow, HasSpoken, IsBusy}
+use Rattle.shared_core.proofs.Partings.{part-weaker}
 use Rattle.shared_core.specs.Follows.{HasFollowed, HasGone, Made, is_of}
 use Rattle.shared_core.specs.Rows.{HasLives}
 
@@ -69,6 +70,7 @@ spoken service made link bytes c t heard new hears follows row its going =
       links = followed.links;
       ours = followed.ours;
       word = followed.word;
+      parted = part-weaker service.buffer_budget (false ≡ true) ⊥ (λ no. true≢false (sym no)) followed.parting followed.why;
       so = record {
         row = row;
         its = its;

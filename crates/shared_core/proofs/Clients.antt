@@ -40,6 +40,7 @@ use Rattle.router_laws.specs.clients.Plans.{nobody}
 use Rattle.router_laws.specs.clients.Speaks.{IsLinkOf, SpeaksSo}
 use Rattle.router_laws.specs.entering.Rooms.{OthersLack}
 use Rattle.core_promises.specs.Ruled.{AreRuled, ruling_of}
+use Rattle.router_laws.specs.decisions.Partings.{IsPartedFor}
 use Rattle.router_laws.specs.decisions.Speaks.{IsOurs, IsPartingOurs}
 use Rattle.router_laws.specs.decisions.Held.{AreHeldSince}
 use Rattle.router_laws.specs.decisions.Routers.{IsLearned, IsRouter}
@@ -79,7 +80,7 @@ Speaks = (service : Service) (texts : Texts) (admin is : Administered) (log : Lo
     (c : ClientNo) (ordinal : ℕ) (choices : List Choice) (halt : Halt) (parting : Parting) (links : List LinkId)
     → (router : IsRouter service texts admin log t roomy) → MayFollow log (entry.Got link bytes)
     → (so : SpeaksSo service.setup service.default_schema link bytes c ordinal choices halt parting links t now)
-    → All (IsOurs (rules_in service) texts c) choices → IsPartingOurs parting
+    → All (IsOurs (rules_in service) texts c) choices → IsPartingOurs parting → IsPartedFor service.buffer_budget ⊥ parting
     → OthersLack c roomy room
     → AreRuled (ruling_of service texts.since (key_at texts) admin is) choices halt service.setup service.default_schema c so.heard so.follows.turned so.follows.turns
     → AreHeldSince texts service.default_schema router.core.decided log
@@ -280,7 +281,7 @@ speaks_carry service link bytes c old new law aside numbered keeps begun spoken 
     spoken read.0 (record { numbered = numbered; there = read.1 }) read.2 in
     kept_stands service (entry.Got link bytes) old new keeps (refl, λ moment. refl) log stood.counted
     (law service new.texts (worked service (work_of old)) (worked service (work_of new)) log (tables old) (tables new) (is_roomy old.roomy) (is_roomy old.roomy) link bytes c spoke.ordinal spoke.choices
-    spoke.halt spoke.parting spoke.links since.router may spoke.so spoke.ours spoke.word (λ other apart full. full) spoke.ruled since.since
+    spoke.halt spoke.parting spoke.links since.router may spoke.so spoke.ours spoke.word spoke.parted (λ other apart full. full) spoke.ruled since.since
     (settled_rules service old loaded))
 
 -- A link is lost.

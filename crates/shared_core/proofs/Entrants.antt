@@ -192,5 +192,6 @@ router_still service texts admin log t roomy c row there at router = record {
   held = router.held;
   noted = router.noted;
   caused = router.caused;
+  ended = router.ended;
   known = router.known;
 }

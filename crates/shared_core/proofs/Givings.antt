@@ -1,5 +1,5 @@
 -- Statements are given up, and who is called by a link goes on.
-use Rattle.std.specs.Prelude.{◌≡◌, ℕ, Bool, true, false, ◌⊎◌, nat_eq, if◌then◌else◌, IfSome, List, Option, Some, None}
+use Rattle.std.specs.Prelude.{◌≡◌, ℕ, Bool, true, false, ◌⊎◌, is_some, nat_eq, if◌then◌else◌, IfSome, List, Option, Some, None}
 use Rattle.std.specs.Option.{option_and_then, option_map}
 use Rattle.std.proofs.Common.{◌∙◌, ap, inl, inr, refl, subst, sym}
 use Rattle.mx_base.specs.declared.names.ClientNo.{ClientNo}
@@ -23,6 +23,7 @@ use Rattle.router_laws.specs.reading.Givings.{IsLentBut, MayBeGivenUp, if_lent}
 use Rattle.router_laws.specs.links.Loses.{IsGivenUpWith}
 use Rattle.router_laws.specs.wakes.Calling.{IsUnsent}
 use Rattle.core_texts.specs.declared.texts.Texts.{Texts}
+use Rattle.shared_core.proofs.Partings.{going-by, part-weaker}
 use Rattle.shared_core.proofs.Tabling.{same_by, tables_are}
 use Rattle.shared_core.specs.Causes.{given_with}
 use Rattle.shared_core.specs.Follows.{HasAnswered, HasCalled, HasFollowed, HasGiven, IsFor, Made, called_by, told_client, up_client}
@@ -142,11 +143,8 @@ nobody-called service made nothing name given told t none same for = record {
   ours = tt;
   goes = record { clients = λ c. refl; numbers = λ l. refl; links = λ l. refl };
   ruled = nothing;
+  why = tt;
 }
-
-going-by : (b : Bool) (c client : ClientNo) → Some client ≡ (if b then Some c else None) → (b ≡ true) × (client ≡ c)
-going-by true c client is = (refl, let e = is in cc)
-going-by false c client is = absurd (let e = is in cc)
 
 -- who is called goes on
 pub called-goes : (name : Option SessionName) (given : Option GiveUp) (t : Tabled) (client : ClientNo)
@@ -163,10 +161,10 @@ called-goes None (Some up) t client is for =
     subst P (sym same) for
 
 pub one-called : (service : Service) (made : Made) (name : Option SessionName) (given : Option GiveUp) (told : Option GivenUp) (old new : Tabled) (client : ClientNo)
-    (ends : Bool) → Some client ≡ called_by name (up_client given) old
+    (ends : Bool) → (ends ≡ true → is_some name ≡ true) → Some client ≡ called_by name (up_client given) old
     → (is_going (old.clients client) ≡ true → HasFollowed service made client ends old new) → told_client told ≡ up_client given
     → IfSome given (λ (up : GiveUp). IsFor name up.client old) → HasCalled service made name told old new
-one-called service made name given told old new client ends is follows same for =
+one-called service made name given told old new client ends carried is follows same for =
     let followed : HasFollowed service made client ends old new = follows (called-goes name given old client is for) in
     record {
       going = Some (record {
@@ -180,4 +178,5 @@ one-called service made name given told old new client ends is follows same for 
       ours = record { choices = followed.ours; parting = followed.word };
       goes = followed.follows;
       ruled = followed.ruled;
+      why = part-weaker service.buffer_budget (ends ≡ true) (is_some name ≡ true) carried followed.parting followed.why;
     }

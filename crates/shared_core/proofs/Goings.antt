@@ -17,6 +17,7 @@ use Rattle.core_promises.specs.Administers.{Administered}
 use Rattle.core_promises.specs.Ruled.{AreRuled, Ruling, book_of, from, ruling_of, until}
 use Rattle.core_texts.specs.Texts.{AreMore, key_at}
 use Rattle.core_texts.specs.declared.texts.Texts.{Texts}
+use Rattle.router_laws.specs.decisions.Partings.{IsPartedFor}
 use Rattle.router_laws.specs.decisions.Rulings.{AreRuledAll}
 use Rattle.router_laws.specs.decisions.Speaks.{IsOurs}
 use Rattle.core_tables.specs.Parting.{left_in}
@@ -35,7 +36,8 @@ use Rattle.core_laws.specs.clients.Turns.{Answers, Choice, Ends, Goes, Halt, Qui
 use Rattle.router_laws.specs.wakes.Calling.{AllGoOn, AreHomesOf, AreInOrder, Caller, CallerGoesOn, IsThere, is_called}
 use Rattle.router_laws.specs.wakes.Deciding.{IsCallerOurs}
 use Rattle.shared_core.proofs.Keeping.{made_then, tables_chosen}
-use Rattle.shared_core.proofs.Others.{still_there}
+use Rattle.shared_core.proofs.Others.{still_same}
+use Rattle.shared_core.proofs.Partings.{part-weaker}
 use Rattle.shared_core.proofs.Tabling.{tables_are}
 use Rattle.shared_core.specs.Follows.{AreRising, HasFollowed, HasGone, HasParted, HaveFollowed, HaveGone, Keeps, Made, MayEnd, RestsBehind, is_of, made_by, ruling_in}
 use Rattle.shared_core.specs.Rows.{HasLives}
@@ -61,25 +63,28 @@ went_chosen service c went old mid new chosen gone =
 
 -- How a client is ended.
 
-pub stays-so : (c : ClientNo) (ends : Bool) (halt : Halt) (t : Tabled) → (ends ≡ true → ends_by halt Stays ≡ true) → HasParted c ends halt t t
-stays-so c ends halt t ended = record { parting = Stays; word = tt; once = λ is. refl; parts = same-itself t; ended = ended }
+pub stays-so : (budget : ℕ) (c : ClientNo) (ends : Bool) (halt : Halt) (t : Tabled) → (ends ≡ true → ends_by halt Stays ≡ true)
+    → HasParted budget c ends halt t t
+stays-so budget c ends halt t ended =
+    record { parting = Stays; word = tt; once = λ is. refl; parts = same-itself t; ended = ended; why = tt }
 
-pub leaves-so : (c : ClientNo) (ends : Bool) (halt : Halt) (old new : Tabled) → quits_by halt ≡ false → LeavesThere c old new
-    → HasParted c ends halt old new
-leaves-so c ends halt old new goes leaves = record {
+pub leaves-so : (budget : ℕ) (c : ClientNo) (ends : Bool) (halt : Halt) (old new : Tabled) → ends ≡ true → quits_by halt ≡ false
+    → LeavesThere c old new → HasParted budget c ends halt old new
+leaves-so budget c ends halt old new on goes leaves = record {
   parting = Leaves;
   word = tt;
   once = λ is. absurd (let no = goes in let yes = is in cc);
   parts = leaves;
   ended = λ is. or-last (quits_by halt);
+  why = on;
 }
 
-pub stays-off : (c : ClientNo) (ends : Bool) (halt : Halt) (t : Tabled) → ends ≡ false → HasParted c ends halt t t
-stays-off c ends halt t off = stays-so c ends halt t (λ is. absurd (let no = off in let yes = is in cc))
+pub stays-off : (budget : ℕ) (c : ClientNo) (ends : Bool) (halt : Halt) (t : Tabled) → ends ≡ false → HasParted budget c ends halt t t
+stays-off budget c ends halt t off = stays-so budget c ends halt t (λ is. absurd (let no = off in let yes = is in cc))
 
-pub off-so : (c : ClientNo) (ends : Bool) (halt : Halt) (old new : Tabled) → ends ≡ false → HasParted c false halt old new
-    → HasParted c ends halt old new
-off-so c ends halt old new off parts = let P : Bool → Type 0 = λ b. HasParted c b halt old new in subst P (sym off) parts
+pub off-so : (budget : ℕ) (c : ClientNo) (ends : Bool) (halt : Halt) (old new : Tabled) → ends ≡ false → HasParted budget c false halt old new
+    → HasParted budget c ends halt old new
+off-so budget c ends halt old new off parts = let P : Bool → Type 0 = λ b. HasParted budget c b halt old new in subst P (sym off) parts
 
 pub may-so : (c : ClientNo) (t : Tabled) (row : Client) → Some row ≡ t.clients c → HasLives row.desk → MayEnd c t
 may-so c t row at lives = record { row = row; there = sym at; lives = λ h. let two = lives h in omega (arith, two) }
@@ -87,19 +92,19 @@ may-so c t row at lives = record { row = row; there = sym at; lives = λ h. let 
 pub leaves-by : (c : ClientNo) (old new : Tabled) → MayEnd c old → IsSame new (left_in c ended old) → LeavesThere c old new
 leaves-by c old new may same = record { row = may.row; there = may.there; lives = may.lives; same = same }
 
-pub stop-so : (c : ClientNo) (ends : Bool) (stop other : Stop) (old new : Tabled) → stop ≡ other
-    → (RestsBehind (halt_of other) c old → HasParted c ends (halt_of other) old new) → RestsBehind (halt_of stop) c old
-    → HasParted c ends (halt_of stop) old new
-stop-so c ends stop other old new is parts =
-    let P : Stop → Type 0 = λ s. RestsBehind (halt_of s) c old → HasParted c ends (halt_of s) old new in
+pub stop-so : (budget : ℕ) (c : ClientNo) (ends : Bool) (stop other : Stop) (old new : Tabled) → stop ≡ other
+    → (RestsBehind (halt_of other) c old → HasParted budget c ends (halt_of other) old new) → RestsBehind (halt_of stop) c old
+    → HasParted budget c ends (halt_of stop) old new
+stop-so budget c ends stop other old new is parts =
+    let P : Stop → Type 0 = λ s. RestsBehind (halt_of s) c old → HasParted budget c ends (halt_of s) old new in
     subst P (sym is) parts
 
-pub parts-so : (c : ClientNo) (ends : Bool) (halt : Halt) (a b d e : Router) → Chooses a b
-    → (RestsBehind halt c (tables b) → HasParted c ends halt (tables b) (tables d)) → Chooses d e → RestsBehind halt c (tables a)
-    → HasParted c ends halt (tables a) (tables e)
-parts-so c ends halt a b d e before parts behind rested =
-    let P : Tabled → Type 0 = λ t. RestsBehind halt c t → HasParted c ends halt t (tables d) in
-    let Q : Tabled → Type 0 = λ t. HasParted c ends halt (tables a) t in
+pub parts-so : (budget : ℕ) (c : ClientNo) (ends : Bool) (halt : Halt) (a b d e : Router) → Chooses a b
+    → (RestsBehind halt c (tables b) → HasParted budget c ends halt (tables b) (tables d)) → Chooses d e → RestsBehind halt c (tables a)
+    → HasParted budget c ends halt (tables a) (tables e)
+parts-so budget c ends halt a b d e before parts behind rested =
+    let P : Tabled → Type 0 = λ t. RestsBehind halt c t → HasParted budget c ends halt t (tables d) in
+    let Q : Tabled → Type 0 = λ t. HasParted budget c ends halt (tables a) t in
     subst Q (sym (tables_chosen d e behind)) (subst P (tables_chosen a b before) parts rested)
 
 -- What is ours by some texts is so by more.
@@ -141,11 +146,12 @@ with_texts made texts = record made { texts = texts }
 pub gone-so : (service : Service) (took_made : Made) (texts : Texts) → AreMore took_made.texts texts → (c : ClientNo) (ends : Bool) (took : Option Went) (went : Went)
     (old mid new : Tabled) → took ≡ Some went
     → HasGoneOn RuledTurns took (ruling_in service took_made) service.setup service.default_schema c old mid
-    → (RestsBehind (halt_of went.stop) c mid → HasParted c ends (halt_of went.stop) mid new) → HasGone service (with_texts took_made texts) c ends old new
+    → (RestsBehind (halt_of went.stop) c mid → HasParted service.buffer_budget c ends (halt_of went.stop) mid new)
+    → HasGone service (with_texts took_made texts) c ends old new
 gone-so service took_made texts more c ends took went old mid new is gone parts =
     let P : Option Went → Type 0 = λ o. HasGoneOn RuledTurns o (ruling_in service took_made) service.setup service.default_schema c old mid in
     let on : turned.HasGone RuledTurns went.stop (ruling_in service took_made) service.setup service.default_schema c old mid = subst P is gone in
-    let parted : HasParted c ends (halt_of went.stop) mid new =
+    let parted : HasParted service.buffer_budget c ends (halt_of went.stop) mid new =
     parts (rests-behind service.setup service.default_schema c on.choices (halt_of went.stop) old mid on.turned.0) in
     record {
       choices = on.choices;
@@ -157,6 +163,7 @@ gone-so service took_made texts more c ends took went old mid new is gone parts 
       ruled = turns_more (book_of service) took_made.texts texts more service.setup service.default_schema c took_made.was took_made.is on.choices
           (halt_of went.stop) old mid on.turned.0 on.turned.1;
       ended = parted.ended;
+      why = parted.why;
     }
 
 pub away-going : (row : Option Client) → is_away row ≡ true → is_going row ≡ true → ⊥
@@ -206,6 +213,7 @@ followed-so service made c ends homes old mid new are gone freed going = by (old
     };
     ruled = gone.ruled;
     ended = gone.ended;
+    why = gone.why;
   }
 
 -- Several do.
@@ -228,14 +236,15 @@ all_ruled_more service old new more was is (k ∷ ks) setup default a b going ru
   ),
 )
 
-pub gone-more : (service : Service) (before : Made) (texts : Texts) → AreMore before.texts texts → (clients : List ClientNo) (old new : Tabled)
-    → HaveGone service before clients old new → HaveGone service (with_texts before texts) clients old new
-gone-more service before texts more clients old new gone = record {
+pub gone-more : (service : Service) (before : Made) (texts : Texts) → AreMore before.texts texts → (Why : ClientNo → Type 0) (clients : List ClientNo)
+    (old new : Tabled) → HaveGone service before Why clients old new → HaveGone service (with_texts before texts) Why clients old new
+gone-more service before texts more Why clients old new gone = record {
   callers = gone.callers;
   named = gone.named;
   ours = callers_more (rules_in service) before.texts texts more gone.callers gone.ours;
   going = gone.going;
   ruled = all_ruled_more service before.texts texts more before.was before.is gone.callers service.setup service.default_schema old new gone.going gone.ruled;
+  why = gone.why;
 }
 
 pub followed-more : (service : Service) (before : Made) (texts : Texts) → AreMore before.texts texts → (c : ClientNo) (ends : Bool) (old new : Tabled)
@@ -251,6 +260,7 @@ followed-more service before texts more c ends old new followed = record {
   ruled = turns_more (book_of service) before.texts texts more service.setup service.default_schema c before.was before.is followed.choices followed.halt
       old followed.follows.turned followed.follows.turns followed.ruled;
   ended = followed.ended;
+  why = followed.why;
 }
 
 -- what is chosen by, and what is given back, behind it
@@ -261,11 +271,11 @@ followed-kept service a b now keeps c ends old new followed =
     subst (λ (made : Made). HasFollowed service made c ends old new) (sym (made_then service a b now keeps))
     (followed-more service (made_by service a b) now.texts keeps.texts c ends old new followed)
 
-pub gone-kept : (service : Service) (a b now : Router) → Keeps b now → (clients : List ClientNo) (old new : Tabled)
-    → HaveGone service (made_by service a b) clients old new → HaveGone service (made_by service a now) clients old new
-gone-kept service a b now keeps clients old new gone =
-    subst (λ (made : Made). HaveGone service made clients old new) (sym (made_then service a b now keeps))
-    (gone-more service (made_by service a b) now.texts keeps.texts clients old new gone)
+pub gone-kept : (service : Service) (a b now : Router) → Keeps b now → (Why : ClientNo → Type 0) (clients : List ClientNo) (old new : Tabled)
+    → HaveGone service (made_by service a b) Why clients old new → HaveGone service (made_by service a now) Why clients old new
+gone-kept service a b now keeps Why clients old new gone =
+    subst (λ (made : Made). HaveGone service made Why clients old new) (sym (made_then service a b now keeps))
+    (gone-more service (made_by service a b) now.texts keeps.texts Why clients old new gone)
 
 -- who goes on last, behind others, by rules
 abbrev pub GoesRuled : Ruling → Caller → Setup → (default : List ℕ) → (old new : Tabled) → Type 0
@@ -294,18 +304,19 @@ named-along : (callers : List Caller) (last : Caller)
 named-along [] last = refl
 named-along (k ∷ ks) last = ap (λ (cs : List ClientNo). k.client ∷ cs) (named-along ks last)
 
-none-gone : (service : Service) (made : Made) → made.is ≡ made.was → (t : Tabled) → HaveGone service made [] t t
-none-gone service made nothing t = record { callers = []; named = refl; ours = All-nil _; going = same-itself t; ruled = nothing }
+none-gone : (service : Service) (made : Made) → made.is ≡ made.was → (Why : ClientNo → Type 0) (t : Tabled) → HaveGone service made Why [] t t
+none-gone service made nothing Why t =
+    record { callers = []; named = refl; ours = All-nil _; going = same-itself t; ruled = nothing; why = All-nil _ }
 
 -- what was made of what there was before, and behind
 
 abbrev making : Texts → (was is : Administered) → Made
 making texts was is = record { texts = texts; was = was; is = is }
 
-one-more : (service : Service) (texts : Texts) (was then is : Administered) (clients : List ClientNo) (c : ClientNo) (ends : Bool) (old mid new : Tabled)
-    → HaveGone service (making texts was then) clients old mid → HasGone service (making texts then is) c ends mid new
-    → HaveGone service (making texts was is) (clients ++ c ∷ []) old new
-one-more service texts was then is clients c ends old mid new before gone =
+one-more : (service : Service) (texts : Texts) (was then is : Administered) (Why : ClientNo → Type 0) (clients : List ClientNo) (c : ClientNo) (ends : Bool)
+    (old mid new : Tabled) → HaveGone service (making texts was then) Why clients old mid → HasGone service (making texts then is) c ends mid new
+    → (ends ≡ true → Why c) → HaveGone service (making texts was is) Why (clients ++ c ∷ []) old new
+one-more service texts was then is Why clients c ends old mid new before gone reason =
     let last : Caller = record { client = c; choices = gone.choices; halt = gone.halt; parting = gone.parting } in
     let along : AllGoRuled (ruling_of service texts.since (key_at texts) was is) (before.callers ++ last ∷ []) service.setup service.default_schema old new =
     gone-along (ruling_of service texts.since (key_at texts) was is) then before.callers last service.setup service.default_schema old mid new
@@ -318,52 +329,64 @@ one-more service texts was then is clients c ends old mid new before gone =
           (All-cons P last [] (record { choices = gone.ours; parting = gone.word }) (All-nil P));
       going = along.0;
       ruled = along.1;
+      why = let P : Caller → Type 0 = λ k. IsPartedFor service.buffer_budget (Why k.client) k.parting in
+          All-append P before.callers (last ∷ []) before.why
+          (All-cons P last [] (part-weaker service.buffer_budget (ends ≡ true) (Why c) reason gone.parting gone.why) (All-nil P));
     }
 
 -- those behind are there as before, each behind who went on
-pub record HaveGoneSoFar (service : Service) (made : Made) (done left : List ClientNo) (old now : Tabled) : Type 0 where
-  pub gone : HaveGone service made done old now
+pub record HaveGoneSoFar (service : Service) (made : Made) (Why : ClientNo → Type 0) (done left : List ClientNo) (old now : Tabled) : Type 0 where
+  pub gone : HaveGone service made Why done old now
   pub rising : AreRising left
-  pub there : All (λ (c : ClientNo). IsThere now c) left
+  pub there : All (λ (c : ClientNo). IsThere old c) left
+  pub same : All (λ (c : ClientNo). now.clients c ≡ old.clients c) left
 
 goes-there : (t : Tabled) (c : ClientNo) → IsThere t c → is_going (t.clients c) ≡ true
 goes-there t c is = ap is_going is.there ∙ ap not is.going
 
-further : (service : Service) (before_texts texts : Texts) → AreMore before_texts texts → (was then is : Administered) (done others : List ClientNo) (c : ClientNo)
-    (ends : Bool) (old mid new : Tabled) → HaveGoneSoFar service (making before_texts was then) done (c ∷ others) old mid
-    → (is_going (mid.clients c) ≡ true → HasGone service (making texts then is) c ends mid new)
-    → HaveGoneSoFar service (making texts was is) (done ++ c ∷ []) others old new
-further service before_texts texts more was then is done others c ends old mid new before goes =
-    let P : ClientNo → Type 0 = λ o. IsThere mid o in
-    let gone : HasGone service (making texts then is) c ends mid new = goes (goes-there mid c (All-head P c others before.there)) in
+further : (service : Service) (before_texts texts : Texts) → AreMore before_texts texts → (was then is : Administered) (Why : ClientNo → Type 0)
+    (done others : List ClientNo) (c : ClientNo) (ends : Bool) (old mid new : Tabled)
+    → HaveGoneSoFar service (making before_texts was then) Why done (c ∷ others) old mid
+    → (is_going (mid.clients c) ≡ true → HasGone service (making texts then is) c ends mid new) → (mid.clients c ≡ old.clients c → ends ≡ true → Why c)
+    → HaveGoneSoFar service (making texts was is) Why (done ++ c ∷ []) others old new
+further service before_texts texts more was then is Why done others c ends old mid new before goes reason =
+    let P : ClientNo → Type 0 = λ o. IsThere old o in
+    let S : ClientNo → Type 0 = λ o. mid.clients o ≡ old.clients o in
+    let same : mid.clients c ≡ old.clients c = All-head S c others before.same in
+    let gone : HasGone service (making texts then is) c ends mid new =
+    goes (ap is_going same ∙ goes-there old c (All-head P c others before.there)) in
     record {
-      gone = one-more service texts was then is done c ends old mid new
-          (gone-more service (making before_texts was then) texts more done old mid before.gone) gone;
+      gone = one-more service texts was then is Why done c ends old mid new
+          (gone-more service (making before_texts was then) texts more Why done old mid before.gone) gone (reason same);
       rising = before.rising.1;
-      there = still_there service.setup service.default_schema
-          (record { client = c; choices = gone.choices; halt = gone.halt; parting = gone.parting }) mid new gone.goes others before.rising.0
-          (All-tail P c others before.there);
+      there = All-tail P c others before.there;
+      same = still_same service.setup service.default_schema
+          (record { client = c; choices = gone.choices; halt = gone.halt; parting = gone.parting }) old mid new gone.goes others before.rising.0
+          (All-tail S c others before.same);
     }
 
-pub gone-first : (service : Service) (r : Router) (clients : List ClientNo) (t : Tabled) → AreRising clients → All (λ (c : ClientNo). IsThere t c) clients
-    → HaveGoneSoFar service (made_by service r r) [] clients t t
-gone-first service r clients t rising there = record { gone = none-gone service (made_by service r r) refl t; rising = rising; there = there }
+pub gone-first : (service : Service) (r : Router) (Why : ClientNo → Type 0) (clients : List ClientNo) (t : Tabled) → AreRising clients
+    → All (λ (c : ClientNo). IsThere t c) clients → HaveGoneSoFar service (made_by service r r) Why [] clients t t
+gone-first service r Why clients t rising there =
+    record { gone = none-gone service (made_by service r r) refl Why t; rising = rising; there = there; same = λ k d within. refl }
 
-pub gone-next : (d : ClientNo) (service : Service) (a b now : Router) → AreMore b.texts now.texts → (clients : List ClientNo) (i : ℕ) (ends : Bool)
-    (old mid new : Tabled) → i < length clients → HaveGoneSoFar service (made_by service a b) (take i clients) (drop i clients) old mid
+pub gone-next : (d : ClientNo) (service : Service) (a b now : Router) → AreMore b.texts now.texts → (Why : ClientNo → Type 0) (clients : List ClientNo)
+    (i : ℕ) (ends : Bool) (old mid new : Tabled) → i < length clients
+    → HaveGoneSoFar service (made_by service a b) Why (take i clients) (drop i clients) old mid
     → (is_going (mid.clients (get_or clients i d)) ≡ true → HasGone service (made_by service b now) (get_or clients i d) ends mid new)
-    → HaveGoneSoFar service (made_by service a now) (take (i + 1) clients) (drop (i + 1) clients) old new
-gone-next d service a b now more clients i ends old mid new within before goes =
-    let P : List ClientNo → Type 0 = λ cs. HaveGoneSoFar service (made_by service a now) cs (drop (i + 1) clients) old new in
-    let Q : List ClientNo → Type 0 = λ cs. HaveGoneSoFar service (made_by service a b) (take i clients) cs old mid in
+    → (mid.clients (get_or clients i d) ≡ old.clients (get_or clients i d) → ends ≡ true → Why (get_or clients i d))
+    → HaveGoneSoFar service (made_by service a now) Why (take (i + 1) clients) (drop (i + 1) clients) old new
+gone-next d service a b now more Why clients i ends old mid new within before goes reason =
+    let P : List ClientNo → Type 0 = λ cs. HaveGoneSoFar service (made_by service a now) Why cs (drop (i + 1) clients) old new in
+    let Q : List ClientNo → Type 0 = λ cs. HaveGoneSoFar service (made_by service a b) Why (take i clients) cs old mid in
     subst P (sym (take_more clients i d within))
-    (further service b.texts now.texts more (worked service (work_of a)) (worked service (work_of b)) (worked service (work_of now)) (take i clients)
-    (drop (i + 1) clients) (get_or clients i d) ends old mid new (subst Q (drop_more clients i d within) before) goes)
+    (further service b.texts now.texts more (worked service (work_of a)) (worked service (work_of b)) (worked service (work_of now)) Why (take i clients)
+    (drop (i + 1) clients) (get_or clients i d) ends old mid new (subst Q (drop_more clients i d within) before) goes reason)
 
-pub gone-all : (service : Service) (made : Made) (clients : List ClientNo) (i : ℕ) (old new : Tabled) → length clients ≤ i
-    → HaveGoneSoFar service made (take i clients) (drop i clients) old new → HaveGone service made clients old new
-gone-all service made clients i old new end is =
-    let P : List ClientNo → Type 0 = λ cs. HaveGone service made cs old new in
+pub gone-all : (service : Service) (made : Made) (Why : ClientNo → Type 0) (clients : List ClientNo) (i : ℕ) (old new : Tabled) → length clients ≤ i
+    → HaveGoneSoFar service made Why (take i clients) (drop i clients) old new → HaveGone service made Why clients old new
+gone-all service made Why clients i old new end is =
+    let P : List ClientNo → Type 0 = λ cs. HaveGone service made Why cs old new in
     subst P (take_all i clients end) is.gone
 
 in-order : (callers : List Caller) → AreRising (map (λ (k : Caller). k.client) callers) → AreInOrder callers
@@ -387,10 +410,10 @@ pub called-so : (callers : List Caller) (c : ClientNo) → is_called callers c �
 called-so [] c = refl
 called-so (k ∷ ks) c = ap (λ (b : Bool). is_client c k.client || b) (called-so ks c)
 
-pub have-followed : (service : Service) (made : Made) (clients : List ClientNo) (homes : List LinkId) (old mid new : Tabled)
-    → AreHomesOf (is_of clients) homes old → HaveGone service made clients old mid → IsSame new (all_freed homes mid) → AreRising clients
-    → All (λ (c : ClientNo). IsThere old c) clients → HaveFollowed service made clients old new
-have-followed service made clients homes old mid new are gone freed rising there = record {
+pub have-followed : (service : Service) (made : Made) (Why : ClientNo → Type 0) (clients : List ClientNo) (homes : List LinkId) (old mid new : Tabled)
+    → AreHomesOf (is_of clients) homes old → HaveGone service made Why clients old mid → IsSame new (all_freed homes mid) → AreRising clients
+    → All (λ (c : ClientNo). IsThere old c) clients → HaveFollowed service made Why clients old new
+have-followed service made Why clients homes old mid new are gone freed rising there = record {
   callers = gone.callers;
   links = homes;
   named = gone.named;
@@ -409,6 +432,7 @@ have-followed service made clients homes old mid new are gone freed rising there
     freed = freed;
   };
   ruled = gone.ruled;
+  why = gone.why;
 } where
   its : (c : ClientNo) → is_called gone.callers c ≡ is_of clients c
   its c = called-so gone.callers c ∙ ap (λ (cs : List ClientNo). is_of cs c) gone.named

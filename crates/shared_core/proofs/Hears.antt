@@ -39,9 +39,11 @@ use Rattle.router_laws.specs.reading.Hears.{HearsRuled, HearsSo}
 use Rattle.core_texts.specs.declared.texts.Texts.{Texts}
 use Rattle.core_texts.specs.Texts.{HasBegun, key_at}
 use Rattle.router_laws.specs.decisions.Causes.{IsHeardFor}
+use Rattle.router_laws.specs.decisions.Partings.{IsGoingParted}
 use Rattle.core_promises.specs.Administers.{Administered}
 use Rattle.shared_core.proofs.Carrying.{carries_since}
 use Rattle.shared_core.proofs.Causing.{heard_for}
+use Rattle.shared_core.proofs.Partings.{parted-for}
 use Rattle.shared_core.specs.Follows.{HasCalled, HasGiven, IsFor, Keeps, KeepsBut, MayBeGiven, made_by, ruling_in, told_client, up_client}
 use Rattle.shared_core.specs.Hears.{HasHeard}
 use Rattle.shared_core.specs.Stands.{Carries, IsSettled, is_roomy, tables, work_of, worked}
@@ -72,6 +74,7 @@ Routes =
     → AreBytes bytes → (so : HearsSo service.setup service.default_schema l bytes clock given going t now) → AreGivenOurs given
     → AreGoingOurs (rules_in service) texts going
     → IsRuledOn (ruling_of service texts.since (key_at texts) admin is) going service.setup service.default_schema so.freed now so.goes → IsHeardFor l t given
+    → IsGoingParted service.buffer_budget l t going
     → AreHeldSince texts service.default_schema router.core.decided log
     → admin.rules ≡ rules_in service → IsRouter service texts is (with_entry log (entry.Got l bytes)) now roomy
 
@@ -138,6 +141,7 @@ heard_so hears still service link bytes old new name said given read_table heard
       going = goes_on.going;
       given_ours = gives.ours;
       why = heard_for link name (tables old) heard gives.told given gives.is carried may;
+      parted = parted-for service.buffer_budget link name gives.told (tables old) freed goes_on.going carried goes_on.called goes_on.why;
       ours = goes_on.ours;
       so = all.so;
       ruled = all.ruled;
@@ -150,4 +154,4 @@ read_carries routes service link bytes old new keeps begun are heard loaded =
     carries_since service old new keeps.roomy keeps.came keeps.texts begun (entry.Got link bytes) (refl, λ moment. refl)
     (λ log may learnt.
     routes service new.texts (worked service (work_of old)) (worked service (work_of new)) log (tables old) (tables new) (is_roomy old.roomy) link bytes old.came.clock heard.given heard.going learnt.router may
-    are heard.so heard.given_ours heard.ours heard.ruled heard.why learnt.since (settled_rules service old loaded))
+    are heard.so heard.given_ours heard.ours heard.ruled heard.why heard.parted learnt.since (settled_rules service old loaded))

@@ -9,6 +9,9 @@ use Rattle.mx_base.specs.declared.names.ClientNo.{ClientNo}
 use Rattle.private_model.proofs.Maps.{client_of, same_number}
 use Rattle.client_side.specs.Client.{ClientState}
 use Rattle.router_laws.specs.clients.Leaves.{is_at_rest}
+use Rattle.router_laws.specs.decisions.Partings.{IsFull}
+use Rattle.core_service.specs.Failures.{payload_of}
+use Rattle.core_service.specs.declared.failure.Failure.{Failure}
 use Rattle.client_seat.specs.Seats.{account_in}
 use Rattle.client_seat.specs.Words.{with_word}
 use Rattle.core_tables.specs.Arrivals.{seated}
@@ -58,13 +61,14 @@ told-row c payload old between row now at told there =
     let its : now ≡ by row = cc in
     ap (λ (r : Client). r.desk.seat.client) its
 
-pub left-told : (who : Who) (c : ClientNo) (old between new : Tabled) → (IsSome (old.clients c) → HasTold c old between) → IsItStill who c between
-    → LeavesThere c between new → RestsThere who c old → IsRested c old → HasLeftTold c old new
-left-told who c old between new tells still leaves rests rested =
+pub left-told : (who : Who) (c : ClientNo) (why : Failure) (old between new : Tabled) → (IsSome (old.clients c) → HasTold c why old between)
+    → IsItStill who c between → LeavesThere c between new → RestsThere who c old → IsRested c old → HasLeftTold c why old new
+left-told who c why old between new tells still leaves rests rested =
     let there : IsSome (old.clients c) = ap is_some rests.there in
-    let told : HasTold c old between = tells there in
+    let told : HasTold c why old between = tells there in
     record {
       payload = told.payload;
+      is = told.is;
       own = told.own;
       leaves = record {
         row = rests.row;
@@ -81,13 +85,15 @@ left-told who c old between new tells still leaves rests rested =
       };
     }
 
-pub told-parts : (c : ClientNo) (old new : Tabled) → HasLeftTold c old new → HasParted c false Rests old new
-told-parts c old new told = record {
+pub told-parts : (budget : ℕ) (c : ClientNo) (why : Failure) (old new : Tabled) → IsFull budget (payload_of why) → HasLeftTold c why old new
+    → HasParted budget c false Rests old new
+told-parts budget c why old new full told = record {
   parting = Tells told.payload;
   word = told.own;
   once = λ is. absurd (let e = is in cc);
   parts = told.leaves;
   ended = λ is. refl;
+  why = subst (IsFull budget) (sym told.is) full;
 }
 
 -- who waits for nothing

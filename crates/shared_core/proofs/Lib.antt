@@ -18,6 +18,7 @@ pub mod Coming
 pub mod Rooming
 pub mod Writings
 mod Causing
+mod Partings
 pub mod Notes
 pub mod Hears
 mod Closings

@@ -39,9 +39,11 @@ use Rattle.router_laws.specs.wakes.Calling.{AreHomesOf}
 use Rattle.core_texts.specs.declared.texts.Texts.{Texts}
 use Rattle.core_texts.specs.Texts.{HasBegun, key_at}
 use Rattle.router_laws.specs.decisions.Causes.{IsLostFor}
+use Rattle.router_laws.specs.decisions.Partings.{IsGoingParted}
 use Rattle.core_promises.specs.Administers.{Administered}
 use Rattle.shared_core.proofs.Carrying.{carries_by, carries_since, worked_same}
 use Rattle.shared_core.proofs.Causing.{lost_for}
+use Rattle.shared_core.proofs.Partings.{parted-for}
 use Rattle.shared_core.proofs.Coming.{BringsNone}
 use Rattle.shared_core.proofs.Hears.{its_then}
 use Rattle.shared_core.proofs.Tabling.{tables_are}
@@ -59,6 +61,7 @@ Routes =
     (given : Option GivenUp) (going : Option Going) → (router : IsRouter service texts admin log t roomy) → MayFollow log (entry_by how l)
     → AreGivenOurs given → AreGoingOurs (rules_in service) texts going → (so : LosesSo service.setup service.default_schema l given going t now)
     → IsRuledOn (ruling_of service texts.since (key_at texts) admin is) going service.setup service.default_schema so.lost now so.goes → IsLostFor l t given
+    → IsGoingParted service.buffer_budget l t going
     → AreHeldFor going texts service.default_schema router.core.decided log
     → IsSettledFor going service admin → IsRouter service texts is (with_entry log (entry_by how l)) now roomy
 
@@ -163,6 +166,7 @@ lost_so service made link name given old lost mid new loses gave calls may =
       going = goes_on.going;
       given_ours = gave.ours;
       why = lost_for link name old gave.told given gave.is may.carried may.may;
+      parted = parted-for service.buffer_budget link name gave.told old mid goes_on.going may.carried goes_on.called goes_on.why;
       ours = goes_on.ours;
       so = record {
         server = may.server;
@@ -336,7 +340,7 @@ module _ (service : Service) (link : LinkId) (old new : Router) where
       carries_since service old new keeps.roomy keeps.came keeps.texts begun (entry_by how link) (none_come how link)
       (λ log may learnt.
       routes service new.texts (worked service (work_of old)) (worked service (work_of new)) log (tables old) (tables new) (is_roomy old.roomy) link how has.given has.going learnt.router may
-      has.given_ours has.ours has.so has.ruled has.why (held_for has.going learnt)
+      has.given_ours has.ours has.so has.ruled has.why has.parted (held_for has.going learnt)
       (settled_for has.going service (worked service (work_of old)) (settled_rules service old loaded))))
 
   pub ended_loses : EndedRoutes → (c : ClientNo) → Keeps old new → HasLostEnded link c (tables old) (tables new) → Loses service link old new

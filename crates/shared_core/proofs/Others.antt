@@ -1,8 +1,7 @@
 -- As a client goes on, the rows of the others stay as they were.
-use Rattle.std.specs.Prelude.{◌≡◌, ◌<◌, ℕ, Bool, true, false, All, nat_eq, if◌then◌else◌, List, [], ◌∷◌, Option, Some, None}
+use Rattle.std.specs.Prelude.{◌≡◌, ◌<◌, ℕ, Bool, true, false, All, get_or, nat_eq, if◌then◌else◌, List, [], ◌∷◌, Option, Some, None}
 use Rattle.std.specs.Option.{option_map, option_map_or}
 use Rattle.std.proofs.Common.{◌∙◌, ap, refl}
-use Rattle.std.proofs.lemmas.List.Elements.{All-cons, All-head, All-nil, All-tail}
 use Rattle.mx_base.specs.declared.names.ClientNo.{ClientNo}
 use Rattle.client_session.specs.Setups.{Setup}
 use Rattle.client_seat.specs.Seats.{ended}
@@ -17,7 +16,7 @@ use Rattle.core_laws.specs.clients.Follows.{Leaves, LeavesThere, Parting, PartsS
 use Rattle.core_laws.specs.clients.Turns.{Answers, Choice, Ends, Goes, Halt, HaltsSo, IsTurn, MakesAnswer, Quits, Rests, Turns, Waits}
 use Rattle.core_laws.specs.taking.Takes.{is_reset}
 use Rattle.core_laws.proofs.OfParting.Giving.{apart_below}
-use Rattle.router_laws.specs.wakes.Calling.{Caller, CallerGoesOn, IsThere}
+use Rattle.router_laws.specs.wakes.Calling.{Caller, CallerGoesOn}
 
 abbrev pub OthersStay : ClientNo → (old new : Tabled) → Type 0
 OthersStay c old new = (other : ClientNo) → nat_eq c.0 other.0 ≡ false → new.clients other ≡ old.clients other
@@ -91,16 +90,10 @@ caller_stays setup default k old new is =
     stay_along k.client old is.turned new (turns_stay setup default k.client k.choices k.halt old is.turned is.turns)
     (parts_stay k.client k.parting is.turned new is.parts)
 
--- those who come behind it are there as before
-pub still_there : (setup : Setup) (default : List ℕ) (k : Caller) (old new : Tabled) → CallerGoesOn setup default k old new
-    → (clients : List ClientNo) → All (λ (other : ClientNo). k.client.0 < other.0) clients → All (λ (c : ClientNo). IsThere old c) clients
-    → All (λ (c : ClientNo). IsThere new c) clients
-still_there setup default k old new is [] behind there = All-nil _
-still_there setup default k old new is (c ∷ cs) behind there =
-    let one : IsThere old c = All-head (λ (o : ClientNo). IsThere old o) c cs there in
-    let apart : nat_eq k.client.0 c.0 ≡ false =
-    apart_below k.client.0 c.0 (All-head (λ (other : ClientNo). k.client.0 < other.0) c cs behind) in
-    All-cons (λ (o : ClientNo). IsThere new o) c cs
-    (record { row = one.row; there = caller_stays setup default k old new is c apart ∙ one.there; going = one.going })
-    (still_there setup default k old new is cs (All-tail (λ (other : ClientNo). k.client.0 < other.0) c cs behind)
-    (All-tail (λ (o : ClientNo). IsThere old o) c cs there))
+-- those who come behind it are as before
+pub still_same : (setup : Setup) (default : List ℕ) (k : Caller) (first old new : Tabled) → CallerGoesOn setup default k old new
+    → (clients : List ClientNo) → All (λ (other : ClientNo). k.client.0 < other.0) clients
+    → All (λ (c : ClientNo). old.clients c ≡ first.clients c) clients → All (λ (c : ClientNo). new.clients c ≡ first.clients c) clients
+still_same setup default k first old new is clients behind same = λ at d within.
+    caller_stays setup default k old new is (get_or clients at d)
+    (apart_below k.client.0 (get_or clients at d).0 (behind at d within)) ∙ same at d within

@@ -13,6 +13,7 @@ use Rattle.router_laws.specs.clients.Leaves.{LeavesAtOnce, LeavesGoing, is_at_re
 use Rattle.router_laws.specs.clients.Plans.{nobody}
 use Rattle.router_laws.specs.clients.Speaks.{SpeaksSo}
 use Rattle.core_promises.specs.Ruled.{AreRuled}
+use Rattle.router_laws.specs.decisions.Partings.{IsPartedFor}
 use Rattle.router_laws.specs.decisions.Speaks.{IsOurs, IsPartingOurs}
 use Rattle.shared_core.specs.Follows.{Made, ruling_in}
 use Rattle.shared_core.specs.declared.leaving.Leaving.{Leaving}
@@ -27,6 +28,7 @@ pub record HasSpoken (service : Service) (made : Made) (link : LinkId) (bytes : 
   pub links : List LinkId
   pub ours : All (IsOurs (rules_in service) made.texts c) choices
   pub word : IsPartingOurs parting
+  pub parted : IsPartedFor service.buffer_budget ⊥ parting
   pub so : SpeaksSo service.setup service.default_schema link bytes c ordinal choices halt parting links old new
   pub ruled : AreRuled (ruling_in service made) choices halt service.setup service.default_schema c so.heard so.follows.turned so.follows.turns
 

@@ -1,7 +1,9 @@
 -- What is made of the tables as clients go on and statements are given up, and what stays as it was.
 use Rattle.std.specs.Prelude.{◌≡◌, ◌<◌, ℕ, Bool, true, All, is_some, if◌then◌else◌, map, List, [], ◌∷◌, ◌++◌, Option, Some, None}
+use Rattle.std.specs.BTreeSet.{BTreeSet, contains}
 use Rattle.std.specs.List.{list_any}
 use Rattle.std.specs.Option.{option_map}
+use Rattle.std.specs.Ordering.{nat_cmp}
 use Rattle.mx_base.specs.declared.names.ClientNo.{ClientNo}
 use Rattle.mx_base.specs.declared.names.LinkId.{LinkId}
 use Rattle.private_model.specs.Story.{is_client}
@@ -23,6 +25,7 @@ use Rattle.core_promises.specs.Administers.{Administered}
 use Rattle.core_promises.specs.Ruled.{AreRuled, Ruling, ruling_of}
 use Rattle.core_texts.specs.Texts.{AreMore, key_at}
 use Rattle.core_texts.specs.declared.texts.Texts.{Texts}
+use Rattle.router_laws.specs.decisions.Partings.{IsOusted, IsPartedFor}
 use Rattle.router_laws.specs.decisions.Rulings.{AreRuledAll, IsRuledOn}
 use Rattle.router_laws.specs.decisions.Speaks.{AreGivenOurs, AreGoingOurs, IsOurs, IsPartingOurs}
 use Rattle.marked_tables.specs.Goes.{GoesOn}
@@ -93,7 +96,7 @@ abbrev pub known_more : Tabled → LinkId → List LinkId → List LinkId
 known_more t l known = if is_some (t.links l) then known ++ l ∷ [] else known
 
 -- A client took up what it could, and was ended, if it was to. What it was answered, and its last word, are the router's own, and what became of
--- each message is what the verdict says.
+-- each message is what the verdict says. It was ended without a word only if it was to be, and with one where too much is kept.
 pub record HasGone (service : Service) (made : Made) (c : ClientNo) (ends : Bool) (old new : Tabled) : Type 0 where
   pub choices : List Choice
   pub halt : Halt
@@ -104,15 +107,17 @@ pub record HasGone (service : Service) (made : Made) (c : ClientNo) (ends : Bool
       (record { client = c; choices = choices; halt = halt; parting = parting }) old new
   pub ruled : AreRuled (ruling_in service made) choices halt service.setup service.default_schema c old goes.turned goes.turns
   pub ended : ends ≡ true → ends_by halt parting ≡ true
+  pub why : IsPartedFor service.buffer_budget (ends ≡ true) parting
 
--- How it was ended behind its turns.
+-- How it was ended behind its turns: without a word only where it was to be.
 
-pub record HasParted (c : ClientNo) (ends : Bool) (halt : Halt) (old new : Tabled) : Type 0 where
+pub record HasParted (budget : ℕ) (c : ClientNo) (ends : Bool) (halt : Halt) (old new : Tabled) : Type 0 where
   pub parting : Parting
   pub word : IsPartingOurs parting
   pub once : quits_by halt ≡ true → parting ≡ Stays
   pub parts : PartsSo parting c old new
   pub ended : ends ≡ true → ends_by halt parting ≡ true
+  pub why : IsPartedFor budget (ends ≡ true) parting
 
 -- behind turns that rest no error stands next of one that waits for nothing
 abbrev pub IsRested : ClientNo → Tabled → Type 0
@@ -141,23 +146,34 @@ pub record HasFollowed (service : Service) (made : Made) (c : ClientNo) (ends : 
   pub follows : FollowsSo service.setup service.default_schema c choices halt parting links old new
   pub ruled : AreRuled (ruling_in service made) choices halt service.setup service.default_schema c old follows.turned follows.turns
   pub ended : ends ≡ true → ends_by halt parting ≡ true
+  pub why : IsPartedFor service.buffer_budget (ends ≡ true) parting
 
--- Several clients did, one after the other.
-pub record HaveFollowed (service : Service) (made : Made) (clients : List ClientNo) (old new : Tabled) : Type 0 where
+-- Several clients did, one after the other; those that were ended without a word were for a reason.
+
+abbrev pub AreParted : (budget : ℕ) → (Why : ClientNo → Type 0) → List Caller → Type 0
+AreParted budget Why callers = All (λ (k : Caller). IsPartedFor budget (Why k.client) k.parting) callers
+
+pub record HaveFollowed (service : Service) (made : Made) (Why : ClientNo → Type 0) (clients : List ClientNo) (old new : Tabled) : Type 0 where
   pub callers : List Caller
   pub links : List LinkId
   pub named : map (λ (k : Caller). k.client) callers ≡ clients
   pub ours : All (IsCallerOurs (rules_in service) made.texts) callers
   pub calls : CallsSo service.setup service.default_schema callers links old new
   pub ruled : AreRuledAll (ruling_in service made) callers service.setup service.default_schema old calls.turned calls.going
+  pub why : AreParted service.buffer_budget Why callers
 
 -- by what they were called
-pub record HaveGone (service : Service) (made : Made) (clients : List ClientNo) (old new : Tabled) : Type 0 where
+pub record HaveGone (service : Service) (made : Made) (Why : ClientNo → Type 0) (clients : List ClientNo) (old new : Tabled) : Type 0 where
   pub callers : List Caller
   pub named : map (λ (k : Caller). k.client) callers ≡ clients
   pub ours : All (IsCallerOurs (rules_in service) made.texts) callers
   pub going : AllGoOn callers service.setup service.default_schema old new
   pub ruled : AreRuledAll (ruling_in service made) callers service.setup service.default_schema old new going
+  pub why : AreParted service.buffer_budget Why callers
+
+-- where it is one of these, and an administrator came, or it isn't logged in
+abbrev pub IsOut : (ending : BTreeSet ℕ) → (came : Bool) → Tabled → ClientNo → Type 0
+IsOut ending came t c = (contains nat_cmp ending c.0 ≡ true) × IsOusted came t c
 
 -- The router answered a client's statement itself, by this failure.
 pub record HasAnswered (c : ClientNo) (why : Failure) (old new : Tabled) : Type 0 where
@@ -201,9 +217,15 @@ abbrev pub called_by : Option SessionName → (given : Option ClientNo) → Tabl
 called_by (Some name) given t = if is_going (t.clients name.client) then Some name.client else None
 called_by None given t = given
 
+-- without a word only where the link carries a session
+abbrev pub IsEndedFor : (budget : ℕ) → (carried : Bool) → Option Going → Type 0
+IsEndedFor budget carried None = Unit {0}
+IsEndedFor budget carried (Some going) = IsPartedFor budget (carried ≡ true) going.parting
+
 pub record HasCalled (service : Service) (made : Made) (name : Option SessionName) (told : Option GivenUp) (old new : Tabled) : Type 0 where
   pub going : Option Going
   pub called : IsCalled name told old (option_map (λ (g : Going). g.client) going)
   pub ours : AreGoingOurs (rules_in service) made.texts going
   pub goes : GoesSo going service.setup service.default_schema old new
   pub ruled : IsRuledOn (ruling_in service made) going service.setup service.default_schema old new goes
+  pub why : IsEndedFor service.buffer_budget (is_some name) going

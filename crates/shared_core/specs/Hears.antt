@@ -5,6 +5,7 @@ use Rattle.core_service.specs.Serves.{rules_in}
 use Rattle.core_service.specs.declared.service.Service.{Service}
 use Rattle.core_laws.specs.clients.Going.{GivenUp, Going}
 use Rattle.router_laws.specs.decisions.Causes.{IsHeardFor}
+use Rattle.router_laws.specs.decisions.Partings.{IsGoingParted}
 use Rattle.router_laws.specs.decisions.Rulings.{IsRuledOn}
 use Rattle.router_laws.specs.decisions.Speaks.{AreGivenOurs, AreGoingOurs}
 use Rattle.router_laws.specs.reading.Hears.{HearsSo}
@@ -18,6 +19,7 @@ pub record HasHeard (service : Service) (link : LinkId) (bytes : List ℕ) (old 
   pub going : Option Going
   pub given_ours : AreGivenOurs given
   pub why : IsHeardFor link (tables old) given
+  pub parted : IsGoingParted service.buffer_budget link (tables old) going
   pub ours : AreGoingOurs (rules_in service) new.texts going
   pub so : HearsSo service.setup service.default_schema link bytes old.came.clock given going (tables old) (tables new)
   pub ruled : IsRuledOn (ruling_in service (made_by service old new)) going service.setup service.default_schema so.freed (tables new) so.goes

@@ -18,6 +18,7 @@ use Rattle.core_laws.specs.parting.Partings.{IsAtWork}
 use Rattle.router_laws.specs.links.Loses.{GoesWithIt, LosesEnded, LosesSo}
 use Rattle.marked_tables.specs.Marking.{carried_at}
 use Rattle.router_laws.specs.decisions.Causes.{IsLostFor}
+use Rattle.router_laws.specs.decisions.Partings.{IsGoingParted}
 use Rattle.router_laws.specs.decisions.Rulings.{IsRuledOn}
 use Rattle.router_laws.specs.decisions.Speaks.{AreGivenOurs, AreGoingOurs}
 use Rattle.shared_core.specs.Follows.{Made, MayBeGivenWith, ruling_in}
@@ -57,6 +58,7 @@ pub record HasLost (service : Service) (made : Made) (link : LinkId) (old new : 
   pub going : Option Going
   pub given_ours : AreGivenOurs given
   pub why : IsLostFor link old given
+  pub parted : IsGoingParted service.buffer_budget link old going
   pub ours : AreGoingOurs (rules_in service) made.texts going
   pub so : LosesSo service.setup service.default_schema link given going old new
   pub ruled : IsRuledOn (ruling_in service made) going service.setup service.default_schema so.lost new so.goes

@@ -4,6 +4,8 @@ use Rattle.std.specs.Str.{bytes_eq}
 use Rattle.mx_base.specs.declared.names.ClientNo.{ClientNo}
 use Rattle.client_side.specs.Client.{ClientState}
 use Rattle.client_seat.specs.Seats.{account_in}
+use Rattle.core_service.specs.Failures.{payload_of}
+use Rattle.core_service.specs.declared.failure.Failure.{Failure}
 use Rattle.core_tables.specs.Tables.{Tabled}
 use Rattle.core_tables.specs.Wording.{IsTold}
 use Rattle.core_tables.specs.declared.client.Client.{Client}
@@ -33,12 +35,14 @@ pub record IsItStill (who : Who) (c : ClientNo) (t : Tabled) : Type 0 where
   pub there : t.clients c ≡ Some row
   pub is : is_who who row.desk.seat.client ≡ true
 
-pub record HasTold (c : ClientNo) (old new : Tabled) : Type 0 where
+pub record HasTold (c : ClientNo) (why : Failure) (old new : Tabled) : Type 0 where
   pub payload : List ℕ
+  pub is : payload ≡ payload_of why
   pub own : IsFailure payload
   pub told : IsTold c payload old new
 
-pub record HasLeftTold (c : ClientNo) (old new : Tabled) : Type 0 where
+pub record HasLeftTold (c : ClientNo) (why : Failure) (old new : Tabled) : Type 0 where
   pub payload : List ℕ
+  pub is : payload ≡ payload_of why
   pub own : IsFailure payload
   pub leaves : LeavesTold payload c old new

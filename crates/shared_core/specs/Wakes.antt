@@ -10,6 +10,7 @@ use Rattle.router_laws.specs.wakes.Calling.{Caller, GivesUpAll, IsThere, IsUnsen
 use Rattle.core_texts.specs.Texts.{noted_at}
 use Rattle.router_laws.specs.decisions.Causes.{AreLate, AreRefused}
 use Rattle.router_laws.specs.decisions.Noted.{Notes}
+use Rattle.router_laws.specs.decisions.Partings.{AreNotOusted, AreOusted}
 use Rattle.router_laws.specs.decisions.Rulings.{AreRuledAll}
 use Rattle.router_laws.specs.decisions.Speaks.{IsGivenOurs}
 use Rattle.router_laws.specs.wakes.Deciding.{IsCallerOurs}
@@ -56,6 +57,7 @@ pub record HasWoken (service : Service) (made : Made) (now_ms : ℕ) (came : Boo
   pub given_ours : All IsGivenOurs given
   pub late : AreLate service.wait_ms now_ms came (noted_at made.texts) old given
   pub ours : All (IsCallerOurs (rules_in service) made.texts) callers
+  pub parted : AreOusted service.buffer_budget came old callers
   pub so : WakesSo service.setup service.default_schema given callers links (is_roomy roomy) old new
   pub ruled : AreRuledAll (ruling_in service made) callers service.setup service.default_schema so.late so.calls.turned so.calls.going
 
@@ -67,5 +69,6 @@ pub record HasFailed (service : Service) (made : Made) (old new : Tabled) : Type
   pub given_ours : All IsGivenOurs given
   pub refused : AreRefused given
   pub ours : All (IsCallerOurs (rules_in service) made.texts) callers
+  pub parted : AreNotOusted service.buffer_budget callers
   pub so : FailsSo service.setup service.default_schema given callers links old new
   pub ruled : AreRuledAll (ruling_in service made) callers service.setup service.default_schema so.late so.calls.turned so.calls.going

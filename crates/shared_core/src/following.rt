@@ -1,5 +1,5 @@
 // Clients go on, are ended, and links are given back that carried their sessions.
-ghost use Rattle.std.specs.Prelude.{◌≡◌, All, IfOk, OnOk, false, true};
+ghost use Rattle.std.specs.Prelude.{◌≡◌, All, IfOk, OnOk, false, true, ℕ};
 ghost use Rattle.core_laws.specs.clients.Follows.{LeavesThere};
 ghost use Rattle.core_laws.specs.clients.Going.{is_going};
 ghost use Rattle.core_laws.specs.clients.Turns.{Rests, Waits};
@@ -7,12 +7,13 @@ ghost use Rattle.core_tables.specs.Parting.{freed_in};
 ghost use Rattle.core_tables.specs.Tables.{IsSame};
 ghost use Rattle.core_turns.specs.Turned.{HasGoneOn, RuledTurns, halt_of};
 ghost use Rattle.core_laws.specs.entry.Freeing.{all_freed};
-ghost use Rattle.shared_core.specs.Follows.{AreAllHomes, AreRising, HasFollowed, HasGone, HasParted, HaveFollowed, HaveGone, IsRested, Keeps, KeepsBut, MayEnd, RestsBehind, is_of, known_in, known_more, made_by, ruling_in};
+ghost use Rattle.shared_core.specs.Follows.{AreAllHomes, AreRising, HasFollowed, HasGone, HasParted, HaveFollowed, HaveGone, IsOut, IsRested, Keeps, KeepsBut, MayEnd, RestsBehind, is_of, known_in, known_more, made_by, ruling_in};
 ghost use Rattle.shared_core.specs.Stands.{Chooses, tables};
+ghost use Rattle.router_laws.specs.decisions.Partings.{IsOusted, IsUnknown};
 ghost use Rattle.router_laws.specs.wakes.Calling.{AreHomesOf, IsThere};
 
 use crate::router::Router;
-use crate::rows::{is_going, may_leave};
+use crate::rows::{is_going, is_logging_in, may_leave};
 use core_service::Service;
 use core_turns::{Stop, Went, take_turns};
 use mx_base::{ClientNo, LinkId, OutOfMemory};
@@ -38,7 +39,7 @@ impl Router {
         Ok(())
     }
 
-    /// Clients do, one after the other, and those of these numbers end; then links are given back that carried their sessions.
+    /// Clients do, one after the other, and those of these numbers end that may; then links are given back that carried their sessions.
     pub(crate) fn follow_all(
         &mut self,
         service: &Service,
@@ -47,7 +48,8 @@ impl Router {
     ) -> Result<(), OutOfMemory>
         ensures follow { OnOk result (AreRising clients.now
             → All (λ c. IsThere (tables self.old) c) clients.now
-            → HaveFollowed service.now (made_by service.now self.old self.new) clients.now (tables self.old) (tables self.new)) }
+            → HaveFollowed service.now (made_by service.now self.old self.new)
+            (IsOut ending.now self.old.came.administrator (tables self.old)) clients.now (tables self.old) (tables self.new)) }
         ensures keeps { OnOk result (KeepsBut self.old self.new) }
     {
         let homes = self.homes_of(clients)?;
@@ -65,14 +67,43 @@ impl Router {
     ) -> Result<(), OutOfMemory>
         ensures go { OnOk result (AreRising clients.now
             → All (λ c. IsThere (tables self.old) c) clients.now
-            → HaveGone service.now (made_by service.now self.old self.new) clients.now (tables self.old) (tables self.new)) }
+            → HaveGone service.now (made_by service.now self.old self.new)
+            (IsOut ending.now self.old.came.administrator (tables self.old)) clients.now (tables self.old) (tables self.new)) }
         ensures keeps { OnOk result (KeepsBut self.old self.new) }
     {
         for client in clients {
-            let ends = ending.contains(&client.0);
+            let ends = self.is_out(ending, *client);
             self.goes_on(service, *client, ends)?;
         }
         Ok(())
+    }
+
+    // Whether it is ended without a word: it is one of these, and it may be.
+    fn is_out(&self, ending: &BTreeSet<u64>, client: ClientNo) -> bool
+        ensures { result ≡ true → IsOut ending.now self.now.came.administrator (tables self.now) client }
+    {
+        ending.contains(&client.0) && self.is_ousted(client)
+    }
+
+    // An administrator came, or it isn't logged in.
+    fn is_ousted(&self, client: ClientNo) -> bool
+        ensures { result ≡ true → IsOusted self.now.came.administrator (tables self.now) client }
+    {
+        if self.came.administrator {
+            true
+        } else {
+            self.is_unknown(client)
+        }
+    }
+
+    // Whether it is there, and isn't logged in.
+    fn is_unknown(&self, client: ClientNo) -> bool
+        ensures { result ≡ true → IsUnknown (tables self.now) client }
+    {
+        match self.marked.client(client) {
+            Some(row) => is_logging_in(row),
+            None => false,
+        }
     }
 
     /// Whether a client is there, and goes on.
@@ -151,7 +182,7 @@ impl Router {
         ends: bool,
     ) -> Result<(), OutOfMemory>
         ensures parts { OnOk result (RestsBehind (halt_of stop) client (tables self.old)
-            → HasParted client ends (halt_of stop) (tables self.old) (tables self.new)) }
+            → HasParted service.now.buffer_budget client ends (halt_of stop) (tables self.old) (tables self.new)) }
         ensures keeps { OnOk result (Keeps self.old self.new) }
     {
         self.changed(client);
@@ -168,7 +199,7 @@ impl Router {
         ends: bool,
     ) -> Result<(), OutOfMemory>
         ensures parts { OnOk result (RestsBehind (halt_of stop) client (tables self.old)
-            → HasParted client ends (halt_of stop) (tables self.old) (tables self.new)) }
+            → HasParted service.now.buffer_budget client ends (halt_of stop) (tables self.old) (tables self.new)) }
         ensures keeps { OnOk result (Keeps self.old self.new) }
     {
         match stop {
@@ -186,7 +217,7 @@ impl Router {
     }
 
     fn waits(&mut self, client: ClientNo, ends: bool) -> Result<(), OutOfMemory>
-        ensures parts { OnOk result (HasParted client ends Waits (tables self.old) (tables self.new)) }
+        ensures parts { OnOk result ((budget : ℕ) → HasParted budget client ends Waits (tables self.old) (tables self.new)) }
         ensures keeps { OnOk result (Keeps self.old self.new) }
     {
         if ends { self.ends(client) } else { Ok(()) }
@@ -194,7 +225,7 @@ impl Router {
 
     fn rests(&mut self, service: &Service, client: ClientNo, ends: bool) -> Result<(), OutOfMemory>
         ensures parts { OnOk result (IsRested client (tables self.old)
-            → HasParted client ends Rests (tables self.old) (tables self.new)) }
+            → HasParted service.now.buffer_budget client ends Rests (tables self.old) (tables self.new)) }
         ensures keeps { OnOk result (Keeps self.old self.new) }
     {
         if ends {
@@ -207,11 +238,11 @@ impl Router {
     // What it sent and announced may be too much for all that is kept.
     fn measures(&mut self, service: &Service, client: ClientNo) -> Result<(), OutOfMemory>
         ensures parts { OnOk result (IsRested client (tables self.old)
-            → HasParted client false Rests (tables self.old) (tables self.new)) }
+            → HasParted service.now.buffer_budget client false Rests (tables self.old) (tables self.new)) }
         ensures keeps { OnOk result (Keeps self.old self.new) }
     {
         match self.policy.last_word(&self.marked.tables, service, client) {
-            Some(why) => self.tells_last(client, why),
+            Some(why) => self.tells_full(service, client, why),
             None => Ok(()),
         }
     }

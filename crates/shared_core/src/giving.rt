@@ -1,5 +1,5 @@
 // Statements are given up.
-ghost use Rattle.std.specs.Prelude.{◌≡◌, IfSome, OnOk, Option, true};
+ghost use Rattle.std.specs.Prelude.{◌≡◌, IfSome, OnOk, Option, is_some, true};
 ghost use Rattle.core_laws.specs.clients.Going.{GivenUp};
 ghost use Rattle.core_promises.specs.Causes.{IsLateCause};
 ghost use Rattle.core_service.specs.Failures.{payload_of};
@@ -19,10 +19,13 @@ use core_service::{Failure, Service, payload_of};
 use mx_base::{ClientNo, LinkId, OutOfMemory};
 use session_state::SessionName;
 
-fn is_last(ends: Option<ClientNo>, client: ClientNo) -> bool {
-    match ends {
-        Some(last) => last.0 == client.0,
-        None => false,
+// Whether a client is ended without a word that goes on for a link: one whose session the link carries, where it is this one.
+fn is_last(name: Option<SessionName>, ends: Option<ClientNo>, client: ClientNo) -> bool
+    ensures { result ≡ true → is_some name ≡ true }
+{
+    match (name, ends) {
+        (Some(_), Some(last)) => last.0 == client.0,
+        _ => false,
     }
 }
 
@@ -244,7 +247,8 @@ impl Router {
     {
         match self.called_by(name, given) {
             Some(client) => {
-                self.follow(service, client, is_last(ends, client))?;
+                let last = is_last(name, ends, client);
+                self.follow(service, client, last)?;
                 Ok(())
             }
             None => Ok(()),

@@ -8,6 +8,7 @@ ghost use Rattle.router_laws.specs.decisions.Noted.{IsInWork};
 ghost use Rattle.core_laws.specs.clients.Going.{is_going};
 ghost use Rattle.core_laws.specs.clients.Turns.{waits_at};
 ghost use Rattle.client_seat.specs.Seats.{is_ended};
+ghost use Rattle.client_seat.specs.declared.phase.Phase.TheVariants as phase;
 ghost use Rattle.core_tables.specs.Parting.{name_in, present_in};
 ghost use Rattle.core_tables.specs.Passing.{is_lent};
 ghost use Rattle.core_tables.specs.Tables.{tables_of};
@@ -59,6 +60,16 @@ pub(crate) fn is_going(row: Option<&Client>) -> bool
     match row {
         Some(row) => !is_ended(row),
         None => false,
+    }
+}
+
+/// Whether it isn't logged in yet.
+pub(crate) fn is_logging_in(row: &Client) -> bool
+    ensures { result ≡ true → row.now.desk.seat.phase ≡ phase.LoggingIn }
+{
+    match row.desk.seat.phase {
+        Phase::LoggingIn => true,
+        _ => false,
     }
 }
 

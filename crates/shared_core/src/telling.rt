@@ -1,13 +1,15 @@
 // A client is told its last.
-ghost use Rattle.std.specs.Prelude.{◌≡◌, IfSome, IsSome, OnOk, false, true};
+ghost use Rattle.std.specs.Prelude.{◌≡◌, IfSome, IsSome, OnOk, false, true, ℕ};
 ghost use Rattle.core_laws.specs.clients.Turns.{Rests};
+ghost use Rattle.core_service.specs.Failures.{payload_of};
+ghost use Rattle.router_laws.specs.decisions.Partings.{IsFull};
 ghost use Rattle.shared_core.specs.Follows.{HasParted, IsRested, Keeps};
 ghost use Rattle.shared_core.specs.Stands.{tables};
 ghost use Rattle.shared_core.specs.Telling.{HasLeftTold, HasTold, IsItStill, RestsAs, RestsThere, is_who};
 
 use crate::router::Router;
 use crate::rows::is_at_rest;
-use core_service::{Failure, payload_of};
+use core_service::{Failure, Service, payload_of};
 use core_tables::Client;
 use mx_base::{ClientNo, OutOfMemory};
 
@@ -48,11 +50,39 @@ fn who_rests(row: &Client) -> Option<Who>
     }
 }
 
+// Whether it says that too many bytes are kept.
+fn is_full(budget: u64, why: Failure) -> bool
+    ensures { result ≡ true → IsFull budget (payload_of why) }
+{
+    match why {
+        Failure::BuffersFull { kept, announced } => budget < kept.saturating_add(announced),
+        _ => false,
+    }
+}
+
 impl Router {
-    /// It is told its last, where it waits for nothing, and ends.
-    pub(crate) fn tells_last(&mut self, client: ClientNo, why: Failure) -> Result<(), OutOfMemory>
+    /// It is told so where too many bytes are kept.
+    pub(crate) fn tells_full(
+        &mut self,
+        service: &Service,
+        client: ClientNo,
+        why: Failure,
+    ) -> Result<(), OutOfMemory>
         ensures parts { OnOk result (IsRested client (tables self.old)
-            → HasParted client false Rests (tables self.old) (tables self.new)) }
+            → HasParted service.now.buffer_budget client false Rests (tables self.old) (tables self.new)) }
+        ensures keeps { OnOk result (Keeps self.old self.new) }
+    {
+        if is_full(service.buffer_budget, why) {
+            self.tells_last(client, why)
+        } else {
+            Ok(())
+        }
+    }
+
+    // It is told its last, where it waits for nothing, and ends.
+    fn tells_last(&mut self, client: ClientNo, why: Failure) -> Result<(), OutOfMemory>
+        ensures parts { OnOk result ((budget : ℕ) → IsFull budget (payload_of why) → IsRested client (tables self.old)
+            → HasParted budget client false Rests (tables self.old) (tables self.new)) }
         ensures keeps { OnOk result (Keeps self.old self.new) }
     {
         match self.rests_there(client) {
@@ -82,7 +112,7 @@ impl Router {
     // It stays who it is.
     fn says_last(&mut self, client: ClientNo, who: &Who, why: Failure) -> Result<(), OutOfMemory>
         ensures told { OnOk result (RestsThere who.now client (tables self.old) → IsRested client (tables self.old)
-            → HasLeftTold client (tables self.old) (tables self.new)) }
+            → HasLeftTold client why (tables self.old) (tables self.new)) }
         ensures keeps { OnOk result (Keeps self.old self.new) }
     {
         self.says(client, why)?;
@@ -95,7 +125,7 @@ impl Router {
 
     fn says(&mut self, client: ClientNo, why: Failure) -> Result<(), OutOfMemory>
         ensures told { OnOk result (IsSome ((tables self.old).clients client)
-            → HasTold client (tables self.old) (tables self.new)) }
+            → HasTold client why (tables self.old) (tables self.new)) }
         ensures keeps { OnOk result (Keeps self.old self.new) }
     {
         let payload = payload_of(self.alloc, why)?;

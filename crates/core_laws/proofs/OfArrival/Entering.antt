@@ -1,5 +1,5 @@
 -- What a client says next that logs in.
-use Rattle.std.specs.Prelude.{◌≡◌, ◌<◌, ◌+◌, ℕ, Bool, true, false, not, is_some, nat_eq, if◌then◌else◌, length, slice_get, take, List, [], ◌++◌, Option, Some, None}
+use Rattle.std.specs.Prelude.{◌≡◌, ◌<◌, ◌+◌, ℕ, Bool, true, false, not, ◌||◌, is_none, is_some, nat_eq, if◌then◌else◌, length, slice_get, take, List, [], ◌++◌, Option, Some, None}
 use Rattle.std.proofs.Common.{◌∙◌, refl, sym, ap, subst, append-nil, append_assoc, inr}
 use Rattle.handshake.specs.declared.response.Response.{Response}
 use Rattle.packet_frame.specs.Laws.{first_message-empty, split-nothing}
@@ -41,6 +41,7 @@ use Rattle.core_tables.specs.declared.client.Client.{Client}
 use Rattle.core_stands.specs.Clients.{IsClient, IsGoing, IsOwing, IsPhase, IsWorkingOr}
 use Rattle.core_stands.specs.Grounds.{Ground, known_on, view_on}
 use Rattle.core_laws.specs.arrival.Looks.{IsLetIn}
+use Rattle.core_laws.specs.clients.Refusals.{is_denied_by, is_garbled}
 use Rattle.core_laws.proofs.OfArrival.Changing.{reseat}
 use Rattle.core_laws.proofs.OfArrival.Finding.{false-true, none-some}
 use Rattle.core_laws.proofs.OfArrival.Grounding.{regrounded}
@@ -199,12 +200,15 @@ module _ (g : Ground) (now : Tabled) (default : List ℕ) (client : tales.Client
 
   parts-so : (at : Opening) (packets : List ℕ) (switched : Bool) → opening_of (talk_of g.plan client) ≡ at → commands_in (talk_of g.plan client) at ≡ []
       → front_in (talk_of g.plan client) at ≡ greeted (talk_of g.plan client) switched ++ packets
-      → was.written ++ left.outbox.due ≡ said_to found.client g.plan.service.version switched → Outcome g now client row (leaves packets left)
-  parts-so at packets switched is none front said there = record {
+      → was.written ++ left.outbox.due ≡ said_to found.client g.plan.service.version switched → is_denied_by (talk_of g.plan client) at ≡ true
+      → Outcome g now client row (leaves packets left)
+  parts-so at packets switched is none front said denied there = record {
     who = record { link = who-so.link; number = who-so.number; port = who-so.port; salt = who-so.salt; drained = refl };
     ended = refl;
     idle = idle;
     rested = lack-idles g.setup g.plan client g.tale (quiet-lacks g.plan client at is none);
+    refused =
+        ap (λ (b : Bool). b || is_garbled (talk_of g.plan client)) (ap (is_denied_by (talk_of g.plan client)) is ∙ denied);
     owed = λ silent. record {
       written = was.written;
       size = was.size;
@@ -270,7 +274,7 @@ module _ (g : Ground) (now : Tabled) (default : List ℕ) (client : tales.Client
         (ap (λ (user : Option Account). if_known user rest) unknown)
         (λ i. greeted (talk_of g.plan client) switched
         ++ spelling first (login_answer (denial_of (users_at g.plan.service (sym own.who.port i)) (sym (same.1 ∙ own.who.salt) i) response) (unknown i)))
-        said
+        said (ap is_none unknown)
 
     known-so : (user : Account) (response : Response) (first : ℕ) (switched : Bool) → found.client.framer.fault ≡ None
         → opening_of (talk_of g.plan client) ≡ Says switched response first found.client.framer.kept
@@ -312,7 +316,7 @@ module _ (g : Ground) (now : Tabled) (default : List ℕ) (client : tales.Client
         → Outcome g now client row (looks_in g.plan.service default (says.Refused first fault) left)
     refused-so first fault switched whatever said =
         parts-so (Fails switched fault first) (spelling first (fault_error (login_limit g.plan.service.limit) fault)) switched
-        (ap (opening g.plan.service.limit) (sym (append-nil client.read)) ∙ whatever []) refl refl said
+        (ap (opening g.plan.service.limit) (sym (append-nil client.read)) ∙ whatever []) refl refl said refl
 
     by-step : (step : ClientStep) → HasStepped step found.client g.plan.service.limit g.plan.service.version client.read (was.written ++ left.outbox.due)
         → Outcome g now client row (looks_in g.plan.service default step left)

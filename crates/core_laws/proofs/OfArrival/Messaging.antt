@@ -2,6 +2,7 @@
 use Rattle.std.specs.Prelude.{◌≡◌, ◌⊎◌, ◌||◌, ◌≤◌, ◌<◌, ◌+◌, ◌-◌, ℕ, suc, Bool, true, false, not, ◌&&◌, is_some, nat_eq, nat_lt, if◌then◌else◌, length, slice_get, take, List, [], ◌∷◌, ◌++◌, Option, Some, None}
 use Rattle.std.proofs.Common.{◌∙◌, refl, sym, ap, subst, arith, append-nil, append_assoc, length-append, inl, inr}
 use Rattle.std.proofs.lemmas.Bool.Decides.{nat_tests}
+use Rattle.std.proofs.Math.Bool.{or-true}
 use Rattle.std.proofs.lemmas.List.{length-take}
 use Rattle.private_model.proofs.Maps.{same_number}
 use Rattle.packet_frame.specs.FramerState.{FramerState, look, look_by, seen}
@@ -39,6 +40,7 @@ use Rattle.core_stands.specs.Grounds.{Ground, known_on, view_on}
 use Rattle.core_stands.specs.Stands.{Stands}
 use Rattle.core_laws.specs.parting.Frames.{glance}
 use Rattle.core_laws.specs.arrival.Looks.{LooksBy}
+use Rattle.core_laws.specs.clients.Refusals.{is_denied}
 use Rattle.core_laws.proofs.OfArrival.Changing.{reseat}
 use Rattle.core_laws.proofs.OfArrival.Finding.{false-true}
 use Rattle.core_laws.proofs.OfArrival.Grounding.{Aside, regrounded}
@@ -273,6 +275,7 @@ module _ (g : Ground) (now : Tabled) (client : tales.Client) (row : Client) wher
       rested = lack-idles g.setup g.plan client g.tale
           (ap (λ (s : Split). slice_get s.messages client.taken) (fault-in fault is) ∙ ap (slice_get (served.gone ++ [])) (sym served.size)
           ∙ get-end served.gone);
+      refused = ap (λ (s : Split). is_denied (talk_of g.plan client) || is_some s.fault) (fault-in fault is) ∙ or-true (is_denied (talk_of g.plan client));
       owed = λ silent. record {
         written = writes.written;
         size = writes.size;

@@ -3,13 +3,14 @@ use Rattle.std.specs.Prelude.{◌≡◌, ◌<◌, ◌≤◌, ◌+◌, ◌||◌, 
 use Rattle.std.proofs.Common.{refl, sym, ap, ◌∙◌, subst, arith}
 use Rattle.std.proofs.lemmas.Option.{none-some}
 use Rattle.packet_frame.specs.Packets.{Framed, spellings}
+use Rattle.client_session.specs.Answers.{Talk}
 use Rattle.client_session.specs.Setups.{Setup as Service}
 use Rattle.private_model.specs.Commands.{Account, Command}
 use Rattle.private_model.specs.Names.{ClientNo, Hostgroup, MessageName}
 use Rattle.private_model.specs.Story.{Left, is_client}
 use Rattle.private_model.specs.View.{Setup, present}
 use Rattle.log_story.specs.Clients.{taken_by, taken_up, waits_for_capture}
-use Rattle.log_story.specs.Owed.{messages, name_of}
+use Rattle.log_story.specs.Owed.{messages, name_of, talk_of}
 use Rattle.log_story.specs.Plan.{Plan, Route, word_at}
 use Rattle.log_story.specs.Tale as tales
 use Rattle.log_story.specs.Tale.{Tale, tell, with_client}
@@ -50,7 +51,7 @@ use Rattle.core_laws.specs.entry.Loops.{IsTaking}
 use Rattle.core_laws.proofs.OfClients.Facts.{few_so, has_lives, held_is, its_row, unended, waits_so}
 use Rattle.core_laws.proofs.OfClients.Waiting.{looked_waiting}
 use Rattle.core_laws.specs.clients.Chosen.{IsChosen, IsGone, IsHaltIn, IsLookedFor, IsStanding, IsTurning, PlanHas, StandsBehind}
-use Rattle.core_laws.specs.clients.Found.{AreFoundAt, IsAmong, IsFound, IsFoundIn, IsLastAmong, desk_up, user_in}
+use Rattle.core_laws.specs.clients.Found.{AreFoundAt, IsAmong, IsEndFound, IsFound, IsFoundIn, IsLastAmong, desk_up, user_in}
 use Rattle.core_laws.specs.clients.Turns.{AnswersBy, Answers, Choice, ComesUp, EndsThere, Ends, Goes, GoesBy, Halt, HaltsSo, IsLookedAt, IsTurn, Keyed, MakesAnswer, asked_by, count_by, is_quitting}
 use Rattle.core_laws.specs.clients.Turns.{MayLeave, Quits, QuitsThere, Rests, RestsThere, Turns, Waits, WaitsThere}
 use Rattle.private_model.specs.View.{due_of}
@@ -195,11 +196,14 @@ module _ (laws : Laws) (service : Service) (default : List ℕ) (first client : 
 
   -- it is refused
 
+  parts_there : (now : Tabled) → (there : EndsThere service default c t now) → IsParting g client there.row (turn service default there.row.desk.seat)
+  parts_there now there =
+      said_so there.row next.Ended (looked service default c t) there.looks (record { clients = λ n. refl; numbers = λ l. refl; links = λ l. refl })
+
   pub ends_there : word_at g.plan g.tale.moment c ≡ None → (now : Tabled) → EndsThere service default c t now → IsGone service first from client.taken g c now
   ends_there wordless now there =
       let seat : Seat = turn service default there.row.desk.seat in
-      let parts : IsParting g client there.row seat =
-      said_so there.row next.Ended (looked service default c t) there.looks (record { clients = λ n. refl; numbers = λ l. refl; links = λ l. refl }) in
+      let parts : IsParting g client there.row seat = parts_there now there in
       let after : Ground = on g (tell (Left c) g.tale) in
       let leaving : IsLeaving after client seat = record {
         who = parts.who;
@@ -506,13 +510,16 @@ module _ (laws : Laws) (service : Service) (default : List ℕ) (first client : 
   turn_none (Goes route keyed) now turn past = takes_none turn.between turn.up past
   turn_none (Answers payloads) now turn past = takes_none turn.between turn.up past
 
-  pub last_found : (halt : Halt) (now : Tabled) → HaltsSo halt service default c t now → (most : ℕ) → length (messages g.plan client) ≤ most + client.taken
+  pub last_found : (halt : Halt) (now : Tabled) → (there : HaltsSo halt service default c t now) → (most : ℕ)
+      → length (messages g.plan client) ≤ most + client.taken
       → IsLastAmong halt (takings_of most g.setup g.plan client g.tale) (name_of client (suc client.taken))
-  last_found Waits now there most enough = tt
-  last_found Rests now there most enough = tt
-  last_found Ends now there most enough = tt
+      × IsEndFound halt service default c t now there (talk_of g.plan client) client.taken
+  last_found Waits now there most enough = (tt, tt)
+  last_found Rests now there most enough = (tt, tt)
+  last_found Ends now there most enough = (tt, (parts_there now there).refused)
   last_found Quits now there zero enough = takes_none there.between there.up (omega (arith, enough))
-  last_found Quits now there (suc most) enough = (taking there.between there.up, takes_first there.between there.up most)
+  last_found Quits now there (suc most) enough =
+      ((taking there.between there.up, takes_first there.between there.up most), (up_found there.between there.up).message_is)
 
   quits_turn : (now : Tabled) → QuitsThere service default c t now
       → IsHaltIn Quits g.plan g.tale.moment (name_of client (suc client.taken)) → IsGone service first from (suc client.taken) g c now
@@ -599,20 +606,21 @@ last_later Ends first takings name last = tt
 last_later Quits first takings name last = (last.0, among_later first takings name last.0 last.1)
 
 found_later : (one : Taking) (takings : List Taking) (choices : List Choice) (halt : Halt) (service : Service) (default : List ℕ) (c : ClientNo) (old new : Tabled)
-    (turns : Turns choices halt service default c old new) (setup : Setup) (plan : Plan) (sent : List Framed) (k : ℕ)
-    → AreFoundAt choices halt service default c old new turns setup plan takings sent k
-    → AreFoundAt choices halt service default c old new turns setup plan (one ∷ takings) sent k
-found_later one takings [] halt service default c old new turns setup plan sent k found = last_later halt one takings (message_at c (suc k)) found
-found_later one takings (choice ∷ others) halt service default c old new turns setup plan sent k found = (
+    (turns : Turns choices halt service default c old new) (setup : Setup) (plan : Plan) (talk : Talk) (k : ℕ)
+    → AreFoundAt choices halt service default c old new turns setup plan takings talk k
+    → AreFoundAt choices halt service default c old new turns setup plan (one ∷ takings) talk k
+found_later one takings [] halt service default c old new turns setup plan talk k found =
+    (last_later halt one takings (message_at c (suc k)) found.0, found.1)
+found_later one takings (choice ∷ others) halt service default c old new turns setup plan talk k found = (
   record { taking = found.0.taking; among = among_later one takings (message_at c (suc k)) found.0.taking found.0.among; at = found.0.at },
-  found_later one takings others halt service default c turns.0 new turns.2 setup plan sent (suc k) found.1,
+  found_later one takings others halt service default c turns.0 new turns.2 setup plan talk (suc k) found.1,
 )
 
 turns_found_in : (laws : Laws) (service : Service) (default : List ℕ) (first client : tales.Client) (from : Tale) (g : Ground) (t now : Tabled)
     (choices : List Choice) (halt : Halt) → IsTurning service default first from g t client
     → PlanHas choices halt g.setup.keys g.plan g.tale.moment (name_of client (suc client.taken))
     → (turns : Turns choices halt service default client.number t now) → (most : ℕ) → length (messages g.plan client) ≤ most + client.taken
-    → AreFoundAt choices halt service default client.number t now turns g.setup g.plan (takings_of most g.setup g.plan client g.tale) (messages g.plan client)
+    → AreFoundAt choices halt service default client.number t now turns g.setup g.plan (takings_of most g.setup g.plan client g.tale) (talk_of g.plan client)
     client.taken
 turns_found_in laws service default first client from g t now [] halt is has turns most enough =
     last_found laws service default first client from g t is halt now turns most enough
@@ -622,10 +630,10 @@ turns_found_in laws service default first client from g t now (choice ∷ others
     let made = one_turn laws service default first client from g t is choice turns.0 turns.1 has.0 in
     let takes = turn_takes laws service default first client from g t is choice turns.0 turns.1 has.0 most in (
       turn_found laws service default first client from g t is choice turns.0 turns.1 most,
-      subst (λ (takings : List Taking). AreFoundAt others halt service default client.number turns.0 now turns.2 g.setup g.plan takings (messages g.plan client) (suc client.taken))
+      subst (λ (takings : List Taking). AreFoundAt others halt service default client.number turns.0 now turns.2 g.setup g.plan takings (talk_of g.plan client) (suc client.taken))
           (sym takes.1)
           (found_later takes.0 (takings_of most g.setup g.plan (next_of client) made.0) others halt service default client.number turns.0 now turns.2 g.setup
-          g.plan (messages g.plan client) (suc client.taken)
+          g.plan (talk_of g.plan client) (suc client.taken)
           (turns_found_in laws service default first (next_of client) from (on (looked_at client.number g) made.0) turns.0 now others halt made.1.turning
           (subst (λ (moment : ℕ). PlanHas others halt g.setup.keys g.plan moment (name_of (next_of client) (suc (suc client.taken)))) (sym made.1.moment) has.1)
           turns.2 most (omega (arith, enough)))),
@@ -635,8 +643,8 @@ pub turns_found : (laws : Laws) (service : Service) (default : List ℕ) (first 
     (choices : List Choice) (halt : Halt) (c : ClientNo) → client.number ≡ c → IsTurning service default first from g t client
     → PlanHas choices halt g.setup.keys g.plan g.tale.moment (name_of client (suc client.taken)) → (turns : Turns choices halt service default c t now)
     → (most : ℕ) → length (messages g.plan client) ≤ most + client.taken
-    → AreFoundAt choices halt service default c t now turns g.setup g.plan (takings_of most g.setup g.plan client g.tale) (messages g.plan client) client.taken
+    → AreFoundAt choices halt service default c t now turns g.setup g.plan (takings_of most g.setup g.plan client g.tale) (talk_of g.plan client) client.taken
 turns_found laws service default first client from g t now choices halt c same is has turns most enough =
     subst (λ (n : ClientNo). (by : Turns choices halt service default n t now)
-    → AreFoundAt choices halt service default n t now by g.setup g.plan (takings_of most g.setup g.plan client g.tale) (messages g.plan client) client.taken) same
+    → AreFoundAt choices halt service default n t now by g.setup g.plan (takings_of most g.setup g.plan client g.tale) (talk_of g.plan client) client.taken) same
     (λ by. turns_found_in laws service default first client from g t now choices halt is has by most enough) turns

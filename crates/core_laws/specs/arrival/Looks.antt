@@ -1,5 +1,5 @@
 -- What a client says next is looked at.
-use Rattle.std.specs.Prelude.{◌≡◌, ◌<◌, ◌+◌, ℕ, Bool, false, List, Some, None}
+use Rattle.std.specs.Prelude.{◌≡◌, ◌<◌, ◌+◌, ℕ, Bool, false, true, List, Some, None}
 use Rattle.handshake.specs.declared.response.Response.{Response}
 use Rattle.server_side.specs.Account.{Account}
 use Rattle.client_side.specs.Login.{Says}
@@ -26,6 +26,7 @@ use Rattle.core_stands.specs.Clients.{IsFrontOf}
 use Rattle.core_stands.specs.Grounds.{Ground, looked_at, view_on}
 use Rattle.core_stands.specs.Stands.{IsKnown, Stands}
 use Rattle.core_laws.specs.arrival.Ups.{IsUpNext}
+use Rattle.core_laws.specs.clients.Refusals.{is_refused_talk}
 
 -- where it is let in, the setup has it log in so, and stand there
 pub record IsLetIn (g : Ground) (default : List ℕ) (client : tales.Client) : Type 0 where
@@ -58,6 +59,7 @@ pub record IsParting (g : Ground) (client : tales.Client) (row : Client) (seat :
   pub ended : seat.phase ≡ phase.Ended
   pub idle : row.desk.work ≡ None
   pub rested : IsIdle g.setup g.plan g.tale client
+  pub refused : is_refused_talk (talk_of g.plan client) ≡ true
   pub owed : word_at g.plan g.tale.moment client.number ≡ None → IsFrontOf client seat (due_bytes (view_on g).replies g.plan g.tale.moment client)
 
 abbrev pub LooksBy : Next → Service → Ground → Tabled → tales.Client → Client → Seat → Type 0

@@ -10,6 +10,7 @@ use Rattle.log_story.specs.Executes.{Prepared, prepared_by}
 use Rattle.log_story.specs.Owed.{messages, name_of}
 use Rattle.log_story.specs.Plan.{Plan, own_at}
 use Rattle.log_story.specs.Tale.{Tale, view_of}
+use Rattle.client_session.specs.Answers.{Talk, messages_of}
 use Rattle.client_session.specs.Setups.{Setup as Service}
 use Rattle.client_seat.specs.Numbers.{Numbered, number_in}
 use Rattle.client_seat.specs.Seats.{account_in}
@@ -21,7 +22,8 @@ use Rattle.desk_laws.specs.Stands.{held_of, message_at}
 use Rattle.core_tables.specs.Arrivals.{seated, turn}
 use Rattle.core_tables.specs.Tables.{Tabled}
 use Rattle.core_tables.specs.declared.client.Client.{Client}
-use Rattle.core_laws.specs.clients.Turns.{Answers, Choice, Goes, Halt, IsTurn, Quits, Turns}
+use Rattle.core_laws.specs.clients.Refusals.{is_refused_talk}
+use Rattle.core_laws.specs.clients.Turns.{Answers, Choice, Ends, Goes, Halt, HaltsSo, IsTurn, Quits, Turns}
 use Rattle.router_promises.specs.Statements.{known_statement}
 use Rattle.router_promises.specs.Takings.{Taking, message_in}
 
@@ -83,10 +85,18 @@ abbrev pub IsLastAmong : Halt → (takings : List Taking) → MessageName → Ty
 IsLastAmong Quits takings name = (taking : Taking) × IsAmong takings name taking
 IsLastAmong _ takings name = Unit {0}
 
--- of these messages from the k-th on
+-- How its turns end is what it said: that it quits is its next message, or it is refused.
+abbrev pub IsEndFound : (halt : Halt) → (service : Service) → (default : List ℕ) → (c : ClientNo) → (old new : Tabled) → HaltsSo halt service default c old new
+    → Talk → (k : ℕ) → Type 0
+IsEndFound Quits service default c old new there talk k = slice_get (messages_of talk).messages k ≡ Some there.up.message
+IsEndFound Ends service default c old new there talk k = is_refused_talk talk ≡ true
+IsEndFound _ service default c old new there talk k = Unit {0}
+
+-- of the messages of this talk from the k-th on
 abbrev pub AreFoundAt : (choices : List Choice) → (halt : Halt) → (service : Service) → (default : List ℕ) → (c : ClientNo) → (old new : Tabled)
-    → Turns choices halt service default c old new → Setup → Plan → (takings : List Taking) → (sent : List Framed) → (k : ℕ) → Type 0
-AreFoundAt [] halt service default c old new turns setup plan takings sent k = IsLastAmong halt takings (message_at c (suc k))
-AreFoundAt (choice ∷ others) halt service default c old new turns setup plan takings sent k =
-    IsFound choice service default c old turns.0 turns.1 setup plan takings (slice_get sent k) k
-    × AreFoundAt others halt service default c turns.0 new turns.2 setup plan takings sent (suc k)
+    → Turns choices halt service default c old new → Setup → Plan → (takings : List Taking) → Talk → (k : ℕ) → Type 0
+AreFoundAt [] halt service default c old new turns setup plan takings talk k =
+    IsLastAmong halt takings (message_at c (suc k)) × IsEndFound halt service default c old new turns talk k
+AreFoundAt (choice ∷ others) halt service default c old new turns setup plan takings talk k =
+    IsFound choice service default c old turns.0 turns.1 setup plan takings (slice_get (messages_of talk).messages k) k
+    × AreFoundAt others halt service default c turns.0 new turns.2 setup plan takings talk (suc k)

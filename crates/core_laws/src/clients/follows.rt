@@ -4,7 +4,7 @@ ghost use Rattle.mx_wire.specs.declared.entry.Entry.{Entry};
 ghost use Rattle.client_session.specs.Setups.{Setup as Service};
 ghost use Rattle.private_model.specs.Names.{ClientNo, LinkId};
 ghost use Rattle.private_model.specs.Story.{is_client};
-ghost use Rattle.log_story.specs.Owed.{messages};
+ghost use Rattle.log_story.specs.Owed.{messages, talk_of};
 ghost use Rattle.log_story.specs.Tale as tales;
 ghost use Rattle.log_story.specs.Tale.{Tale};
 ghost use Rattle.step_laws.specs.Seats.{is_its};
@@ -50,7 +50,7 @@ pub fn follows_find()
         → IsFollowing service default g e client freed choices halt parting → Stands service (to_look g fresh freed) mid
         → (turns : Turns choices halt service default c mid now)
         → AreFoundAt choices halt service default c mid now turns g.setup g.plan (takings_of (length (messages g.plan client)) g.setup g.plan client freed)
-        (messages g.plan client) client.taken }
+        (talk_of g.plan client) client.taken }
 {
     turns_find();
 }

@@ -2,7 +2,7 @@
 ghost use Rattle.std.specs.Prelude.{◌+◌, ◌≡◌, ◌≤◌, ℕ, suc, length, List};
 ghost use Rattle.client_session.specs.Setups.{Setup as Service};
 ghost use Rattle.private_model.specs.Names.{ClientNo};
-ghost use Rattle.log_story.specs.Owed.{messages, name_of};
+ghost use Rattle.log_story.specs.Owed.{messages, name_of, talk_of};
 ghost use Rattle.log_story.specs.Tale as tales;
 ghost use Rattle.log_story.specs.Tale.{Tale};
 ghost use Rattle.core_tables.specs.Tables.{Tabled};
@@ -40,7 +40,7 @@ pub fn turns_find()
         (choices : List Choice) (halt : Halt) (c : ClientNo) → client.number ≡ c → IsTurning service default first from g t client
         → PlanHas choices halt g.setup.keys g.plan g.tale.moment (name_of client (suc client.taken)) → (turns : Turns choices halt service default c t now)
         → (most : ℕ) → length (messages g.plan client) ≤ most + client.taken
-        → AreFoundAt choices halt service default c t now turns g.setup g.plan (takings_of most g.setup g.plan client g.tale) (messages g.plan client)
+        → AreFoundAt choices halt service default c t now turns g.setup g.plan (takings_of most g.setup g.plan client g.tale) (talk_of g.plan client)
         client.taken }
 {
     crate::arrival::clients_look();

@@ -1,5 +1,5 @@
 -- What administrators made so far, behind an entry too.
-use Rattle.std.specs.Prelude.{◌≡◌, ◌<◌, ◌≤◌, ◌+◌, ◌-◌, ◌&&◌, ◌++◌, ℕ, zero, suc, Bool, true, false, All, fold, is_some, nat_eq, nat_le, if◌then◌else◌, length, map, slice_get, List, [], ◌∷◌, Option, Some, None}
+use Rattle.std.specs.Prelude.{◌≡◌, ◌<◌, ◌≤◌, ◌+◌, ◌-◌, ◌&&◌, ◌++◌, ℕ, suc, Bool, true, false, All, fold, is_some, nat_eq, nat_le, if◌then◌else◌, length, map, slice_get, List, [], ◌∷◌, Option, Some, None}
 use Rattle.std.proofs.Common.{refl, sym, ap, ◌∙◌, subst, arith}
 use Rattle.std.proofs.lemmas.Bool.{eqb-true, le-leb, lt-leb}
 use Rattle.std.proofs.lemmas.List.Elements.{All-head, All-tail}
@@ -18,7 +18,7 @@ use Rattle.log_story.specs.Plan.{Plan, own_at}
 use Rattle.log_story.specs.Tale.{Client, Tale, first_tale}
 use Rattle.log_story.specs.Telling.{tale_step}
 use Rattle.step_laws.proofs.Seating.{counted_seats}
-use Rattle.step_laws.specs.Seats.{AreCounted, IsSeated, numbers}
+use Rattle.step_laws.specs.Seats.{AreCounted, IsSeated}
 use Rattle.tale_world.specs.Decided.{Decided}
 use Rattle.core_service.specs.Serves.{rules_in}
 use Rattle.core_service.specs.declared.service.Service.{Service}
@@ -41,7 +41,7 @@ use Rattle.router_laws.proofs.OfDecisions.Recording.{one_more}
 use Rattle.router_laws.proofs.OfDecisions.Stating.{IsNumbered, numbered_in}
 use Rattle.router_laws.specs.clients.Continues.{IsThere}
 use Rattle.router_laws.specs.decisions.Administering.{AreOutcomes, IsOutcome}
-use Rattle.router_laws.specs.decisions.Deeds.{Counts, Deeds, Fate, among, counts_with, decided_by, decided_with, fate_at, fate_in, fate_of, known_with, no_fate, taken_by}
+use Rattle.router_laws.specs.decisions.Deeds.{Counts, Deeds, Fate, among, counts_with, decided_by, decided_with, fate_in, fate_of, known_with, no_fate, taken_by}
 use Rattle.router_laws.specs.decisions.Force.{rules_then}
 use Rattle.router_laws.specs.decisions.Judges.{IsJudgedAs, IsJudgedThen, JudgedFrom}
 use Rattle.router_laws.specs.decisions.Records.{AreCountsOf, IsRecorded}
@@ -119,10 +119,10 @@ module _ (outcomes : Outcomes) (setup : Setup) (plan : Plan) (takings : List Tak
         (
           record {
             judged = judged k least less;
-            taking = so.0.0;
-            among = so.0.1;
-            makes = subst (λ (answer : Option (List (List ℕ))). MakesIf (found k) so.0.0.client.port answer was was)
-                (sym (answered k less fate.routed ∙ fate.own)) (makes_none (found k) so.0.0.client.port was);
+            taking = so.0.0.0;
+            among = so.0.0.1;
+            makes = subst (λ (answer : Option (List (List ℕ))). MakesIf (found k) so.0.0.0.client.port answer was was)
+                (sym (answered k less fate.routed ∙ fate.own)) (makes_none (found k) so.0.0.0.client.port was);
           },
           so.1,
         ),

@@ -5,7 +5,6 @@ use Rattle.std.proofs.Common.{refl, sym, ap, ◌∙◌, subst, append_assoc, ari
 use Rattle.std.proofs.lemmas.Bool.{eqb-true, ltb-false, ltb-true}
 use Rattle.std.proofs.lemmas.List.Elements.{All-head, All-tail}
 use Rattle.std.proofs.lemmas.Option.{none-some}
-use Rattle.client_session.specs.Errors.{connection_refused}
 use Rattle.mx_wire.specs.Log.{Log, accepted_links}
 use Rattle.mx_wire.specs.declared.entry.Entry.{Entry}
 use Rattle.mx_wire.specs.declared.entry.Entry.TheVariants as entry
@@ -31,21 +30,24 @@ use Rattle.core_stands.specs.Servers.{IsServerBy, IsServerOr}
 use Rattle.core_laws.proofs.OfEntry.Going.{tale_more}
 use Rattle.core_laws.proofs.OfEntry.Lists.{seated_of}
 use Rattle.core_laws.proofs.OfHearing.Elsewhere.{CarriedLaw}
-use Rattle.core_laws.specs.clients.Going.{GivenUp, told_to}
+use Rattle.core_laws.specs.clients.Going.{GivenUp, told_to, Going}
 use Rattle.core_laws.specs.entry.Cores.{with_entry}
 use Rattle.core_laws.specs.entry.Tells.{IsOf, ground}
-use Rattle.core_promises.specs.Causes.{AreCaused, HasCause, IsCause, IsHeardCause, IsLateCause, IsLossCause, IsToldAtOnce, is_carried}
-use Rattle.core_promises.specs.InForce.{has_administrator}
+use Rattle.core_promises.specs.Causes.{AreCaused, HasCause, IsCause, IsHeardCause, IsLossCause, IsToldAtOnce, is_carried}
 use Rattle.router_laws.proofs.OfClients.Continuing.{all_were}
 use Rattle.router_laws.proofs.OfDecisions.Fates.{false_true, fate_there, fates_at_once, none_some}
 use Rattle.router_laws.proofs.OfDecisions.Listing.{is_tale_of}
 use Rattle.router_laws.proofs.OfDecisions.Recording.{one_more, or_new, own_given, own_new, own_open, own_stays, up_with}
 use Rattle.router_laws.specs.clients.Continues.{HasCome, WasThere}
-use Rattle.router_laws.specs.decisions.Causes.{AreLate, AreRefused, IsHeardFor, IsLostFor, carries_of}
-use Rattle.router_laws.specs.decisions.Deeds.{Counts, Deeds, Fate, among, counts_with, decided_by, decided_with, fate_at, known_with, taken_by}
+use Rattle.router_laws.specs.decisions.Causes.{IsHeardFor, IsLostFor, carries_of}
+use Rattle.router_laws.specs.decisions.Deeds.{Counts, Deeds, Fate, among, counts_with, decided_by, decided_with, fate_at, known_with, taken_by, Word}
 use Rattle.router_laws.specs.decisions.Records.{AreCountsOf, IsRecorded}
 use Rattle.router_laws.specs.links.Loses.{Break, ReadEnds, ReadFails, WriteFails, entry_by}
 use Rattle.router_laws.specs.wakes.Deciding.{payload_in}
+use Rattle.core_promises.specs.Endings.{IsPartedAt}
+use Rattle.router_laws.proofs.OfDecisions.Ending.{one_ends, or_right, part_cause}
+use Rattle.router_laws.specs.decisions.Goings.{deeds_of, end_of}
+use Rattle.router_laws.specs.decisions.Partings.{IsGoingParted, IsPartCause}
 
 -- What a link carries its row does.
 
@@ -99,6 +101,28 @@ module _ (law : CarriedLaw) (wait_ms : ℕ) (setup : Setup) (codes : Codes) (pla
   loss_why taken how (Some up) why c payload is =
       told_for (λ x p. IsCause wait_ms setup plan log (entry_by how l) (record { client = x; ordinal = taken x }) p) up
       (lost_by how (record { client = up.client; ordinal = taken up.client }) up.payload (subst (λ (b : Bool). IsLossCause b up.payload) (same up.client) why)) c payload is
+
+  -- Who is ended behind its turns is, where the link carries a session of it.
+
+  pub heard_parts : (budget : ℕ) (bytes : List ℕ) (given : Option GivenUp) (going : Option Going) → IsGoingParted budget l t going → (c : ClientNo) (end : Option Word)
+      → (deeds_of given going).ends c ≡ Some end → IsPartCause budget setup plan log (entry.Got l bytes) c end
+  heard_parts budget bytes given None parted c end is = none_some None end refl is
+  heard_parts budget bytes given (Some it) parted c end is =
+      one_ends (IsPartCause budget setup plan log (entry.Got l bytes)) it.client (end_of it.parting)
+      (part_cause budget setup plan log (entry.Got l bytes) it.client (carries_of l t it.client ≡ true) (λ carries. sym (same it.client) ∙ carries) it.parting
+      parted) c end is
+
+  pub lost_at : (how : Break) (c : ClientNo) → carries_of l t c ≡ true → IsPartedAt setup plan log (entry_by how l) c
+  lost_at ReadEnds c carries = or_right _ _ (sym (same c) ∙ carries)
+  lost_at ReadFails c carries = or_right _ _ (sym (same c) ∙ carries)
+  lost_at WriteFails c carries = or_right _ _ (sym (same c) ∙ carries)
+
+  pub loss_parts : (budget : ℕ) (how : Break) (given : Option GivenUp) (going : Option Going) → IsGoingParted budget l t going → (c : ClientNo) (end : Option Word)
+      → (deeds_of given going).ends c ≡ Some end → IsPartCause budget setup plan log (entry_by how l) c end
+  loss_parts budget how given None parted c end is = none_some None end refl is
+  loss_parts budget how given (Some it) parted c end is =
+      one_ends (IsPartCause budget setup plan log (entry_by how l)) it.client (end_of it.parting)
+      (part_cause budget setup plan log (entry_by how l) it.client (carries_of l t it.client ≡ true) (lost_at how it.client) it.parting parted) c end is
 
 -- of several
 pub all_why : (P : ClientNo → List ℕ → Type 0) (given : List GivenUp) → All (λ (up : GivenUp). P up.client up.payload) given

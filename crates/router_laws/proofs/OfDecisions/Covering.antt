@@ -3,6 +3,7 @@ use Rattle.std.specs.Prelude.{◌≡◌, ◌<◌, ◌≤◌, ℕ, suc, Bool, tru
 use Rattle.std.proofs.Common.{refl, sym, ap, ◌∙◌, subst}
 use Rattle.mx_wire.specs.declared.entry.Entry.{Entry}
 use Rattle.packet_frame.specs.Packets.{Framed}
+use Rattle.client_session.specs.Answers.{Talk, messages_of}
 use Rattle.client_session.specs.Setups.{Setup as Service}
 use Rattle.private_model.specs.Commands.{Reply}
 use Rattle.private_model.specs.Names.{ClientNo, MessageName}
@@ -95,18 +96,20 @@ module _ (setup : Setup) (plan : Plan) (c : ClientNo) where
     last_covered Quits name last = let at = covers name last.0 last.1 in (at.other, at.among)
 
     pub found_covered : (choices : List Choice) (halt : Halt) (service : Service) (default : List ℕ) (before after : Tabled)
-        (turns : Turns choices halt service default c before after) (said : List Framed) (k : ℕ)
-        → AreFoundAt choices halt service default c before after turns setup plan takings said k
-        → AreFoundAt choices halt service default c before after turns setup plan others said k
-    found_covered [] halt service default before after turns said k found = last_covered halt (message_at c (suc k)) found
-    found_covered (choice ∷ rest) halt service default before after turns said k found =
+        (turns : Turns choices halt service default c before after) (talk : Talk) (k : ℕ)
+        → AreFoundAt choices halt service default c before after turns setup plan takings talk k
+        → AreFoundAt choices halt service default c before after turns setup plan others talk k
+    found_covered [] halt service default before after turns talk k found = (last_covered halt (message_at c (suc k)) found.0, found.1)
+    found_covered (choice ∷ rest) halt service default before after turns talk k found =
         let at = covers (message_at c (suc k)) found.0.taking found.0.among in (
           record {
             taking = at.other;
             among = at.among;
-            at = seen_at choice service default before turns.0 turns.1 (slice_get said k) found.0.taking at.other at.client at.seen found.0.at;
+            at =
+                seen_at choice service default before turns.0 turns.1 (slice_get (messages_of talk).messages k) found.0.taking at.other at.client at.seen
+                found.0.at;
           },
-          found_covered rest halt service default turns.0 after turns.2 said (suc k) found.1,
+          found_covered rest halt service default turns.0 after turns.2 talk (suc k) found.1,
         )
 
 -- what follows for one client at an entry is among all that is taken up there

@@ -1,5 +1,5 @@
 -- That an administrator came stays so, and rules that are loaded.
-use Rattle.std.specs.Prelude.{◌≡◌, ◌||◌, ◌++◌, Bool, false, true, List, [], ◌∷◌, None, Option, Some}
+use Rattle.std.specs.Prelude.{◌≡◌, ◌||◌, ◌++◌, Bool, false, true, [], ◌∷◌, None, Option, Some}
 use Rattle.std.specs.Option.{option_map_or}
 use Rattle.std.proofs.Common.{ap, refl}
 use Rattle.mx_wire.specs.Log.{Log}
@@ -48,4 +48,5 @@ loads service texts admin log t roomy loaded router = record {
   held = router.held;
   noted = router.noted;
   caused = router.caused;
+  ended = router.ended;
 }

@@ -2,13 +2,14 @@
 use Rattle.std.specs.Prelude.{◌≡◌, ◌⊎◌, ◌<◌, ◌≤◌, ◌+◌, ◌&&◌, ◌++◌, ℕ, zero, suc, Bool, true, false, All, fold, is_some, nat_eq, nat_le, nat_lt, if◌then◌else◌, length, slice_get, slice_index_or, List, [], ◌∷◌, Option, Some, None}
 use Rattle.std.specs.Option.{option_map}
 use Rattle.std.proofs.Common.{refl, sym, ap, ◌∙◌, subst, arith, inl, inr}
-use Rattle.std.proofs.lemmas.Bool.{eqb-true, le-leb, lt-leb, ltb-false, ltb-true}
+use Rattle.std.proofs.lemmas.Bool.{eqb-true, le-leb, lt-leb, ltb-false, ltb-true, true≢false}
 use Rattle.std.proofs.lemmas.Option.{same_Some}
 use Rattle.mx_wire.specs.Log.{Log, accepted_links}
 use Rattle.mx_wire.specs.declared.entry.Entry.{Entry}
 use Rattle.mx_wire.specs.declared.entry.Entry.TheVariants as entry
 use Rattle.mx_base.specs.declared.names.Port.{Port}
 use Rattle.packet_frame.specs.Packets.{Framed}
+use Rattle.client_session.specs.Answers.{Talk}
 use Rattle.client_session.specs.Setups.{Setup as Serving}
 use Rattle.private_model.specs.Names.{ClientNo, MessageName}
 use Rattle.private_model.proofs.Maps.{client_of}
@@ -32,8 +33,8 @@ use Rattle.core_tables.specs.Tables.{Tabled}
 use Rattle.core_laws.proofs.OfEntry.Going.{tale_more}
 use Rattle.core_laws.proofs.OfEntry.Growing.{messages_more}
 use Rattle.core_laws.proofs.OfEntry.Lists.{seated_of}
-use Rattle.core_laws.specs.clients.Found.{AreFoundAt, IsAmong, IsFound, IsFoundIn, IsLastAmong, desk_up}
-use Rattle.core_laws.specs.clients.Turns.{Answers, Choice, Ends, Goes, Halt, IsTurn, Quits, Rests, Turns, Waits}
+use Rattle.core_laws.specs.clients.Found.{AreFoundAt, IsAmong, IsEndFound, IsFound, IsFoundIn, IsLastAmong, desk_up}
+use Rattle.core_laws.specs.clients.Turns.{Answers, Choice, Ends, Goes, Halt, HaltsSo, IsTurn, Quits, Rests, Turns, Waits}
 use Rattle.core_laws.specs.entry.Cores.{with_entry}
 use Rattle.core_laws.specs.entry.Tells.{Fits, IsOf}
 use Rattle.core_promises.proofs.Takings.{taken_before, taken_now}
@@ -41,7 +42,7 @@ use Rattle.core_promises.proofs.Knowing.{KnowsMore, routed_within, told_within}
 use Rattle.core_promises.specs.Judges.{AreJudged, book_for, IsJudged, IsRoutedFor, IsToldFor, Rulebook, Situation, situation_of}
 use Rattle.core_promises.specs.Administered.{MakesIf}
 use Rattle.core_promises.specs.Administers.{Administered, Makes}
-use Rattle.core_promises.specs.Ruled.{AreKept, AreRuled, IsChoiceFor, IsRuled, Ruling, book_of, from, situation_at, until}
+use Rattle.core_promises.specs.Ruled.{AreKept, AreRuled, IsChoiceFor, IsRuled, Ruling, SaysItQuits, book_of, from, situation_at, until}
 use Rattle.router_promises.specs.Takings.{Taking, takings_at}
 use Rattle.shared_router.proofs.Furthering.{IsWithin, within_step}
 use Rattle.shared_router.proofs.Looked.{Each, each-all}
@@ -55,12 +56,14 @@ use Rattle.router_laws.proofs.OfDecisions.Planning.{fate_so, own_so}
 use Rattle.router_laws.proofs.OfDecisions.Recording.{one_more}
 use Rattle.router_laws.specs.clients.Continues.{HasCome, WasThere}
 use Rattle.router_laws.proofs.OfDecisions.Situated.{situated}
-use Rattle.router_laws.specs.decisions.Judges.{AreSent, HasKeys, IsJudgedAs, IsJudgedThen, JudgedFrom, Judging, JudgesThen, all_keys, judging_by, judging_of}
+use Rattle.router_laws.specs.decisions.Judges.{AreSent, HasKeys, IsJudgedAs, IsJudgedThen, JudgedFrom, Judging, JudgesThen, SaysHalt, all_keys, judging_by, judging_of}
 use Rattle.router_laws.proofs.OfDecisions.Stating.{IsNumbered, its_state, one_begins, one_ends, one_state, others_state}
 use Rattle.router_laws.specs.decisions.Deeds.{Counts, Deeds, Fate, Word, among, counts_with, decided_by, decided_with, fate_at, fate_in, fate_of, is_quitting, known_with, no_deeds, no_fate, parting, taken_by, taking}
 use Rattle.router_laws.specs.decisions.Force.{rules_then}
 use Rattle.router_laws.specs.decisions.Records.{AreCountsOf, IsRecorded}
 use Rattle.router_laws.specs.decisions.Rulings.{AreKeptIn}
+use Rattle.core_laws.specs.clients.Follows.{quits_by}
+use Rattle.router_laws.specs.decisions.Partings.{IsPartCause}
 
 -- Of a client's messages that came up at its turns, where these are by the verdict.
 
@@ -119,14 +122,28 @@ module _ (ruling : Ruling) (setup : Setup) (plan : Plan) (client : Client) (has 
         (subst (λ (port : Port). Makes port turn.up.message.payload (Some payloads) ruling.was ruling.is) (sym found.at.port) ruled.1);
   }
 
+-- how the turns end is said, by what was found and ruled
+says_halt : (halt : Halt) (service : Serving) (default : List ℕ) (c : ClientNo) (old new : Tabled) (there : HaltsSo halt service default c old new)
+    (talk : Talk) (k : ℕ) → IsEndFound halt service default c old new there talk k → SaysItQuits halt service default c old new there
+    → SaysHalt halt talk k
+says_halt Waits service default c old new there talk k found says = tt
+says_halt Rests service default c old new there talk k found says = tt
+says_halt Quits service default c old new there talk k found says = (there.up.message, (found, says))
+says_halt Ends service default c old new there talk k found says = found
+
 pub judged_by : (ruling : Ruling) (setup : Setup) (plan : Plan) (client : Client) (has : HasKeys ruling.keys setup) (takings : List Taking) (k : ℕ)
     (choices : List Choice) (halt : Halt) (service : Serving) (default : List ℕ) (c : ClientNo) → client.number ≡ c → (old new : Tabled)
     (turns : Turns choices halt service default c old new)
-    → AreFoundAt choices halt service default c old new turns setup plan takings (messages plan client) k
+    → AreFoundAt choices halt service default c old new turns setup plan takings (talk_of plan client) k
     → AreRuled ruling choices halt service default c old new turns → AreKeptIn ruling (old.clients c)
     → JudgedFrom (judging_of ruling) setup plan client takings k choices halt
-judged_by ruling setup plan client has takings k [] halt service default c number old new turns found ruled kept =
-    (subst (λ (n : ClientNo). IsLastAmong halt takings (message_at n (suc k))) (sym number) found, ruled)
+judged_by ruling setup plan client has takings k [] halt service default c number old new turns found ruled kept = (
+  (
+    subst (λ (n : ClientNo). IsLastAmong halt takings (message_at n (suc k))) (sym number) found.0,
+    says_halt halt service default c old new turns (talk_of plan client) k found.1 ruled.0,
+  ),
+  ruled.1,
+)
 judged_by ruling setup plan client has takings k (choice ∷ others) halt service default c number old new turns found ruled kept = (
   ruled.0,
   (
@@ -196,7 +213,7 @@ module _ (book : Rulebook) (setup : Setup) (plan : Plan) (client : Client) where
     pub judged_at : (was end : Administered) (choices : List Choice) (halt : Halt) (first k : ℕ) (fate : Fate)
         → JudgedFrom (by was end) setup plan client takings first choices halt → fate_in choices halt (suc first) (suc k) ≡ Some fate
         → IsFated takings k fate
-    judged_at was end [] halt first k fate judged is = judged_last halt first k fate judged.0 is
+    judged_at was end [] halt first k fate judged is = judged_last halt first k fate judged.0.0 is
     judged_at was end (choice ∷ others) halt first k fate judged is =
         at_first (nat_eq (suc k) (suc first)) refl is (judged_at judged.0 end others halt (suc first) k fate judged.1.1) where
           at_first : (b : Bool) → nat_eq (suc k) (suc first) ≡ b
@@ -207,13 +224,13 @@ module _ (book : Rulebook) (setup : Setup) (plan : Plan) (client : Client) where
               (subst (IsFated takings first) (same_Some (fate_of choice) fate has) (judged_first was judged.0 first choice judged.1.0))
           at_first false other has later = later has
 
-    pub judged_none : (was : Administered) (k : ℕ) (choices : List Choice) (halt : Halt) → taken_by choices halt ≡ 0
+    pub judged_none : (was : Administered) (k : ℕ) (choices : List Choice) (halt : Halt) → taken_by choices halt ≡ 0 → quits_by halt ≡ false
         → JudgedFrom (by was was) setup plan client takings k choices halt
-    judged_none was k [] Waits none = (tt, refl)
-    judged_none was k [] Rests none = (tt, refl)
-    judged_none was k [] Ends none = (tt, refl)
-    judged_none was k [] Quits none = absurd (omega (arith, none))
-    judged_none was k (choice ∷ others) halt none = absurd (omega (arith, none))
+    judged_none was k [] Waits none stays = ((tt, tt), refl)
+    judged_none was k [] Rests none stays = ((tt, tt), refl)
+    judged_none was k [] Ends none stays = absurd (true≢false stays)
+    judged_none was k [] Quits none stays = absurd (omega (arith, none))
+    judged_none was k (choice ∷ others) halt none stays = absurd (omega (arith, none))
 
 -- what is decided of those that are known is decided
 pub fate_among : (b : Bool) (choices : List Choice) (halt : Halt) (first ordinal : ℕ) (fate : Fate)
@@ -227,30 +244,44 @@ pub none_sent : (plan : Plan) (tale : Tale) (given : ClientNo → Option (List �
 none_sent plan tale given none = λ k dflt within some.
     false_true (is_some (given (slice_index_or tale.clients k dflt).number)) (ap is_some (none (slice_index_or tale.clients k dflt).number)) some
 
+-- Clients are ended behind their turns for a cause alone.
+abbrev pub PartsThen : Service → Log → Entry → Decided → Counts → Deeds → Type 0
+PartsThen service log e d n deeds =
+    (setup : Setup) (codes : Codes) (plan : Plan) → IsOf (decided_with deeds n log e d) (length (with_entry log e)) plan
+    → Fits (decided_with deeds n log e d).keys setup codes plan service.default_schema (tale_of setup plan (with_entry log e))
+    → (c : ClientNo) (end : Option Word) → deeds.ends c ≡ Some end → IsPartCause service.buffer_budget setup plan log e c end
+
 -- and take up nothing
 pub judges_none : (service : Service) (log : Log) (e : Entry) (d : Decided) (n : Counts) (deeds : Deeds) (was : Administered)
-    → ((c : ClientNo) → taken_by (deeds.calls c) (deeds.halts c) ≡ 0) → ((c : ClientNo) → deeds.given c ≡ None)
-    → JudgesThen service log e d n deeds was was
-judges_none service log e d n deeds was none ungiven setup codes plan of fits = record {
+    → ((c : ClientNo) → taken_by (deeds.calls c) (deeds.halts c) ≡ 0) → ((c : ClientNo) → quits_by (deeds.halts c) ≡ false) → ((c : ClientNo) → deeds.given c ≡ None)
+    → PartsThen service log e d n deeds → JudgesThen service log e d n deeds was was
+judges_none service log e d n deeds was none stay ungiven parts setup codes plan of fits = record {
   states = λ number. was;
   begins = refl;
   ends = refl;
   forced = λ c some. let no : taken_by (deeds.calls c) (deeds.halts c) ≡ 0 = none c in absurd (omega (arith, some, no));
   takes = λ client seated.
       judged_none (book_of service) setup plan client (takings_at setup plan (tale_of setup plan log) e) was (n.taken client.number)
-      (deeds.calls client.number) (deeds.halts client.number) (none client.number);
+      (deeds.calls client.number) (deeds.halts client.number) (none client.number) (stay client.number);
   gives = none_sent plan (tale_of setup plan log) deeds.given ungiven;
   why = λ c payload is. none_some (deeds.given c) payload (ungiven c) is;
+  parts = parts setup codes plan of fits;
 }
 
 none_either : (b : Bool) → taken_by (if b then [] else []) (if b then Rests else Rests) ≡ 0
 none_either true = refl
 none_either false = refl
 
+stays_either : (b : Bool) → quits_by (if b then Rests else Rests) ≡ false
+stays_either true = refl
+stays_either false = refl
+
 pub judges_of_none : (service : Service) (log : Log) (e : Entry) (d : Decided) (n : Counts) (c : ClientNo) (last : Option (Option Word)) (was : Administered)
+    → PartsThen service log e d n (parting c last (taking c [] Rests no_deeds))
     → JudgesThen service log e d n (parting c last (taking c [] Rests no_deeds)) was was
-judges_of_none service log e d n c last was =
-    judges_none service log e d n (parting c last (taking c [] Rests no_deeds)) was (λ x. none_either (nat_eq c.0 x.0)) (λ x. refl)
+judges_of_none service log e d n c last was parts =
+    judges_none service log e d n (parting c last (taking c [] Rests no_deeds)) was (λ x. none_either (nat_eq c.0 x.0)) (λ x. stays_either (nat_eq c.0 x.0)) (λ x. refl)
+    parts
 
 -- who takes them up alone
 pub judges_taking : (service : Service) (log : Log) (e : Entry) (d : Decided) (n : Counts) (c : ClientNo) (choices : List Choice) (halt : Halt)
@@ -259,8 +290,9 @@ pub judges_taking : (service : Service) (log : Log) (e : Entry) (d : Decided) (n
     → Fits (decided_with (parting c last (taking c choices halt no_deeds)) n log e d).keys setup codes plan service.default_schema (tale_of setup plan (with_entry log e))
     → IsNumbered (tale_of setup plan (with_entry log e)) c × ((client : Client) → IsSeated (tale_of setup plan (with_entry log e)) client → client.number ≡ c
     → JudgedFrom (judging_by service was is) setup plan client (takings_at setup plan (tale_of setup plan log) e) (n.taken c) choices halt))
+    → PartsThen service log e d n (parting c last (taking c choices halt no_deeds))
     → JudgesThen service log e d n (parting c last (taking c choices halt no_deeds)) was is
-judges_taking service log e d n c choices halt last was is settled judged setup codes plan of fits = record {
+judges_taking service log e d n c choices halt last was is settled judged parts setup codes plan of fits = record {
   states = one_state c was is;
   begins = one_begins (tale_of setup plan (with_entry log e)) c was is (judged setup codes plan of fits).0;
   ends = one_ends (tale_of setup plan (with_entry log e)) c was is (judged setup codes plan of fits).0;
@@ -268,6 +300,7 @@ judges_taking service log e d n c choices halt last was is settled judged setup 
   takes = λ client seated. by_one client seated (nat_eq c.0 client.number.0) refl;
   gives = none_sent plan (tale_of setup plan log) (λ x. None) (λ x. refl);
   why = λ x payload is. none_some None payload refl is;
+  parts = parts setup codes plan of fits;
 } where
   Judged : Client → (a b : Administered) → ClientNo → List Choice → Halt → Type 0
   Judged client a b x taken_up how = JudgedFrom (judging_by service a b) setup plan client (takings_at setup plan (tale_of setup plan log) e) (n.taken x) taken_up how
@@ -275,7 +308,7 @@ judges_taking service log e d n c choices halt last was is settled judged setup 
   by_one : (client : Client) → IsSeated (tale_of setup plan (with_entry log e)) client → (b : Bool) → nat_eq c.0 client.number.0 ≡ b
       → Judged client (one_state c was is client.number.0) (one_state c was is (suc client.number.0)) client.number (if b then choices else [])
       (if b then halt else Rests)
-  by_one client seated false other = (tt, others_state c was is client.number.0 other)
+  by_one client seated false other = ((tt, tt), others_state c was is client.number.0 other)
   by_one client seated true its =
       let same : c ≡ client.number = client_of c client.number its in
       subst (λ (x : ClientNo). Judged client (one_state c was is x.0) (one_state c was is (suc x.0)) x choices halt) same

@@ -204,6 +204,7 @@ module _ (service : Service) (old new : Texts) (admin : Administered) (log : Log
     noted = λ setup codes plan of fits c one at.
         router.noted setup codes plan (less plan of) (fit setup codes plan _ fits) c one (sym (more.noted c) ∙ at);
     caused = λ setup codes plan of fits. router.caused setup codes plan (less plan of) (fit setup codes plan _ fits);
+    ended = λ setup codes plan of fits. router.ended setup codes plan (less plan of) (fit setup codes plan _ fits);
     held = λ setup codes plan of fits.
         held_more old new more d setup plan (tale_of setup plan log) (router.held setup codes plan (less plan of) (fit setup codes plan _ fits));
   }
@@ -326,6 +327,7 @@ forgets service old new admin log t roomy router less keeps = record {
   judged = router.judged;
   noted = λ setup codes plan of fits c one at. router.noted setup codes plan of fits c one (less.noted c one at);
   caused = router.caused;
+  ended = router.ended;
   held = λ setup codes plan of fits k dflt within on.
       let tale : Tale = tale_of setup plan log in
       held_stays service.setup (ground setup codes plan router.core.decided log) t (router.core.rests setup codes plan of fits).stands

@@ -1,5 +1,5 @@
 -- What is noted of messages is so, and stays so.
-use Rattle.std.specs.Prelude.{◌≡◌, ◌<◌, ◌≤◌, ◌++◌, ◌||◌, ◌&&◌, ℕ, Bool, true, false, All, is_some, nat_eq, nat_le, if◌then◌else◌, length, List, [], ◌∷◌, Option, Some, None}
+use Rattle.std.specs.Prelude.{◌≡◌, ◌<◌, ◌++◌, ◌||◌, ◌&&◌, ℕ, Bool, true, false, All, is_some, nat_eq, nat_le, if◌then◌else◌, length, List, [], ◌∷◌, Option, Some}
 use Rattle.std.specs.List.{list_any}
 use Rattle.std.proofs.Common.{refl, sym, ap, ◌∙◌, subst, append_assoc, append-nil, arith}
 use Rattle.std.proofs.lemmas.Bool.{le-leb, true≢false}
@@ -74,7 +74,7 @@ none_any f (x ∷ xs) none = by (f x) refl none (none_any f xs) where
   by true at is others = absurd (true≢false is)
   by false at is others = All-cons (λ (y : Client). f y ≡ false) x xs at (others is)
 
-any_seated : (f : Client → Bool) (tale : Tale) (client : Client) → IsSeated tale client → f client ≡ true → list_any f tale.clients ≡ true
+pub any_seated : (f : Client → Bool) (tale : Tale) (client : Client) → IsSeated tale client → f client ≡ true → list_any f tale.clients ≡ true
 any_seated f tale client seated is = by (list_any f tale.clients) refl where
   by : (b : Bool) → list_any f tale.clients ≡ b → list_any f tale.clients ≡ true
   by true at = at
@@ -154,6 +154,7 @@ module _ (service : Service) (old new : Texts) (admin : Administered) (log : Log
         };
     noted = λ setup codes plan of fits. each setup codes plan of fits;
     caused = router.caused;
+    ended = router.ended;
   }
 
 -- Of what is given up at a wake it is so.

@@ -1,6 +1,6 @@
 -- The core goes on with an entry by its deeds.
 use Rattle.std.specs.Prelude.{true, false, ◌≡◌, ◌<◌, ℕ, zero, suc, Bool, All, is_some, length, take, List, [], Option, Some, None}
-use Rattle.std.proofs.Common.{inl, refl, sym, ◌∙◌, subst, arith}
+use Rattle.std.proofs.Common.{refl, sym, ◌∙◌, subst, arith}
 use Rattle.std.proofs.lemmas.List.Elements.{All-nil, All-weaker}
 use Rattle.mx_wire.specs.Log.{Log}
 use Rattle.mx_wire.specs.Moments.{lawful-more}
@@ -28,6 +28,7 @@ use Rattle.core_laws.specs.entry.Dues.{AreWrittenTo, IsWrittenTo}
 use Rattle.core_laws.specs.entry.Grows.{IsHeardMore, IsMoreBy}
 use Rattle.core_laws.specs.entry.Safe.{IsSafe}
 use Rattle.core_laws.specs.entry.Tells.{Fits, IsOf, ground}
+use Rattle.router_laws.proofs.OfDecisions.Ending.{ended_then, halts_say}
 use Rattle.router_laws.proofs.OfDecisions.Causing.{caused_then}
 use Rattle.router_laws.proofs.OfDecisions.Noting.{taken_later}
 use Rattle.router_laws.proofs.OfDecisions.Held.{held_then}
@@ -44,9 +45,11 @@ use Rattle.router_promises.specs.Terms.{plan_in, setup_in}
 use Rattle.core_promises.specs.Waits.{AreDoneBy, WaitsSo}
 use Rattle.router_laws.proofs.OfDecisions.Speaking.{first_spoken, ours_alone, spoken_then}
 use Rattle.core_promises.specs.Causes.{AreCaused, CausedBy}
+use Rattle.core_promises.specs.Endings.{EndedBy, EndsForCause}
+use Rattle.router_promises.specs.Takings.{takings_at}
 use Rattle.core_promises.specs.Judges.{AreJudged, JudgesBy}
 use Rattle.router_laws.specs.decisions.Held.{AreHeldBy, IsHeld}
-use Rattle.router_laws.specs.decisions.Judges.{JudgesThen}
+use Rattle.router_laws.specs.decisions.Judges.{JudgesThen, judging_by}
 use Rattle.router_laws.specs.decisions.Noted.{AreNotedBy, message}
 use Rattle.router_laws.specs.decisions.Force.{rules_then}
 use Rattle.router_laws.specs.decisions.Speaks.{AreOurs}
@@ -163,6 +166,17 @@ module _ {texts : Texts} {was is : Administered} (service : Service) (log : Log)
       caused_then service.wait_ms log e router.core.decided router.counts deeds router.recorded setup plan of (router.counted setup codes plan then fitted)
       (counts_now setup codes plan of fits) (router.caused setup codes plan then fitted) (judges setup codes plan of fits).why
 
+  ended_now : EndedBy service.buffer_budget service.default_schema new (with_entry log e)
+  ended_now setup codes plan of fits =
+      let then : IsOf router.core.decided (length log) plan = of_then setup codes plan of fits in
+      let fitted : Fits router.core.decided.keys setup codes plan service.default_schema (tale_of setup plan log) = fits_then setup codes plan of fits in
+      let judged = judges setup codes plan of fits in
+      ended_then service.buffer_budget log e router.core.decided router.counts deeds router.recorded setup plan of (router.ended setup codes plan then fitted)
+      (λ client seated.
+      halts_say setup plan client (takings_at setup plan (tale_of setup plan log) e) (deeds.calls client.number) (deeds.halts client.number)
+      (judging_by service (judged.states client.number.0) (judged.states (suc client.number.0))) (router.counts.taken client.number) (judged.takes client seated))
+      judged.parts
+
   pub router_goes_on : AreOpenJust (with_entry log e) now → IsRouter service texts is (with_entry log e) now room
   router_goes_on open_just = record {
     core = record { decided = new; rests = rests_now; safe = safe_now; written = written_now; opened = λ l there. sym (open_just l) ∙ there };
@@ -182,6 +196,7 @@ module _ {texts : Texts} {was is : Administered} (service : Service) (log : Log)
     held = held_now;
     noted = noted_now;
     caused = caused_now;
+    ended = ended_now;
   }
 
 module _ {texts : Texts} {admin : Administered} (service : Service) (log : Log) (e : Entry) (t : Tabled) (roomy : ClientNo → Bool) (deeds : Deeds) (setup : Setup)
@@ -235,6 +250,7 @@ changed service log t now roomy room router rests open_just = record {
   held = router.held;
   noted = router.noted;
   caused = router.caused;
+  ended = router.ended;
 }
 
 roomier : (service : Serving) (g : Ground) (t : Tabled) (roomy room : ClientNo → Bool) → ((c : ClientNo) → roomy c ≡ true → room c ≡ true)
@@ -310,4 +326,5 @@ router_of_none service texts admin begins roomy unloaded none unnoted stands = r
       All-nil (λ (client : Client). is_some ((first_deciding service.setup).ends client.number) ≡ false → IsHeld (key_at texts) setup plan (tale_of setup plan []) client);
   noted = λ setup codes plan of fits c one at. none_some (noted_at texts c) one (unnoted c) at;
   caused = λ setup codes plan of fits. All-nil (AreCaused service.wait_ms setup plan []);
+  ended = λ setup codes plan of fits. All-nil (EndsForCause service.buffer_budget setup plan []);
 }

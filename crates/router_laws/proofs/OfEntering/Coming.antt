@@ -1,6 +1,6 @@
 -- A client comes, and is served or turned away.
 use Rattle.std.specs.Prelude.{◌≡◌, ◌≤◌, ◌+◌, ℕ, suc, Bool, true, false, is_some, length, nat_eq, if◌then◌else◌, List, [], ◌∷◌, Option, Some, None}
-use Rattle.std.proofs.Common.{refl, ap, ◌∙◌, subst, arith, length-append}
+use Rattle.std.proofs.Common.{refl, ap, ◌∙◌, subst, arith, length-append, inl}
 use Rattle.std.proofs.lemmas.List.Elements.{All-nil, filter_map-append}
 use Rattle.mx_base.specs.declared.names.LinkId.{LinkId}
 use Rattle.mx_base.specs.declared.names.Port.{Port}
@@ -36,6 +36,8 @@ use Rattle.router_laws.specs.decisions.Plans.{HasNewcomer}
 use Rattle.core_promises.specs.Administers.{Administered}
 use Rattle.router_laws.specs.decisions.Routers.{AreOpenJust, GoesSo, IsBefore, IsRouter}
 use Rattle.router_laws.proofs.OfEntering.Deciding as deciding
+use Rattle.router_laws.proofs.OfDecisions.Ending.{one_ends}
+use Rattle.router_laws.specs.decisions.Partings.{IsPartCause}
 
 pub known_more : (log : Log) (port : Port) (link : LinkId) (salt : List ℕ) → known_with log (Accepted port link salt) ≡ length (accepted_links log) + 1
 known_more log port link salt =
@@ -114,7 +116,8 @@ module _ {texts : Texts} {admin : Administered} (service : Service) (log : Log) 
   comes_routed goes =
       router_goes_on service log e deeds t now roomy roomy router may
       (deciding.ours service log e t now roomy roomy router may c [] Resting last (All-nil (IsOurs (rules_in service) texts c)) said_ours) (λ terms codes of fits. tt)
-      (judges_of_none service log e router.core.decided router.counts c last admin) goes_so where
+      (judges_of_none service log e router.core.decided router.counts c last admin
+      (λ setup codes plan of fits. one_ends (IsPartCause service.buffer_budget setup plan log e) c last (λ end is. inl count))) goes_so where
         goes_so : (setup : Setup) (codes : Codes) (plan : Plan) → IsOf new (length (with_entry log e)) plan → FitsThen new.keys setup codes plan service.default_schema log e
             → GoesSo service.setup setup codes plan log e router.core.decided router.counts deeds t now roomy roomy
         goes_so setup codes plan of fits =

@@ -41,7 +41,7 @@ use Rattle.router_laws.specs.clients.Counted.{GoesTaking, TakesOne}
 use Rattle.router_laws.specs.clients.Finds.{GoesFinding}
 use Rattle.router_laws.specs.clients.Plans.{FitsThen, IsDecided, PlansEnd, PlansTurns, ends_of, nobody, over_by}
 use Rattle.router_promises.specs.Takings.{takings_at}
-use Rattle.router_laws.proofs.OfDecisions.Judging.{judged_by, judges_taking}
+use Rattle.router_laws.proofs.OfDecisions.Judging.{judged_by, judges_taking, PartsThen}
 use Rattle.router_laws.proofs.OfDecisions.Gathering.{all_still, over_then, silent_at}
 use Rattle.router_laws.proofs.OfDecisions.Keeping.{more_known, recorded_then}
 use Rattle.router_laws.proofs.OfDecisions.Listing.{all_rise, counted_below, is_tale_of}
@@ -344,9 +344,9 @@ module _ {texts : Texts} {admin : Administered} (service : Service) (log : Log) 
         (setup : Setup) (codes : Codes) (plan : Plan) (of : IsOf new (length (with_entry log e)) plan)
         (fits : FitsThen new.keys setup codes plan service.default_schema log e) → Finds setup codes plan
 
-    pub finds_router : WaitsThen service log e router.core.decided → FindsBy → ((tale : Tale) (x : tales.Client) → HasCome tale e x → ⊥)
+    pub finds_router : WaitsThen service log e router.core.decided → FindsBy → PartsThen service log e d router.counts deeds → ((tale : Tale) (x : tales.Client) → HasCome tale e x → ⊥)
         → ((setup : Setup) (tale : Tale) → BeginsSo setup tale e deeds) → AreOpenJust (with_entry log e) now → IsRouter service texts is (with_entry log e) now room
-    finds_router waits finds = goes_router is waits (judges_taking service log e d router.counts c choices halt last admin is settled judged) goes where
+    finds_router waits finds parts = goes_router is waits (judges_taking service log e d router.counts c choices halt last admin is settled judged parts) goes where
       goes : GoesBy
       goes setup codes plan of fits =
           subst (λ (k : ℕ). GoesTaking service.setup setup codes plan log e d new t now roomy room c k) (count_alike choices halt)

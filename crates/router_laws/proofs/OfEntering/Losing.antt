@@ -13,8 +13,8 @@ use Rattle.client_session.specs.Setups.{Setup as Serving}
 use Rattle.client_seat.specs.Seats.{account_in, is_ended}
 use Rattle.client_seat.specs.declared.phase.Phase.{Phase}
 use Rattle.client_seat.specs.declared.phase.Phase.TheVariants as phase
-use Rattle.private_model.specs.Names.{ClientNo}
-use Rattle.private_model.specs.Story.{is_client}
+use Rattle.private_model.specs.Names.{ClientNo, LinkId}
+use Rattle.private_model.specs.Story.{is_client, is_link_id}
 use Rattle.private_model.specs.View.{Setup}
 use Rattle.link_laws.specs.Stands.{Codes}
 use Rattle.log_story.specs.Plan.{Plan}
@@ -24,7 +24,7 @@ use Rattle.log_story.specs.Tale.{Tale}
 use Rattle.tale_world.specs.Decided.{Decided}
 use Rattle.core_tables.specs.Tables.{Tabled}
 use Rattle.core_stands.specs.Grounds.{Ground}
-use Rattle.core_stands.specs.Stands.{IsKnown}
+use Rattle.core_stands.specs.Stands.{IsKnown, Stands}
 use Rattle.router_laws.specs.decisions.Counting.{BeginsSo}
 use Rattle.router_laws.specs.decisions.Deeds.{Deeds}
 use Rattle.router_laws.proofs.OfDecisions.Judging.{judges_of_none}
@@ -41,7 +41,7 @@ use Rattle.core_laws.specs.entry.Tells.{ground}
 use Rattle.core_laws.specs.clients.Follows.{Parting}
 use Rattle.core_laws.specs.clients.Turns.{Choice, Halt, Rests as Resting}
 use Rattle.router_laws.proofs.OfClients.Leaving.{loss_of}
-use Rattle.router_laws.proofs.OfClients.Linking.{client_there, is_client_row, known}
+use Rattle.router_laws.proofs.OfClients.Linking.{client_there, is_client_row, known, link_is}
 use Rattle.router_laws.proofs.OfClients.Saying.{arrived_there, goes_there}
 use Rattle.router_laws.specs.clients.Counted.{GoesTaking}
 use Rattle.router_laws.specs.clients.Finds.{GoesFinding}
@@ -57,6 +57,14 @@ use Rattle.router_laws.proofs.OfEntering.Opening.{again_keeps, at_once_keeps, go
 use Rattle.router_laws.specs.entering.Rooms.{OthersLack}
 use Rattle.core_texts.specs.declared.texts.Texts.{Texts}
 use Rattle.core_texts.specs.Texts.{key_at}
+use Rattle.core_promises.specs.Endings.{IsPartedAt, is_its_own}
+use Rattle.private_model.proofs.Maps.{same_number}
+use Rattle.router_laws.proofs.OfDecisions.Ending.{one_ends, or_left}
+use Rattle.router_laws.proofs.OfDecisions.Fates.{none_some}
+use Rattle.router_laws.proofs.OfDecisions.Noting.{any_seated}
+use Rattle.router_laws.specs.clients.Speaks.{IsLinkOf}
+use Rattle.router_laws.specs.decisions.Partings.{IsPartCause}
+use Rattle.core_tables.specs.declared.client.Client.{Client}
 
 -- The laws by which it goes.
 
@@ -93,12 +101,29 @@ serves phase.LoggingIn b is = refl
 serves (phase.Serving account) b is = refl
 serves phase.Ended b is = absurd (false≢true is)
 
+-- Its own link is lost.
+
+own_there : (service : Serving) (g : Ground) (t : Tabled) (link : LinkId) (c : ClientNo) (row : Client) (stands : Stands service g t) (its : IsLinkOf link c row t)
+    → is_its_own g.tale link c ≡ true
+own_there service g t link c row stands its =
+    let client : tales.Client = client_there service g t link c row stands its in
+    let is : IsKnown g c client = known service g t link c row stands its in
+    any_seated (λ (x : tales.Client). is_client x.number c && is_link_id x.link link) g.tale client is.seated
+    ((λ i. is_client (is.number i) c && is_link_id (link_is service g t link c row stands its i) link) ∙ (λ i. same_number c.0 i && same_number link.0 i))
+
+loss_parted : (setup : Setup) (plan : Plan) (log : Log) (link : LinkId) (e : Entry) (c : ClientNo) → IsLossOf link e
+    → is_its_own (tale_of setup plan log) link c ≡ true → IsPartedAt setup plan log e c
+loss_parted setup plan log link e c (inl same) own = subst (λ (x : Entry). IsPartedAt setup plan log x c) (sym same) (or_left _ _ own)
+loss_parted setup plan log link e c (inr (inl same)) own = subst (λ (x : Entry). IsPartedAt setup plan log x c) (sym same) (or_left _ _ own)
+loss_parted setup plan log link e c (inr (inr same)) own = subst (λ (x : Entry). IsPartedAt setup plan log x c) (sym same) (or_left _ _ own)
+
 pub again_routed : Again → (service : Service) (texts : Texts) (admin : Administered) (log : Log) (e : Entry) (t now : Tabled) (roomy : ClientNo → Bool) (link : LinkId) (c : ClientNo)
     → IsRouter service texts admin log t roomy → MayFollow log e → IsLossOf link e → LeavesAgain link c t now
     → IsRouter service texts admin (with_entry log e) now roomy
 again_routed law service texts admin log e t now roomy link c router may lost so =
     deciding.goes_router service log e t now roomy roomy router may c [] Resting None (All-nil (IsOurs (rules_in service) texts c)) tt admin (loss_waits service log e link router.core.decided lost)
-    (judges_of_none service log e router.core.decided router.counts c None admin)
+    (judges_of_none service log e router.core.decided router.counts c None admin
+    (λ setup codes plan of fits. one_ends (IsPartCause service.buffer_budget setup plan log e) c None (λ end is. none_some None end refl is)))
     (λ setup codes plan of fits.
     let was = deciding.before service log e t now roomy roomy router may c [] Resting None (All-nil (IsOurs (rules_in service) texts c)) tt setup codes plan of fits in
     law service.setup service.default_schema setup codes plan log e router.core.decided
@@ -112,7 +137,12 @@ pub at_once_routed : AtOnce → (service : Service) (texts : Texts) (admin : Adm
     → LeavesAtOnce link links c roomy t now → OthersLack c roomy room → IsRouter service texts admin (with_entry log e) now room
 at_once_routed law service texts admin log e t now roomy room link c links router may lost so others =
     deciding.goes_router service log e t now roomy room router may c [] Resting (Some None) (All-nil (IsOurs (rules_in service) texts c)) tt admin (loss_waits service log e link router.core.decided lost)
-    (judges_of_none service log e router.core.decided router.counts c (Some None) admin)
+    (judges_of_none service log e router.core.decided router.counts c (Some None) admin
+    (λ setup codes plan of fits.
+    let was = deciding.before service log e t now roomy room router may c [] Resting (Some None) (All-nil (IsOurs (rules_in service) texts c)) tt setup codes plan of fits in
+    one_ends (IsPartCause service.buffer_budget setup plan log e) c (Some None)
+    (λ end is.
+    inl (loss_parted setup plan log link e c lost (own_there service.setup (ground setup codes plan router.core.decided log) t link c so.row was.rests.stands so.its)))))
     (λ setup codes plan of fits.
     let was = deciding.before service log e t now roomy room router may c [] Resting (Some None) (All-nil (IsOurs (rules_in service) texts c)) tt setup codes plan of fits in
     let g : Ground = ground setup codes plan router.core.decided log in
@@ -163,6 +193,11 @@ going_routed law told service texts admin is log e t now roomy room link c links
           (before_kept (ruling_of service texts.since (key_at texts) admin is) service.setup setup codes plan router.core.decided log t client c at.number
           was.rests.stands at.seated going (since setup codes plan was.of was.fits));
     })
+    (λ setup codes plan of fits.
+    let was = deciding.before service log e t now roomy room router may c choices halt (end_of parting) ours (end_ours parting told_ours) setup codes plan of fits in
+    one_ends (IsPartCause service.buffer_budget setup plan log e) c (end_of parting)
+    (λ end is.
+    inl (loss_parted setup plan log link e c lost (own_there service.setup (ground setup codes plan router.core.decided log) t link c so.row was.rests.stands so.its))))
     ((loss_of link e lost).none_comes) (loss_begins link e lost _)
     (opens_kept log e t now (loss_opens link e lost)
     (going_keeps service.setup service.default_schema link links ordinal choices halt parting c t now so) router.open_just)

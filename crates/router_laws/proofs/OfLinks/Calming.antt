@@ -24,7 +24,7 @@ use Rattle.core_laws.specs.entry.Kinds.{IsUneventful}
 use Rattle.core_laws.specs.entry.Tells.{Fits, IsOf, ground}
 use Rattle.router_laws.proofs.OfClients.Entering.{heard_always}
 use Rattle.router_laws.specs.clients.Plans.{IsDecided, nobody, over_by}
-use Rattle.router_laws.proofs.OfDecisions.Fates.{none_told, untaken_none}
+use Rattle.router_laws.proofs.OfDecisions.Fates.{none_told, untaken_none, none_some}
 use Rattle.router_laws.proofs.OfDecisions.Gathering.{over_then, silent_at, uneventful}
 use Rattle.router_laws.proofs.OfDecisions.Keeping.{recorded_then}
 use Rattle.router_laws.proofs.OfDecisions.Listing.{is_tale_of}
@@ -40,6 +40,7 @@ use Rattle.router_laws.specs.decisions.Deeds.{AreAlone, Deeds, counts_with, deci
 use Rattle.router_laws.specs.decisions.Plans.{EndsNone, PlansSo}
 use Rattle.core_promises.specs.Administers.{Administered}
 use Rattle.router_laws.specs.decisions.Routers.{AreOpenJust, GoesSo, IsBefore, IsRouter, WaitsThen}
+use Rattle.router_laws.proofs.OfDecisions.Ending.{none_parts, none_quits}
 
 -- nobody has anything to take up by these
 pub record IsIdleBy (deeds : Deeds) : Type 0 where
@@ -117,5 +118,6 @@ module _ {texts : Texts} {admin : Administered} (service : Service) (log : Log) 
       → IsRouter service texts admin (with_entry log e) now room
   calm_router makes rows =
       router_goes_on service log e deeds t now roomy room router may (idle.ours (rules_in service) texts) waits
-      (judges_none service log e d router.counts deeds admin idle.takes idle.none.given)
+      (judges_none service log e d router.counts deeds admin idle.takes (λ c. none_quits (deeds.halts c) (deeds.ends c) (idle.none.ends c)) idle.none.given
+      (λ setup codes plan of fits c end is. none_some (deeds.ends c) end (none_parts (deeds.halts c) (deeds.ends c) (idle.none.ends c)) is))
       (λ setup codes plan of fits. goes_so setup codes plan of fits (makes setup codes plan (known setup codes plan of fits))) rows

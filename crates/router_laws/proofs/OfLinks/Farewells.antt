@@ -30,6 +30,7 @@ use Rattle.router_laws.specs.quiet.Quiet.{is_quiet}
 use Rattle.ready_loop.specs.Machine.{IsFarewell, IsPartOf}
 use Rattle.router_laws.proofs.OfLinks.Saying.{closes_lost, closes_then, wrote_before}
 use Rattle.router_laws.specs.decisions.Causes.{IsLostFor}
+use Rattle.router_laws.specs.decisions.Partings.{IsGoingParted}
 use Rattle.router_laws.specs.decisions.Held.{AreHeldFor}
 use Rattle.router_laws.specs.links.Closes.{ClosesSo, IsLentThere, MayClose, MaySayFarewell}
 use Rattle.router_laws.specs.links.Loses.{Break, LosesSo, WriteFails, entry_by}
@@ -49,7 +50,7 @@ pub record Laws : Type 0 where
   pub loses : (service : Service) (texts : Texts) (admin is : Administered) (log : Log) (t now : Tabled) (roomy : ClientNo → Bool) (l : LinkId) (how : Break)
       (given : Option GivenUp) (going : Option Going) → (router : IsRouter service texts admin log t roomy) → MayFollow log (entry_by how l)
       → AreGivenOurs given → AreGoingOurs (rules_in service) texts going → (so : LosesSo service.setup service.default_schema l given going t now)
-      → IsRuledOn (ruling_of service texts.since (key_at texts) admin is) going service.setup service.default_schema so.lost now so.goes → IsLostFor l t given
+      → IsRuledOn (ruling_of service texts.since (key_at texts) admin is) going service.setup service.default_schema so.lost now so.goes → IsLostFor l t given → IsGoingParted service.buffer_budget l t going
       → AreHeldFor going texts service.default_schema router.core.decided log → IsSettledFor going service admin
       → IsRouter service texts is (with_entry log (entry_by how l)) now roomy
   pub closes : (service : Service) (texts : Texts) (admin : Administered) (log : Log) (t now : Tabled) (roomy room : ClientNo → Bool) (l : LinkId)
@@ -151,7 +152,7 @@ module _ {texts : Texts} {admin : Administered} (laws : Laws) (service : Service
         loses = given_nobody x;
         called = none_called (name_in says.server.row.link.state.carries) refl;
         goes = same_itself x;
-      }) refl tt tt tt)
+      }) refl tt tt tt tt)
       (closes_lost l room t x may (same_itself x))
 
   part_of : (to : LinkId) (tag : Tag) (bytes : List ℕ) → to ≡ l → IsPartOf lent tag bytes → Goes (entry.Wrote to tag bytes)

@@ -1,5 +1,5 @@
 -- What becomes of the messages of the one client that goes on as a link to a server is lost.
-use Rattle.std.specs.Prelude.{◌≡◌, ◌⊎◌, ℕ, suc, Bool, length, List, Option, Some, None}
+use Rattle.std.specs.Prelude.{◌≡◌, ◌⊎◌, suc, Bool, length, List, Option, Some, None}
 use Rattle.std.proofs.Common.{refl, sym, subst, inl, inr, arith}
 use Rattle.mx_wire.specs.Log.{Log}
 use Rattle.mx_wire.specs.Tells.{MayFollow}
@@ -34,7 +34,7 @@ use Rattle.router_laws.specs.decisions.Goings.{deeds_of}
 use Rattle.core_promises.specs.Administers.{Administered}
 use Rattle.router_laws.specs.decisions.Routers.{IsBefore, IsRouter}
 use Rattle.router_laws.specs.decisions.Rulings.{IsRuledOn, IsSettledFor}
-use Rattle.router_laws.proofs.OfDecisions.Causing.{loss_why}
+use Rattle.router_laws.proofs.OfDecisions.Causing.{loss_why, loss_parts}
 use Rattle.router_laws.proofs.OfDecisions.JudgedOn.{FollowsJudge}
 use Rattle.router_laws.proofs.OfDecisions.KeptOn.{follow_held}
 use Rattle.router_laws.specs.decisions.Held.{AreHeldFor, AreHeldSince, keys_since}
@@ -53,6 +53,7 @@ use Rattle.router_laws.specs.links.Loses.{Break, LosesSo, entry_by}
 use Rattle.router_laws.specs.decisions.Speaks.{AreGoingOurs}
 use Rattle.core_texts.specs.Texts.{key_at}
 use Rattle.router_laws.proofs.OfDecisions.Speaking.{known_keys}
+use Rattle.router_laws.specs.decisions.Partings.{IsGoingParted}
 
 module _ {texts : Texts} {admin : Administered} (laws : Laws) (judges : FollowsJudge) (carried : CarriedLaw) (service : Service) (log : Log) (t now : Tabled) (roomy : ClientNo → Bool) (l : LinkId) (how : Break)
     (given : Option GivenUp) (router : IsRouter service texts admin log t roomy) (follow : MayFollow log (entry_by how l)) (end : Administered) where
@@ -141,20 +142,23 @@ module _ {texts : Texts} {admin : Administered} (laws : Laws) (judges : FollowsJ
 
   pub loses_judge : (going : Option Going) (so : LosesSo service.setup service.default_schema l given going t now)
       → AreGoingOurs (rules_in service) texts going → TellsSo going service.setup
-      → IsRuledOn ruling going service.setup service.default_schema so.lost now so.goes → IsLostFor l t given
+      → IsRuledOn ruling going service.setup service.default_schema so.lost now so.goes → IsLostFor l t given → IsGoingParted service.buffer_budget l t going
       → AreHeldFor going texts service.default_schema router.core.decided log → IsSettledFor going service admin
       → JudgesThen service log e router.core.decided router.counts (deeds_of given going) admin end
-  loses_judge None so ours tells ruled why since settled = λ setup codes plan of fits. record {
+  loses_judge None so ours tells ruled why parted since settled = λ setup codes plan of fits. record {
     states = λ number. admin;
     begins = refl;
     ends = sym ruled;
     forced = λ c some. absurd (omega (arith, some));
-    takes = λ y seated. (tt, refl);
+    takes = λ y seated. ((tt, tt), refl);
     gives = onward.sent laws service log t now roomy l how given None router follow so ours tells setup codes plan of fits;
     why = loss_why carried service.wait_ms setup codes plan router.core.decided log t l so.server so.there
         ((onward.before laws service log t now roomy l how given None router follow so ours tells setup codes plan of fits).rests.stands.servers l) router.counts.taken how given why;
+    parts = loss_parts carried service.wait_ms setup codes plan router.core.decided log t l so.server so.there
+        ((onward.before laws service log t now roomy l how given None router follow so ours tells setup codes plan of fits).rests.stands.servers l)
+        service.buffer_budget how given None parted;
   }
-  loses_judge (Some it) so ours tells ruled why since settled = λ setup codes plan of fits. record {
+  loses_judge (Some it) so ours tells ruled why parted since settled = λ setup codes plan of fits. record {
     states = one_state it.client admin end;
     begins = one_begins (tale_of setup plan (with_entry log e)) it.client admin end (numbered it so ours tells ruled since setup codes plan of fits);
     ends = one_ends (tale_of setup plan (with_entry log e)) it.client admin end (numbered it so ours tells ruled since setup codes plan of fits);
@@ -163,4 +167,7 @@ module _ {texts : Texts} {admin : Administered} (laws : Laws) (judges : FollowsJ
     gives = onward.sent laws service log t now roomy l how given (Some it) router follow so ours tells setup codes plan of fits;
     why = loss_why carried service.wait_ms setup codes plan router.core.decided log t l so.server so.there
         ((onward.before laws service log t now roomy l how given (Some it) router follow so ours tells setup codes plan of fits).rests.stands.servers l) router.counts.taken how given why;
+    parts = loss_parts carried service.wait_ms setup codes plan router.core.decided log t l so.server so.there
+        ((onward.before laws service log t now roomy l how given (Some it) router follow so ours tells setup codes plan of fits).rests.stands.servers l)
+        service.buffer_budget how given (Some it) parted;
   }

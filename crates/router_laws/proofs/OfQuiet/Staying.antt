@@ -32,7 +32,7 @@ use Rattle.core_laws.specs.entry.Tells.{Fits, IsOf, ground}
 use Rattle.router_laws.proofs.OfClients.Entering.{entered_goes_on, heard_always}
 use Rattle.router_laws.specs.clients.Behind.{IsDueBehind, IsEntered}
 use Rattle.router_laws.specs.clients.Plans.{IsDecided, nobody, over_by}
-use Rattle.router_laws.proofs.OfDecisions.Fates.{false_true, none_told}
+use Rattle.router_laws.proofs.OfDecisions.Fates.{false_true, none_told, none_some}
 use Rattle.router_laws.proofs.OfDecisions.Gathering.{over_then, silent_at, uneventful}
 use Rattle.router_laws.proofs.OfDecisions.Keeping.{recorded_then}
 use Rattle.router_laws.proofs.OfDecisions.Listing.{is_tale_of, open_with}
@@ -161,7 +161,8 @@ module _ {texts : Texts} {admin : Administered} (service : Service) (knows : Kno
 
   pub quiet_router : IsRouter service texts admin (with_entry log e) t roomy
   quiet_router = router_goes_on service log e no_deeds t t roomy roomy router may (ours_of_none (rules_in service) texts) waits
-      (judges_none service log e d router.counts no_deeds admin (λ c. refl) (λ c. refl)) goes_so open_same
+      (judges_none service log e d router.counts no_deeds admin (λ c. refl) (λ c. refl) (λ c. refl)
+      (λ setup codes plan of fits c end is. none_some None end refl is)) goes_so open_same
 
 -- As many marks as a log may have.
 

@@ -40,7 +40,7 @@ use Rattle.router_laws.specs.decisions.Goings.{deeds_of}
 use Rattle.core_promises.specs.Administers.{Administered}
 use Rattle.router_laws.specs.decisions.Routers.{IsBefore, IsRouter}
 use Rattle.router_laws.specs.decisions.Rulings.{IsRuledOn}
-use Rattle.router_laws.proofs.OfDecisions.Causing.{heard_why}
+use Rattle.router_laws.proofs.OfDecisions.Causing.{heard_why, heard_parts}
 use Rattle.router_laws.proofs.OfDecisions.JudgedOn.{FollowsJudge, judged_on}
 use Rattle.router_laws.proofs.OfDecisions.KeptOn.{follow_held}
 use Rattle.router_laws.specs.decisions.Held.{AreHeldSince, keys_since}
@@ -55,6 +55,7 @@ use Rattle.router_laws.specs.reading.Hears.{HearsSo}
 use Rattle.router_laws.specs.decisions.Speaks.{AreGoingOurs}
 use Rattle.core_texts.specs.Texts.{key_at}
 use Rattle.router_laws.proofs.OfDecisions.Speaking.{known_keys}
+use Rattle.router_laws.specs.decisions.Partings.{IsGoingParted}
 
 -- who stands alone with a number is one
 pub one_seated : (x was : tales.Client) (xs : List tales.Client) → x ∷ [] ≡ xs → xs ≡ was ∷ [] → x ≡ was
@@ -89,7 +90,7 @@ module _ (book : Rulebook) (start end : Administered) (setup : Setup) (plan : Pl
       (λ (a b : Administered). JudgedFrom (record { book = book; was = a; is = b }) setup plan x takings x.taken it.choices it.halt) judged)))))
   one_by y was seated_was on unread false other =
       subst (λ (choices : List Choice). Judged y choices ((deeds_of given (Some it)).halts y.number)) (sym (for_other it.client y.number it.choices [] other))
-      (subst (Judged y []) (sym (for_other it.client y.number it.halt Rests other)) (tt, others_state it.client start end y.number.0 other))
+      (subst (Judged y []) (sym (for_other it.client y.number it.halt Rests other)) ((tt, tt), others_state it.client start end y.number.0 other))
 
   pub one_judged : (y was : tales.Client) → IsSeated tale was → IsContinued plan tale e was y → is_read_on e was.link ≡ false
       → Judged y ((deeds_of given (Some it)).calls y.number) ((deeds_of given (Some it)).halts y.number)
@@ -182,19 +183,22 @@ module _ {texts : Texts} {admin : Administered} (laws : Laws) (judges : FollowsJ
 
   pub hears_judge : (going : Option Going) (so : HearsSo service.setup service.default_schema l bytes clock given going t now)
       → AreGoingOurs (rules_in service) texts going → IsRuledOn ruling going service.setup service.default_schema so.freed now so.goes
-      → IsHeardFor l t given → JudgesThen service log e router.core.decided router.counts (deeds_of given going) admin end
-  hears_judge None so ours ruled why = λ setup codes plan of fits. record {
+      → IsHeardFor l t given → IsGoingParted service.buffer_budget l t going → JudgesThen service log e router.core.decided router.counts (deeds_of given going) admin end
+  hears_judge None so ours ruled why parted = λ setup codes plan of fits. record {
     states = λ number. admin;
     begins = refl;
     ends = sym ruled;
     forced = λ c some. settled;
-    takes = λ y seated. (tt, refl);
+    takes = λ y seated. ((tt, tt), refl);
     gives = onward.sent laws service log t now roomy l bytes clock given None router follow bytes_are so ours setup codes plan of fits;
     why = heard_why carried service.wait_ms setup codes plan router.core.decided log t l so.server so.there
         ((onward.before laws service log t now roomy l bytes clock given None router follow bytes_are so ours setup codes plan of fits).rests.stands.servers l)
         router.counts.taken bytes given why;
+    parts = heard_parts carried service.wait_ms setup codes plan router.core.decided log t l so.server so.there
+        ((onward.before laws service log t now roomy l bytes clock given None router follow bytes_are so ours setup codes plan of fits).rests.stands.servers l)
+        service.buffer_budget bytes given None parted;
   }
-  hears_judge (Some it) so ours ruled why = λ setup codes plan of fits. record {
+  hears_judge (Some it) so ours ruled why parted = λ setup codes plan of fits. record {
     states = one_state it.client admin end;
     begins = one_begins (tale_of setup plan (with_entry log e)) it.client admin end (numbered it so ours ruled setup codes plan of fits);
     ends = one_ends (tale_of setup plan (with_entry log e)) it.client admin end (numbered it so ours ruled setup codes plan of fits);
@@ -204,4 +208,7 @@ module _ {texts : Texts} {admin : Administered} (laws : Laws) (judges : FollowsJ
     why = heard_why carried service.wait_ms setup codes plan router.core.decided log t l so.server so.there
         ((onward.before laws service log t now roomy l bytes clock given (Some it) router follow bytes_are so ours setup codes plan of fits).rests.stands.servers l)
         router.counts.taken bytes given why;
+    parts = heard_parts carried service.wait_ms setup codes plan router.core.decided log t l so.server so.there
+        ((onward.before laws service log t now roomy l bytes clock given (Some it) router follow bytes_are so ours setup codes plan of fits).rests.stands.servers l)
+        service.buffer_budget bytes given (Some it) parted;
   }

@@ -22,7 +22,7 @@ use Rattle.core_laws.specs.entry.Kinds.{IsUneventful}
 use Rattle.core_laws.specs.entry.Tells.{Fits, IsOf, ground}
 use Rattle.router_laws.proofs.OfClients.Entering.{heard_always}
 use Rattle.router_laws.specs.clients.Plans.{IsDecided, nobody, over_by}
-use Rattle.router_laws.proofs.OfDecisions.Fates.{none_told}
+use Rattle.router_laws.proofs.OfDecisions.Fates.{none_told, none_some}
 use Rattle.router_laws.proofs.OfDecisions.Gathering.{over_then, silent_at, uneventful}
 use Rattle.router_laws.proofs.OfDecisions.Keeping.{recorded_then}
 use Rattle.router_laws.proofs.OfDecisions.Listing.{is_tale_of}
@@ -96,4 +96,5 @@ module _ {texts : Texts} {admin : Administered} (service : Service) (log : Log) 
 
   pub router_enters : AreOpenJust (with_entry log e) now → IsRouter service texts admin (with_entry log e) now room
   router_enters = router_goes_on service log e deeds t now roomy room router may (ours_of_link (rules_in service) texts login begun) waits
-      (judges_none service log e d router.counts deeds admin (λ c. refl) (λ c. refl)) goes_so
+      (judges_none service log e d router.counts deeds admin (λ c. refl) (λ c. refl) (λ c. refl)
+      (λ setup codes plan of fits c end is. none_some None end refl is)) goes_so

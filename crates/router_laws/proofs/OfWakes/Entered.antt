@@ -76,7 +76,7 @@ use Rattle.router_laws.proofs.OfWakes.States.{called_all, early_state, late_stat
 use Rattle.router_laws.specs.decisions.Judges.{IsJudgedThen, JudgedFrom, JudgesThen, judging_by}
 use Rattle.router_laws.specs.decisions.Counting.{BeginsSo}
 use Rattle.router_laws.specs.decisions.Deeds as deeds
-use Rattle.router_laws.specs.decisions.Deeds.{AreAlone, Deeds, counts_with, decided_with, ends_in, known_with, taken_by, word_of}
+use Rattle.router_laws.specs.decisions.Deeds.{AreAlone, Deeds, counts_with, decided_with, ends_in, known_with, taken_by, word_of, Word}
 use Rattle.router_laws.specs.decisions.Goings.{end_of}
 use Rattle.router_laws.specs.decisions.Plans.{HasDeeds, PlansSo}
 use Rattle.core_promises.specs.Administers.{Administered}
@@ -96,6 +96,7 @@ use Rattle.router_laws.specs.wakes.Deciding.{IsCallerOurs, calls_deeds, found_in
 use Rattle.core_laws.specs.clients.Going.{GivenUp}
 use Rattle.core_texts.specs.Texts.{key_at}
 use Rattle.router_laws.proofs.OfDecisions.Speaking.{known_keys}
+use Rattle.router_laws.specs.decisions.Partings.{IsPartCause}
 
 -- The entry tells nothing, and is of no link.
 pub record IsOfNoLink (e : Entry) : Type 0 where
@@ -173,6 +174,9 @@ module _ {texts : Texts} {admin : Administered} (service : Service) (knows : Kno
     (caused : (setup : Setup) (codes : Codes) (plan : Plan) → IsOf router.core.decided (length log) plan
     → Fits router.core.decided.keys setup codes plan service.default_schema (tale_of setup plan log) → (c : ClientNo) (payload : List ℕ)
     → payload_in given c ≡ Some payload → IsCause service.wait_ms setup plan log e (record { client = c; ordinal = router.counts.taken c }) payload)
+    (parted : (setup : Setup) (codes : Codes) (plan : Plan) → IsOf router.core.decided (length log) plan
+    → Fits router.core.decided.keys setup codes plan service.default_schema (tale_of setup plan log) → (c : ClientNo) (end : Option Word)
+    → (calls_deeds given callers).ends c ≡ Some end → IsPartCause service.buffer_budget setup plan log e c end)
     (is : Administered) (settled : admin.rules ≡ rules_in service)
     (ruled : AreRuledAll (ruling_of service texts.since (key_at texts) admin is) callers service.setup service.default_schema mid so_calls.turned so_calls.going)
     (since : AreHeldSince texts service.default_schema router.core.decided log)
@@ -488,7 +492,7 @@ module _ {texts : Texts} {admin : Administered} (service : Service) (knows : Kno
         at.caller.halt) same at.judged)))
     judged_by y was false other =
         subst (IsJudgedBy y) (sym (none_found callers y.number other)) (
-          tt,
+          (tt, tt),
           others_state service.setup service.default_schema (ruling_of service texts.since (key_at texts) admin is) callers mid so_calls.turned so_calls.going ruled y.number other,
         )
 
@@ -517,6 +521,7 @@ module _ {texts : Texts} {admin : Administered} (service : Service) (knows : Kno
       takes = judges_of;
       gives = all_sent service.setup g t given_of (λ (l : LinkId). false) stood.rests.stands given_up;
       why = caused setup codes plan stood.of stood.fits;
+      parts = parted setup codes plan stood.of stood.fits;
     }
 
   judges_then : JudgesThen service log e d router.counts made admin is

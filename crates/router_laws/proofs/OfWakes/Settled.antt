@@ -302,4 +302,5 @@ router_settled laws service texts admin log t now roomy router by = record {
   held = router.held;
   noted = router.noted;
   caused = router.caused;
+  ended = router.ended;
 }

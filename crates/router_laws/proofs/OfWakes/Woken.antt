@@ -1,7 +1,7 @@
 -- A wake, and an open that failed.
-use Rattle.std.specs.Prelude.{◌≡◌, ◌&&◌, not, ℕ, suc, Bool, true, false, All, is_some, List, Option, Some, None}
-use Rattle.std.specs.Option.{option_map}
-use Rattle.std.proofs.Common.{refl, sym, ap, ◌∙◌, arith, inl, inr}
+use Rattle.std.specs.Prelude.{◌≡◌, ◌&&◌, not, ℕ, suc, Bool, true, false, All, is_some, List, Option, Some, None, nat_eq}
+use Rattle.std.specs.Option.{option_map, option_map_or}
+use Rattle.std.proofs.Common.{refl, sym, ap, ◌∙◌, arith, inl, inr, subst}
 use Rattle.std.proofs.lemmas.Bool.{and_left, true≢false}
 use Rattle.std.proofs.lemmas.List.Elements.{All-weaker}
 use Rattle.mx_base.specs.declared.names.Address.{Address}
@@ -15,7 +15,7 @@ use Rattle.core_service.specs.declared.service.Service.{Service}
 use Rattle.client_session.specs.Setups.{Setup as Serving}
 use Rattle.private_model.specs.Names.{ClientNo, LinkId}
 use Rattle.log_story.specs.Owed.{name_of}
-use Rattle.log_story.specs.Plan.{gives_up, is_before}
+use Rattle.log_story.specs.Plan.{gives_up, is_before, Plan}
 use Rattle.log_story.specs.Tale as tales
 use Rattle.log_story.specs.Tale.{Tale, counted}
 use Rattle.client_seat.specs.Seats.{is_ended}
@@ -25,9 +25,9 @@ use Rattle.step_laws.specs.Taken.{GivesUpNone, IsPassed, is_called as is_called_
 use Rattle.core_tables.specs.Parting.{given_row}
 use Rattle.core_tables.specs.Tables.{Tabled}
 use Rattle.core_tables.specs.declared.client.Client.{Client}
-use Rattle.core_stands.specs.Clients.{IsClientOr, IsPhase}
+use Rattle.core_stands.specs.Clients.{IsClientOr, IsPhase, IsClient}
 use Rattle.core_stands.specs.Grounds.{Ground, view_on}
-use Rattle.core_stands.specs.Stands.{IsAt, IsCalm, Rests}
+use Rattle.core_stands.specs.Stands.{IsAt, IsCalm, Rests, IsKnown, Stands}
 use Rattle.core_laws.specs.entry.Cores.{with_entry}
 use Rattle.core_laws.specs.clients.Going.{GivenUp}
 use Rattle.core_promises.specs.Ruled.{ruling_of}
@@ -35,7 +35,7 @@ use Rattle.client_session.specs.Errors.{connection_refused}
 use Rattle.core_promises.specs.Causes.{IsLateCause}
 use Rattle.core_promises.specs.InForce.{has_administrator}
 use Rattle.router_laws.proofs.OfDecisions.Causing.{all_why}
-use Rattle.router_laws.proofs.OfDecisions.Noting.{late_why}
+use Rattle.router_laws.proofs.OfDecisions.Noting.{late_why, any_seated}
 use Rattle.router_laws.specs.decisions.Causes.{AreLate, AreRefused}
 use Rattle.router_laws.specs.decisions.Noted.{WasNoted}
 use Rattle.router_laws.specs.decisions.Plans.{HasDeeds, PlansSo}
@@ -49,10 +49,24 @@ use Rattle.router_laws.specs.decisions.Held.{AreHeldSince}
 use Rattle.router_laws.proofs.OfWakes.Entered.{AreCalled, IsOfNoLink, Knows, before_by, calls_router}
 use Rattle.router_laws.proofs.OfWakes.Given.{all_given, some_given}
 use Rattle.router_laws.specs.wakes.Calling.{Caller, is_called, is_given}
-use Rattle.router_laws.specs.wakes.Deciding.{IsCallerOurs, calls_deeds, payload_in}
+use Rattle.router_laws.specs.wakes.Deciding.{IsCallerOurs, calls_deeds, payload_in, found_in}
 use Rattle.router_laws.specs.wakes.Waking.{FailsSo, WakesSo}
 use Rattle.core_texts.specs.declared.texts.Texts.{Texts}
 use Rattle.core_texts.specs.Texts.{key_at, noted_at}
+use Rattle.private_model.proofs.Maps.{same_number}
+use Rattle.private_model.specs.Story.{is_client}
+use Rattle.private_model.specs.View.{Setup}
+use Rattle.link_laws.specs.Stands.{Codes}
+use Rattle.client_seat.specs.Stands.{IsEntering, IsHeardIn}
+use Rattle.client_seat.specs.declared.phase.Phase.{Phase}
+use Rattle.tale_world.specs.Decided.{Decided}
+use Rattle.core_laws.proofs.OfParting.Same.{known_so}
+use Rattle.core_laws.specs.entry.Tells.{ground}
+use Rattle.core_promises.specs.Endings.{IsPartedAt, is_new}
+use Rattle.router_laws.proofs.OfDecisions.Ending.{calls_end, or_left, or_right, part_cause}
+use Rattle.router_laws.specs.decisions.Deeds.{Word}
+use Rattle.router_laws.specs.decisions.Goings.{end_of}
+use Rattle.router_laws.specs.decisions.Partings.{AreNotOusted, AreOusted, IsOusted, IsPartCause, IsPartedFor, IsUnknown}
 
 woke_tells : (until_ms now_ms : ℕ) → IsOfNoLink (Woke until_ms now_ms)
 woke_tells until_ms now_ms = record {
@@ -79,6 +93,34 @@ fails_tells server address = record {
   begins = λ setup tale made. tt;
   opens = λ was. refl;
 }
+
+-- Who is ended at a wake is it where an administrator came, or it isn't logged in.
+
+new_there : (service : Serving) (g : Ground) (t : Tabled) (c : ClientNo) → Stands service g t → IsUnknown t c → is_new g.tale c ≡ true
+new_there service g t c stands unknown =
+    let found = known_so service g t c unknown.row stands unknown.there in
+    let client : tales.Client = found.0 in
+    let is : IsKnown g c client = found.1 in
+    let own : IsClient g client unknown.row = found.2 in
+    let entering : IsEntering g.plan client unknown.row.desk.seat =
+    subst (λ (at : Phase). IsHeardIn at g.plan client unknown.row.desk.seat) unknown.unknown own.heard in
+    any_seated (λ (x : tales.Client). is_client x.number c && nat_eq x.taken 0) g.tale client is.seated
+    ((λ i. is_client (is.number i) c && nat_eq (entering.untaken i) 0) ∙ (λ i. same_number c.0 i && true))
+
+ousted_cause : (service : Service) (setup : Setup) (codes : Codes) (plan : Plan) (d : Decided) (log : Log) (until_ms now_ms : ℕ) (t : Tabled) (roomy : ClientNo → Bool)
+    → Rests service.setup (ground setup codes plan d log) t roomy → (callers : List Caller) → AreOusted service.buffer_budget (has_administrator log) t callers
+    → (c : ClientNo) (end : Option Word) → option_map_or (λ (k : Caller). end_of k.parting) (found_in callers c) None ≡ Some end
+    → IsPartCause service.buffer_budget setup plan log (Woke until_ms now_ms) c end
+ousted_cause service setup codes plan d log until_ms now_ms t roomy rests callers ousted =
+    calls_end (IsPartCause service.buffer_budget setup plan log (Woke until_ms now_ms)) callers
+    (All-weaker (λ (k : Caller). IsPartedFor service.buffer_budget (IsOusted (has_administrator log) t k.client) k.parting)
+    (λ (k : Caller). (end : Option Word) → end_of k.parting ≡ Some end → IsPartCause service.buffer_budget setup plan log (Woke until_ms now_ms) k.client end)
+    (λ k why.
+    part_cause service.buffer_budget setup plan log (Woke until_ms now_ms) k.client (IsOusted (has_administrator log) t k.client) (at_wake k.client) k.parting why)
+    callers ousted) where
+      at_wake : (c : ClientNo) → IsOusted (has_administrator log) t c → IsPartedAt setup plan log (Woke until_ms now_ms) c
+      at_wake c (inl came) = or_left _ _ came
+      at_wake c (inr unknown) = or_right _ _ (new_there service.setup (ground setup codes plan d log) t c rests.stands unknown)
 
 module _ (service : Serving) (given : List GivenUp) (callers : List Caller) (log : Log) (e : Entry) (t : Tabled) (roomy : ClientNo → Bool)
     (theirs : (c : ClientNo) → is_given given c ≡ true → is_called callers c ≡ true) (g : Ground) (rests : Rests service g t roomy)
@@ -167,17 +209,20 @@ module _ (service : Service) (given : List GivenUp) (callers : List Caller) (lin
 
   pub woke_router : {texts : Texts} {admin : Administered} → Knows service.setup → (router : IsRouter service texts admin log t roomy) → MayFollow log e → All IsGivenOurs given
       → AreLate service.wait_ms now_ms (has_administrator log) (noted_at texts) t given
-      → All (IsCallerOurs (rules_in service) texts) callers → WaitsThen service log e router.core.decided → TurnsJudge
+      → All (IsCallerOurs (rules_in service) texts) callers → AreOusted service.buffer_budget (has_administrator log) t callers
+      → WaitsThen service log e router.core.decided → TurnsJudge
       → (is : Administered) → admin.rules ≡ rules_in service
       → AreRuledAll (ruling_of service texts.since (key_at texts) admin is) callers service.setup service.default_schema wakes.late wakes.calls.turned wakes.calls.going
       → AreHeldSince texts service.default_schema router.core.decided log
       → All (λ (k : Caller). TellsFor k.parting service.setup k.client) callers → IsRouter service texts is (with_entry log e) now room
-  woke_router {texts} {admin} knows router may given_ours late ours waits judges is settled ruled since tells =
+  woke_router {texts} {admin} knows router may given_ours late ours ousted waits judges is settled ruled since tells =
       calls_router service knows log e (woke_tells until_ms now_ms) t wakes.late now roomy room given callers links router may wakes.gives wakes.all_given
       wakes.calls given_ours ours waits judges
       (λ setup codes plan of fits c payload told.
       late_why service log t roomy router service.wait_ms now_ms (has_administrator log) setup codes plan of fits c payload
-      (all_why (λ x p. IsLateCause service.wait_ms now_ms (has_administrator log) (WasNoted (noted_at texts) t x) p) given late c payload told)) is settled
+      (all_why (λ x p. IsLateCause service.wait_ms now_ms (has_administrator log) (WasNoted (noted_at texts) t x) p) given late c payload told))
+      (λ setup codes plan of fits.
+      ousted_cause service setup codes plan router.core.decided log until_ms now_ms t roomy (router.core.rests setup codes plan of fits) callers ousted) is settled
       ruled since tells woke_called
 
 -- An open that failed.
@@ -221,13 +266,18 @@ module _ (service : Service) (given : List GivenUp) (callers : List Caller) (lin
     }
 
   pub fails_router : {texts : Texts} {admin : Administered} → Knows service.setup → (router : IsRouter service texts admin log t roomy) → MayFollow log failed → All IsGivenOurs given → AreRefused given
-      → All (IsCallerOurs (rules_in service) texts) callers → TurnsJudge
+      → All (IsCallerOurs (rules_in service) texts) callers → AreNotOusted service.buffer_budget callers → TurnsJudge
       → (is : Administered) → admin.rules ≡ rules_in service
       → AreRuledAll (ruling_of service texts.since (key_at texts) admin is) callers service.setup service.default_schema fails.late fails.calls.turned fails.calls.going
       → AreHeldSince texts service.default_schema router.core.decided log
       → All (λ (k : Caller). TellsFor k.parting service.setup k.client) callers → IsRouter service texts is (with_entry log failed) now roomy
-  fails_router knows router may given_ours refused ours judges is settled ruled since tells =
+  fails_router knows router may given_ours refused ours stay judges is settled ruled since tells =
       calls_router service knows log failed (fails_tells server address) t fails.late now roomy roomy given callers links router may fails.gives
       fails.all_given fails.calls given_ours ours (λ terms codes of fits. tt) judges
-      (λ setup codes plan of fits c payload told. all_why (λ (x : ClientNo) (p : List ℕ). p ≡ connection_refused) given refused c payload told) is settled
+      (λ setup codes plan of fits c payload told. all_why (λ (x : ClientNo) (p : List ℕ). p ≡ connection_refused) given refused c payload told)
+      (λ setup codes plan of fits.
+      calls_end (IsPartCause service.buffer_budget setup plan log failed) callers
+      (All-weaker (λ (k : Caller). IsPartedFor service.buffer_budget ⊥ k.parting)
+      (λ (k : Caller). (end : Option Word) → end_of k.parting ≡ Some end → IsPartCause service.buffer_budget setup plan log failed k.client end)
+      (λ k why. part_cause service.buffer_budget setup plan log failed k.client ⊥ (λ none. absurd none) k.parting why) callers stay)) is settled
       ruled since tells fails_called

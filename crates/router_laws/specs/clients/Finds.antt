@@ -7,7 +7,7 @@ use Rattle.private_model.specs.Names.{ClientNo}
 use Rattle.private_model.specs.View.{Setup}
 use Rattle.link_laws.specs.Stands.{Codes}
 use Rattle.log_story.specs.Headline.{tale_of}
-use Rattle.log_story.specs.Owed.{messages}
+use Rattle.log_story.specs.Owed.{talk_of}
 use Rattle.log_story.specs.Plan.{Plan}
 use Rattle.log_story.specs.Tale.{Client}
 use Rattle.step_laws.specs.Seats.{IsSeated}
@@ -28,4 +28,4 @@ pub record GoesFinding (service : Service) (default : List ℕ) (setup : Setup) 
   pub goes : GoesTaking service setup codes plan log e old new t now roomy room c (count_by choices halt)
   pub finds : Rests service (ground setup codes plan old log) t roomy → (k : ℕ) → ordinal ≡ suc k → (client : Client)
       → IsSeated (tale_of setup plan (with_entry log e)) client → client.number ≡ c
-      → AreFoundAt choices halt service default c mid turned turns setup plan (takings_at setup plan (tale_of setup plan log) e) (messages plan client) k
+      → AreFoundAt choices halt service default c mid turned turns setup plan (takings_at setup plan (tale_of setup plan log) e) (talk_of plan client) k

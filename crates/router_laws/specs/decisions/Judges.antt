@@ -4,12 +4,13 @@ use Rattle.mx_wire.specs.Log.{Log}
 use Rattle.mx_wire.specs.declared.entry.Entry.{Entry}
 use Rattle.mx_base.specs.declared.names.Port.{Port}
 use Rattle.packet_frame.specs.Packets.{Framed}
+use Rattle.client_session.specs.Answers.{Talk, is_quit, messages_of}
 use Rattle.private_model.specs.Names.{ClientNo}
 use Rattle.private_model.specs.Story.{Key}
 use Rattle.private_model.specs.View.{Setup}
 use Rattle.link_laws.specs.Stands.{Codes}
 use Rattle.log_story.specs.Headline.{tale_of}
-use Rattle.log_story.specs.Owed.{messages, name_of}
+use Rattle.log_story.specs.Owed.{messages, name_of, talk_of}
 use Rattle.log_story.specs.Plan.{Plan}
 use Rattle.log_story.specs.Tale.{Client, Tale}
 use Rattle.step_laws.specs.Seats.{IsSeated}
@@ -17,7 +18,8 @@ use Rattle.tale_world.specs.Decided.{Decided}
 use Rattle.router_promises.specs.Takings.{Taking, takings_at}
 use Rattle.core_service.specs.declared.service.Service.{Service}
 use Rattle.core_laws.specs.clients.Found.{IsAmong, IsLastAmong}
-use Rattle.core_laws.specs.clients.Turns.{Answers, Choice, Goes, Halt}
+use Rattle.core_laws.specs.clients.Refusals.{is_refused_talk}
+use Rattle.core_laws.specs.clients.Turns.{Answers, Choice, Ends, Goes, Halt, Quits}
 use Rattle.core_laws.specs.entry.Cores.{with_entry}
 use Rattle.core_laws.specs.entry.Tells.{Fits, IsOf}
 use Rattle.core_service.specs.Serves.{rules_in}
@@ -26,7 +28,8 @@ use Rattle.core_promises.specs.Administers.{Administered}
 use Rattle.core_promises.specs.Causes.{IsCause}
 use Rattle.core_promises.specs.Judges.{Rulebook, situation_of}
 use Rattle.core_promises.specs.Ruled.{IsChoiceFor, Ruling, book_of}
-use Rattle.router_laws.specs.decisions.Deeds.{Counts, Deeds, decided_with, taken_by}
+use Rattle.router_laws.specs.decisions.Deeds.{Counts, Deeds, Word, decided_with, taken_by}
+use Rattle.router_laws.specs.decisions.Partings.{IsPartCause}
 
 -- a story's keys are those of the texts that are kept
 abbrev pub HasKeys : (keys : (key : ℕ) → Option Key) → Setup → Type 0
@@ -60,9 +63,16 @@ pub record IsJudgedAs (judging : Judging) (setup : Setup) (plan : Plan) (client 
       → IsChoiceFor choice judging.book (situation_of setup plan taking) (all_keys setup) client.number message.payload
   pub made : IsMadeBy choice (slice_get (messages plan client) k) taking.client.port judging.was judging.is
 
+-- its turns end by what it said: that it quits, by this message, or what is refused
+abbrev pub SaysHalt : Halt → Talk → (k : ℕ) → Type 0
+SaysHalt Quits talk k = (message : Framed) × ((slice_get (messages_of talk).messages k ≡ Some message) × (is_quit message.payload ≡ true))
+SaysHalt Ends talk k = is_refused_talk talk ≡ true
+SaysHalt _ talk k = Unit {0}
+
 -- of a client's messages from the k-th on, where this is decided of them
 abbrev pub JudgedFrom : Judging → Setup → Plan → Client → (takings : List Taking) → (k : ℕ) → List Choice → Halt → Type 0
-JudgedFrom judging setup plan client takings k [] halt = IsLastAmong halt takings (name_of client (suc k)) × (judging.is ≡ judging.was)
+JudgedFrom judging setup plan client takings k [] halt =
+    (IsLastAmong halt takings (name_of client (suc k)) × SaysHalt halt (talk_of plan client) k) × (judging.is ≡ judging.was)
 JudgedFrom judging setup plan client takings k (choice ∷ others) halt =
     (then : Administered)
     × (IsJudgedAs (record judging { is = then }) setup plan client takings k choice
@@ -86,6 +96,7 @@ pub record IsJudgedThen (service : Service) (log : Log) (e : Entry) (n : Counts)
   pub gives : AreSent plan (tale_of setup plan log) (λ c. is_some (deeds.given c))
   pub why : (c : ClientNo) (payload : List ℕ) → deeds.given c ≡ Some payload
       → IsCause service.wait_ms setup plan log e (record { client = c; ordinal = n.taken c }) payload
+  pub parts : (c : ClientNo) (end : Option Word) → deeds.ends c ≡ Some end → IsPartCause service.buffer_budget setup plan log e c end
 
 -- by each plan that has what is decided then, and fits
 abbrev pub JudgesThen : Service → Log → Entry → Decided → Counts → Deeds → (was is : Administered) → Type 0

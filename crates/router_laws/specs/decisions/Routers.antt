@@ -29,6 +29,7 @@ use Rattle.router_laws.specs.decisions.Deeds.{AreToldBy, Counts, Deeds, counts_w
 use Rattle.router_promises.specs.Terms.{Terms, plan_in, setup_in}
 use Rattle.core_promises.specs.Waits.{AreDoneBy, WaitsSo}
 use Rattle.core_promises.specs.Causes.{CausedBy}
+use Rattle.core_promises.specs.Endings.{EndedBy}
 use Rattle.core_promises.specs.Judges.{JudgesBy}
 use Rattle.core_promises.specs.Ruled.{book_of}
 use Rattle.router_laws.specs.decisions.Administering.{AdministersSoFar}
@@ -65,6 +66,7 @@ pub record IsRouter (service : Service) (texts : Texts) (admin : Administered) (
   pub held : AreHeldBy (key_at texts) service.default_schema core.decided log
   pub noted : AreNotedBy (noted_at texts) service.default_schema core.decided log
   pub caused : CausedBy service.wait_ms service.default_schema core.decided log
+  pub ended : EndedBy service.buffer_budget service.default_schema core.decided log
 
 -- as an entry goes on, by which texts came: those that clients may still name were kept before
 pub record IsLearned (service : Service) (texts : Texts) (admin : Administered) (log : Log) (t : Tabled) (roomy : ClientNo → Bool) : Type 0 where

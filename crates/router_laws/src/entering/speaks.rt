@@ -15,6 +15,7 @@ ghost use Rattle.core_laws.specs.clients.Follows.{Parting};
 ghost use Rattle.core_laws.specs.clients.Turns.{Choice, Halt};
 ghost use Rattle.router_laws.specs.clients.Speaks.{SpeaksSo};
 ghost use Rattle.core_promises.specs.Ruled.{AreRuled, ruling_of};
+ghost use Rattle.router_laws.specs.decisions.Partings.{IsPartedFor};
 ghost use Rattle.router_laws.specs.decisions.Held.{AreHeldSince};
 ghost use Rattle.router_laws.specs.decisions.Speaks.{IsOurs, IsPartingOurs};
 ghost use Rattle.core_promises.specs.Administers.{Administered};
@@ -27,7 +28,7 @@ pub fn speaks_router()
         (c : ClientNo) (ordinal : ℕ) (choices : List Choice) (halt : Halt) (parting : Parting) (links : List LinkId)
         → (router : IsRouter service texts admin log t roomy) → MayFollow log (Got link bytes)
         → (so : SpeaksSo service.setup service.default_schema link bytes c ordinal choices halt parting links t now)
-        → All (IsOurs (rules_in service) texts c) choices → IsPartingOurs parting
+        → All (IsOurs (rules_in service) texts c) choices → IsPartingOurs parting → IsPartedFor service.buffer_budget ⊥ parting
         → OthersLack c roomy room
         → AreRuled (ruling_of service texts.since (key_at texts) admin is) choices halt service.setup service.default_schema c so.heard so.follows.turned so.follows.turns
         → AreHeldSince texts service.default_schema router.core.decided log

@@ -20,6 +20,7 @@ ghost use Rattle.private_model.specs.Names.{ClientNo};
 ghost use Rattle.core_laws.specs.entry.Cores.{with_entry};
 ghost use Rattle.core_laws.specs.clients.Going.{Going};
 ghost use Rattle.core_promises.specs.Ruled.{ruling_of};
+ghost use Rattle.router_laws.specs.decisions.Partings.{IsGoingParted};
 ghost use Rattle.router_laws.specs.decisions.Speaks.{AreGivenOurs, AreGoingOurs};
 ghost use Rattle.router_laws.specs.decisions.Causes.{IsLostFor};
 ghost use Rattle.router_laws.specs.decisions.Held.{AreHeldFor};
@@ -42,7 +43,7 @@ pub fn loses_judge()
     ensures { (service : Service) (texts : Texts) (admin is : Administered) (log : Log) (t now : Tabled) (roomy : ClientNo → Bool) (l : LinkId) (how : Break)
         (given : Option GivenUp) (going : Option Going) → (router : IsRouter service texts admin log t roomy) → MayFollow log (entry_by how l)
         → (so : LosesSo service.setup service.default_schema l given going t now) → AreGoingOurs (rules_in service) texts going
-        → IsRuledOn (ruling_of service texts.since (key_at texts) admin is) going service.setup service.default_schema so.lost now so.goes → IsLostFor l t given
+        → IsRuledOn (ruling_of service texts.since (key_at texts) admin is) going service.setup service.default_schema so.lost now so.goes → IsLostFor l t given → IsGoingParted service.buffer_budget l t going
         → AreHeldFor going texts service.default_schema router.core.decided log
         → IsSettledFor going service admin
         → JudgesThen service log (entry_by how l) router.core.decided router.counts (deeds_of given going) admin is }
@@ -67,7 +68,7 @@ pub fn loses_router()
     ensures { (service : Service) (texts : Texts) (admin is : Administered) (log : Log) (t now : Tabled) (roomy : ClientNo → Bool) (l : LinkId) (how : Break)
         (given : Option GivenUp) (going : Option Going) → (router : IsRouter service texts admin log t roomy) → MayFollow log (entry_by how l)
         → AreGivenOurs given → AreGoingOurs (rules_in service) texts going → (so : LosesSo service.setup service.default_schema l given going t now)
-        → IsRuledOn (ruling_of service texts.since (key_at texts) admin is) going service.setup service.default_schema so.lost now so.goes → IsLostFor l t given
+        → IsRuledOn (ruling_of service texts.since (key_at texts) admin is) going service.setup service.default_schema so.lost now so.goes → IsLostFor l t given → IsGoingParted service.buffer_budget l t going
         → AreHeldFor going texts service.default_schema router.core.decided log
         → IsSettledFor going service admin → IsRouter service texts is (with_entry log (entry_by how l)) now roomy }
 {
@@ -97,5 +98,6 @@ pub fn loses_ended_router()
     core_laws::parting::freed_stands();
     core_laws::parting::same_stands();
     core_laws::parting::lawful_homes();
+    core_laws::parting::carried_homes();
     core_laws::entry::links_are_given_back();
 }

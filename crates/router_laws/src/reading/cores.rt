@@ -20,6 +20,7 @@ ghost use Rattle.core_tables.specs.declared.server.Server.{Server};
 ghost use Rattle.core_laws.specs.entry.Cores.{with_entry};
 ghost use Rattle.core_laws.specs.clients.Going.{GivenUp, GoesSo, Going, IsCalled, is_going, told_to};
 ghost use Rattle.core_laws.specs.clients.Keeps.{KeepsRows};
+ghost use Rattle.router_laws.specs.decisions.Partings.{IsGoingParted};
 ghost use Rattle.router_laws.specs.decisions.Causes.{IsHeardFor};
 ghost use Rattle.router_laws.specs.decisions.Held.{AreHeldSince};
 ghost use Rattle.router_laws.specs.decisions.Judges.{JudgesThen};
@@ -67,7 +68,7 @@ pub fn hears_judge()
         (clock : ℕ) (given : Option GivenUp) (going : Option Going) → (router : IsRouter service texts admin log t roomy) → MayFollow log (Got l bytes)
         → AreBytes bytes → (so : HearsSo service.setup service.default_schema l bytes clock given going t now)
         → AreGoingOurs (rules_in service) texts going
-        → IsRuledOn (ruling_of service texts.since (key_at texts) admin is) going service.setup service.default_schema so.freed now so.goes → IsHeardFor l t given
+        → IsRuledOn (ruling_of service texts.since (key_at texts) admin is) going service.setup service.default_schema so.freed now so.goes → IsHeardFor l t given → IsGoingParted service.buffer_budget l t going
         → AreHeldSince texts service.default_schema router.core.decided log
         → admin.rules ≡ rules_in service
         → JudgesThen service log (Got l bytes) router.core.decided router.counts (deeds_of given going) admin is }
@@ -95,7 +96,7 @@ pub fn hears_router()
         (clock : ℕ) (given : Option GivenUp) (going : Option Going) → (router : IsRouter service texts admin log t roomy) → MayFollow log (Got l bytes)
         → AreBytes bytes → (so : HearsSo service.setup service.default_schema l bytes clock given going t now) → AreGivenOurs given
         → AreGoingOurs (rules_in service) texts going
-        → IsRuledOn (ruling_of service texts.since (key_at texts) admin is) going service.setup service.default_schema so.freed now so.goes → IsHeardFor l t given
+        → IsRuledOn (ruling_of service texts.since (key_at texts) admin is) going service.setup service.default_schema so.freed now so.goes → IsHeardFor l t given → IsGoingParted service.buffer_budget l t going
         → AreHeldSince texts service.default_schema router.core.decided log
         → admin.rules ≡ rules_in service → IsRouter service texts is (with_entry log (Got l bytes)) now roomy }
 {

@@ -13,6 +13,7 @@ ghost use Rattle.private_model.specs.Names.{ClientNo, LinkId};
 ghost use Rattle.core_tables.specs.Tables.{Tabled};
 ghost use Rattle.core_laws.specs.entry.Cores.{with_entry};
 ghost use Rattle.core_laws.specs.clients.Going.{GivenUp};
+ghost use Rattle.router_laws.specs.decisions.Partings.{AreNotOusted, AreOusted};
 ghost use Rattle.router_laws.specs.decisions.Held.{AreHeldSince};
 ghost use Rattle.core_promises.specs.Administers.{Administered};
 ghost use Rattle.router_laws.specs.decisions.Routers.{IsRouter};
@@ -33,7 +34,7 @@ pub fn wakes_router()
         → MayFollow log (Woke until_ms now_ms) → IsDrainedFor t log
         → (wakes : WakesSo service.setup service.default_schema given callers links roomy t now) → All IsGivenOurs given
         → AreLate service.wait_ms now_ms (has_administrator log) (noted_at texts) t given
-        → All (IsCallerOurs (rules_in service) texts) callers
+        → All (IsCallerOurs (rules_in service) texts) callers → AreOusted service.buffer_budget (has_administrator log) t callers
         → AreRuledAll (ruling_of service texts.since (key_at texts) admin is) callers service.setup service.default_schema wakes.late wakes.calls.turned wakes.calls.going
         → AreHeldSince texts service.default_schema router.core.decided log
         → admin.rules ≡ rules_in service → IsRouter service texts is (with_entry log (Woke until_ms now_ms)) now room }
@@ -56,7 +57,7 @@ pub fn fails_router()
     ensures { (service : Service) (texts : Texts) (admin is : Administered) (log : Log) (t now : Tabled) (roomy : ClientNo → Bool) (given : List GivenUp)
         (callers : List Caller) (links : List LinkId) (server : ServerId) (address : Address) → (router : IsRouter service texts admin log t roomy)
         → MayFollow log (OpenFailed server address) → (fails : FailsSo service.setup service.default_schema given callers links t now)
-        → All IsGivenOurs given → AreRefused given → All (IsCallerOurs (rules_in service) texts) callers
+        → All IsGivenOurs given → AreRefused given → All (IsCallerOurs (rules_in service) texts) callers → AreNotOusted service.buffer_budget callers
         → AreRuledAll (ruling_of service texts.since (key_at texts) admin is) callers service.setup service.default_schema fails.late fails.calls.turned fails.calls.going
         → AreHeldSince texts service.default_schema router.core.decided log
         → admin.rules ≡ rules_in service → IsRouter service texts is (with_entry log (OpenFailed server address)) now roomy }

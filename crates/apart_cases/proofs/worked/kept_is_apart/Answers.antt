@@ -2,7 +2,7 @@ use Rattle.core_promises.proofs.Verdicts.{asks-by}
 use Rattle.apart_cases.proofs.worked.kept_is_apart.Goals as goal
 
 pub returns : goal.returns
-returns c = λ terms log keeps rules administers speaks gives waits judges copies. record {
+returns c = λ terms log keeps rules administers speaks gives ends waits judges copies. record {
   router = keeps.router;
   fits = keeps.fits;
   who = keeps.who;
@@ -13,6 +13,7 @@ returns c = λ terms log keeps rules administers speaks gives waits judges copie
   administers = administers;
   speaks = speaks;
   gives = gives;
+  ends = ends;
   waits = waits;
   asks = asks-by terms rules log judges;
   judges = judges;

@@ -1,10 +1,10 @@
 use Rattle.std.specs.Prelude.{◌≡◌, ℕ, Bool, List, []}
-use Rattle.std.proofs.Common.{refl, subst, sym}
+use Rattle.std.proofs.Common.{subst, sym}
 use Rattle.core_promises.specs.Administers.{IsAdminAnswer}
 use Rattle.core_service.specs.Serves.{rules_in}
 use Rattle.core_tables.specs.Tables.{tables_of}
 use Rattle.core_turns.specs.Administering.{IsWritten, IsWrittenAs, administered}
-use Rattle.core_turns.proofs.Administered.{by, quits-only, told-up}
+use Rattle.core_turns.proofs.Administered.{by, quits-at, told-up}
 use Rattle.core_turns.proofs.administering.administer.Goals as goal
 
 pub returns-then-branch-clause-is : goal.returns-then-branch-clause-is
@@ -27,7 +27,4 @@ returns-clause-is c =
     let is = administered (rules_in c.args.service.now) c.append_reply.new.admin in
     λ book since keys ordinal row there message found.
     let quits = subst (λ (answered : Bool). IsWritten answered message.payload was is row.desk.seat.first c.new-packets.result.items c.append_reply.new.out.items)
-    c.if-branch.false (c.in_ok-append_reply.ensures row there message found) in (
-      record { quits_only = quits-only message quits.0; same = record { clients = λ n. refl; numbers = λ l. refl; links = λ l. refl } },
-      quits.1,
-    )
+    c.if-branch.false (c.in_ok-append_reply.ensures row there message found) in (quits-at message (tables_of c.args.marked.now.tables) quits.0, quits.1)

@@ -15,8 +15,15 @@ use Rattle.core_turns.specs.declared.judged.Verdict.{Verdict}
 use Rattle.core_turns.proofs.Prepared.{due_prepared}
 use Rattle.core_turns.proofs.Ran.{due_run}
 use Rattle.core_turns.proofs.Named.{runs-classed}
+use Rattle.core_turns.proofs.Turning.{still-same}
 use Rattle.core_turns.proofs.Ups.{up-fact}
 use Rattle.core_turns.proofs.sending.serve.Goals as goal
+
+pub returns-in-Quits-clause-is : goal.returns-in-Quits-clause-is
+returns-in-Quits-clause-is c = λ made row there message found.
+    let says = subst (λ (v : Verdict). IsVerdictOn (named_in c.args.texts.now row.desk.seat.statements message.payload) message.payload v) c.in-Quits.is
+    (c.in_ok-flag.ensures.is row there message found) in
+    (record { quits_only = says.0; says = says.1; same = still-same (tables_of c.args.marked.now.tables) }, refl)
 
 pub returns-in_ok-answer-in-Answers-clause-is : goal.returns-in_ok-answer-in-Answers-clause-is
 returns-in_ok-answer-in-Answers-clause-is c = λ made row there message found.

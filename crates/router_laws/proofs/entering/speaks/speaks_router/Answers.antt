@@ -19,9 +19,11 @@ use Rattle.router_laws.specs.decisions.Goings.{end_of}
 use Rattle.router_laws.proofs.OfEntering.Deciding as deciding
 use Rattle.router_laws.proofs.OfEntering.Opening.{opens_kept, speaks_keep}
 use Rattle.router_laws.proofs.entering.speaks.speaks_router.Goals as goal
+use Rattle.router_laws.proofs.OfDecisions.Ending.{one_ends, part_cause}
+use Rattle.router_laws.specs.decisions.Partings.{IsPartCause}
 
 pub returns : goal.returns
-returns law = λ service texts admin is log t now roomy room link bytes c ordinal choices halt parting links router may so ours told_ours others ruled since settled.
+returns law = λ service texts admin is log t now roomy room link bytes c ordinal choices halt parting links router may so ours told_ours parted others ruled since settled.
     deciding.finds_router service log (Got link bytes) t now roomy room router may c choices halt (end_of parting) ours (end_ours parting told_ours)
     is settled ordinal so.heard so.follows.turned so.follows.turns ruled (λ terms codes of fits. tt)
     (λ setup codes plan of fits.
@@ -46,6 +48,9 @@ returns law = λ service texts admin is log t now roomy room link bytes c ordina
           (before_kept (ruling_of service texts.since (key_at texts) admin is) service.setup setup codes plan router.core.decided log t client c at.number
           was.rests.stands at.seated going (since setup codes plan was.of was.fits));
     })
+    (λ setup codes plan of fits.
+    one_ends (IsPartCause service.buffer_budget setup plan log (Got link bytes)) c (end_of parting)
+    (part_cause service.buffer_budget setup plan log (Got link bytes) c ⊥ (λ none. absurd none) parting parted))
     (λ tale x come. come) (λ setup tale. tt)
     (opens_kept log (Got link bytes) t now (λ was. refl)
     (speaks_keep service.setup service.default_schema link bytes c ordinal choices halt parting links t now so) router.open_just)

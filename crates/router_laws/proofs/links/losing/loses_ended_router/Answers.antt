@@ -10,4 +10,4 @@ returns c = λ service texts admin log t now roomy l how n links router may so.
       tests = c.freed_stands.ensures.test;
       homed = c.lawful_homes.ensures;
       frees = c.links_are_given_back.ensures;
-    }) service log t now roomy l how n links router may so
+    }) service log t now roomy l how n links router may so c.carried_homes.ensures.row

@@ -4,7 +4,7 @@ use Rattle.router_laws.proofs.OfWakes.Told.{tells_going}
 use Rattle.router_laws.proofs.links.losing.loses_judge.Goals as goal
 
 pub returns : goal.returns
-returns c = λ service texts admin is log t now roomy l how given going router follow so ours ruled why since settled.
+returns c = λ service texts admin is log t now roomy l how given going router follow so ours ruled why parted since settled.
     judged.loses_judge (record {
       losses = record { loses = c.lost_stands.ensures; tests = c.freed_stands.ensures.test; same = c.same_stands.ensures };
       follows = c.follows_rest.ensures;
@@ -16,4 +16,4 @@ returns c = λ service texts admin is log t now roomy l how given going router f
       stood = c.routers_stood.ensures;
       rise = c.links_rise.ensures.tale;
     }) (follows_judge c.follows_find.ensures) c.carried_homes.ensures.row service log t now roomy l how given router follow is going so ours
-    (tells_going c.told_stands.ensures going service.setup) ruled why since settled
+    (tells_going c.told_stands.ensures going service.setup) ruled why parted since settled

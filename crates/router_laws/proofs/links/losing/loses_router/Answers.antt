@@ -8,10 +8,10 @@ use Rattle.router_laws.specs.links.Loses.{entry_by}
 use Rattle.router_laws.proofs.links.losing.loses_router.Goals as goal
 
 pub returns : goal.returns
-returns c = λ service texts admin is log t now roomy l how given going router follow given_ours ours so ruled why since settled.
+returns c = λ service texts admin is log t now roomy l how given going router follow given_ours ours so ruled why parted since settled.
     c.routers_go_on.ensures service texts admin is log (entry_by how l) (deeds_of given going) t now roomy roomy router follow
     (ours_of_going (rules_in service) texts given going given_ours ours) (break_waits service log how l router.core.decided)
-    (c.loses_judge.ensures service texts admin is log t now roomy l how given going router follow so ours ruled why since settled)
+    (c.loses_judge.ensures service texts admin is log t now roomy l how given going router follow so ours ruled why parted since settled)
     (λ setup codes plan of fits.
     goes_so (record {
       losses = record { loses = c.lost_stands.ensures; tests = c.freed_stands.ensures.test; same = c.same_stands.ensures };

@@ -3,7 +3,7 @@ use Rattle.router_laws.proofs.OfReading.Judged as judged
 use Rattle.router_laws.proofs.reading.cores.hears_judge.Goals as goal
 
 pub returns : goal.returns
-returns c = λ service texts admin is log t now roomy l bytes clock given going router follow bytes_are so ours ruled why since settled.
+returns c = λ service texts admin is log t now roomy l bytes clock given going router follow bytes_are so ours ruled why parted since settled.
     judged.hears_judge (record {
       reads = record {
         hears = c.bytes_are_heard.ensures;
@@ -22,4 +22,4 @@ returns c = λ service texts admin is log t now roomy l bytes clock given going 
       stood = c.routers_stood.ensures;
       rise = c.links_rise.ensures.tale;
       tells = c.told_stands.ensures;
-    }) (follows_judge c.follows_find.ensures) c.carried_homes.ensures.row service log t now roomy l bytes clock given router follow bytes_are since is settled going so ours ruled why
+    }) (follows_judge c.follows_find.ensures) c.carried_homes.ensures.row service log t now roomy l bytes clock given router follow bytes_are since is settled going so ours ruled why parted

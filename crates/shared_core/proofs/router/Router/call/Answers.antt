@@ -6,7 +6,7 @@ use Rattle.shared_core.proofs.router.Router.call.Goals as goal
 
 pub returns-in_ok-follow-in-Some-clause-calls : goal.returns-in_ok-follow-in-Some-clause-calls
 returns-in_ok-follow-in-Some-clause-calls c = λ told same for.
-    one-called c.args.service.now _ c.args.name c.args.given told (tables c.args.self.now) (tables c.follow.new.self) c.in-Some.client _
+    one-called c.args.service.now _ c.args.name c.args.given told (tables c.args.self.now) (tables c.follow.new.self) c.in-Some.client _ c.is_last-last.ensures
     c.in-Some.ensures c.in_ok-follow-in-Some.ensures.follows same for
 
 pub returns-in-None-clause-calls : goal.returns-in-None-clause-calls

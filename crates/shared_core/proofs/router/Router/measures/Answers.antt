@@ -6,4 +6,4 @@ use Rattle.shared_core.proofs.Goings.{stays-off}
 use Rattle.shared_core.proofs.router.Router.measures.Goals as goal
 
 pub returns-in-None-clause-parts : goal.returns-in-None-clause-parts
-returns-in-None-clause-parts c = λ rested. stays-off c.args.client false Rests (tables c.args.self.now) refl
+returns-in-None-clause-parts c = λ rested. stays-off c.args.service.now.buffer_budget c.args.client false Rests (tables c.args.self.now) refl

@@ -10,7 +10,7 @@ pub returns-in_ok-follow_all-clause-fails : goal.returns-in_ok-follow_all-clause
 returns-in_ok-follow_all-clause-fails c =
     subst (λ (made : Made). HasFailed c.args.service.now made (tables c.args.self.now) (tables c.follow_all.new.self))
     (sym (made_behind c.args.service.now c.args.self.now c.gives_up.new.self c.follow_all.new.self c.in_ok-gives_up.ensures.keeps))
-    (one_fails c.args.service.now _ c.args.up _ _ _ (c.may_be_refused.ensures.refused c.if-may_be_refused.true)
+    (one_fails c.args.service.now _ _ _ c.args.up _ _ _ c.new-nobody.ensures.empty (c.may_be_refused.ensures.refused c.if-may_be_refused.true)
     (c.may_be_refused.ensures.waits c.if-may_be_refused.true) c.in_ok-gives_up.ensures.answers
     (c.in_ok-follow_all.ensures.follow (rising_one c.args.up.client)
     (there_one c.args.up.client c.args.up.why _ _ (c.may_be_refused.ensures.waits c.if-may_be_refused.true) c.in_ok-gives_up.ensures.answers)))

@@ -1,4 +1,4 @@
-use Rattle.std.proofs.Common.{refl}
+use Rattle.std.proofs.Common.{◌∙◌, refl}
 use Rattle.core_texts.proofs.Keeping.{itself_more}
 use Rattle.shared_core.proofs.Givings.{own-as}
 use Rattle.shared_core.proofs.Keeping.{keeps_still}
@@ -14,6 +14,7 @@ returns-in-None-clause-keeps c = keeps_still _
 pub returns-clause-told : goal.returns-clause-told
 returns-clause-told c = λ there. record {
   payload = c.as_slice.result.now;
+  is = c.as_slice.ensures.value ∙ c.in_ok-payload.ensures.is;
   own = own-as _ _ _ c.as_slice.ensures.value c.in_ok-payload.ensures.is c.in_ok-payload.ensures.own;
   told = c.in_ok-last_word.ensures.is;
 }

@@ -8,7 +8,7 @@ use Rattle.shared_core.proofs.router.Router.says_last.Goals as goal
 pub returns-then-is_still-clause-told : goal.returns-then-is_still-clause-told
 returns-then-is_still-clause-told c = on_ok_weaker c.ends.result
     (λ leaves. λ rests. λ rested.
-    left-told c.args.who.now c.args.client (tables c.args.self.now) (tables c.says.new.self) (tables c.ends.new.self) c.in_ok-says.ensures.told
+    left-told c.args.who.now c.args.client c.args.why (tables c.args.self.now) (tables c.says.new.self) (tables c.ends.new.self) c.in_ok-says.ensures.told
     (c.is_still.ensures c.if-is_still.true) leaves rests rested)
     c.ends.ensures.ends
 

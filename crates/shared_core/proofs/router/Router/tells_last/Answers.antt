@@ -12,9 +12,9 @@ use Rattle.shared_core.proofs.router.Router.tells_last.Goals as goal
 pub returns-in-Some-clause-parts : goal.returns-in-Some-clause-parts
 returns-in-Some-clause-parts c = on_ok_weaker c.says_last.result
     (λ (told : RestsThere c.in-Some.who c.args.client (tables c.args.self.now) → IsRested c.args.client (tables c.args.self.now)
-    → HasLeftTold c.args.client (tables c.args.self.now) (tables c.says_last.new.self)). λ rested.
-    told-parts c.args.client (tables c.args.self.now) (tables c.says_last.new.self) (told c.in-Some.ensures rested))
+    → HasLeftTold c.args.client c.args.why (tables c.args.self.now) (tables c.says_last.new.self)). λ budget full rested.
+    told-parts budget c.args.client c.args.why (tables c.args.self.now) (tables c.says_last.new.self) full (told c.in-Some.ensures rested))
     c.says_last.ensures.told
 
 pub returns-in-None-clause-parts : goal.returns-in-None-clause-parts
-returns-in-None-clause-parts c = λ rested. stays-off c.args.client false Rests (tables c.args.self.now) refl
+returns-in-None-clause-parts c = λ budget full rested. stays-off budget c.args.client false Rests (tables c.args.self.now) refl
